@@ -1,0 +1,143 @@
+-- The user's three demands, as theorems about the definitions that the contracts cite. Each goes from arbitrary bytes to an
+-- entry point's result; docs/DEMANDS.md lists them by the demand's sentence. Assumes nothing.
+use mathlib.Core.Path.{_≡_, refl, subst}
+use mathlib.Core.Logic.{_↔_}
+use mathlib.Core.Option.{Option, none, some}
+use Prim.Native.Nat.{ℕ, _≤_}
+use mathlib.Core.List.{List, _++_, map, List·Memᴰ}
+use lib.Dec.{T}
+use Rattle.laws.proofs.Numbers.{bytes}
+use Rattle.spec.specs.Lists.{Bytes, Verdict, accepted, refused}
+use Rattle.spec.specs.Book.{Book}
+use Rattle.spec.specs.Read.{readBook}
+use Rattle.spec.specs.Instance.{Instance, instanceOf}
+use Rattle.spec.specs.Plan.{Plan, IsPlan, planFits, planOf, planLength, brokenRule, keepsRules}
+use Rattle.spec.specs.Formula.{formula, variables}
+use Rattle.spec.specs.Assignment.{satisfies, assigned, assignmentFits, decode, encode}
+use Rattle.spec.specs.Refutation.{ProofStep, Lent, fileOf, InFields, GoodSteps, clausesFit}
+use Rattle.spec.specs.Entry.{checkAssignment, checkPlan, checkRefutation, formulaFits}
+use Rattle.demands.proofs.Encoding.{shape}
+use Rattle.demands.proofs.Extra.{no-condition}
+use Rattle.demands.proofs.Plans.{plan-satisfies, plan-fits, decoded-fits, decoded-keeps, decode-encoded}
+use Rattle.demands.proofs.Entries.{check-assignment, check-plan, check-refutation, assignment-iff, plan-iff, no-broken, read-of}
+use Rattle.demands.proofs.Refuting.{refuted}
+use Rattle.demands.proofs.Files.{file-iff}
+
+-- ---- Demand 2
+
+-- "For a book that passes, with lent memory as long as document 01 names, every assignment that satisfies it is accepted and
+-- decodes to a plan that keeps the six plan rules": the plan check accepts the bytes.
+pub satisfying-assignment-accepted : (book assignment : Bytes) (b : Book) (planSlice assignmentSlice : ℕ)
+    → readBook book ≡ accepted b
+    → planLength (instanceOf b) ≤ planSlice → variables (instanceOf b) ≤ assignmentSlice
+    → T (assignmentFits (instanceOf b) assignment) → T (satisfies (assigned assignment) (formula (instanceOf b)))
+    → (plan : Bytes) × (checkAssignment book assignment planSlice ≡ accepted plan)
+      × T (keepsRules (instanceOf b) (planOf (instanceOf b) plan))
+      × ((back : Bytes) × (checkPlan book plan assignmentSlice ≡ accepted back))
+satisfying-assignment-accepted book s b n m read room roomBack fits sat =
+    let I = instanceOf b in
+    let keeps = decoded-keeps book b read s sat in
+    ( decode I s
+    , check-assignment book b read s n (decode I s) .1 (room, assignment-iff I s .1 (fits, sat), refl)
+    , keeps
+    , ( encode I (planOf I (decode I s))
+      , check-plan book b read (decode I s) m _ .1 (roomBack, plan-iff I (decode I s) .1 (decoded-fits book b read s sat, keeps), refl) ) )
+
+-- "Every plan that keeps them is accepted, and is written as an assignment that decodes to that same plan": the assignment
+-- satisfies the formula, is accepted, and decodes to the plan's very bytes.
+pub keeping-plan-accepted : (book plan : Bytes) (b : Book) (planSlice assignmentSlice : ℕ)
+    → readBook book ≡ accepted b
+    → planLength (instanceOf b) ≤ planSlice → variables (instanceOf b) ≤ assignmentSlice
+    → T (bytes plan) → T (planFits (instanceOf b) plan) → T (keepsRules (instanceOf b) (planOf (instanceOf b) plan))
+    → (assignment : Bytes) × (checkPlan book plan assignmentSlice ≡ accepted assignment)
+      × T (satisfies (assigned assignment) (formula (instanceOf b)))
+      × (checkAssignment book assignment planSlice ≡ accepted plan)
+keeping-plan-accepted book plan b n m read room roomBack isBytes fits keeps =
+    let I = instanceOf b in
+    let p = planOf I plan in
+    let sat = plan-satisfies book b read p (shape I plan isBytes fits .2) keeps (no-condition I p) in
+    ( encode I p
+    , check-plan book b read plan m _ .1 (roomBack, plan-iff I plan .1 (fits, keeps), refl)
+    , sat
+    , check-assignment book b read (encode I p) n plan .1
+        (room, assignment-iff I (encode I p) .1 (plan-fits book b read p, sat), decode-encoded book b read plan isBytes fits keeps (no-condition I p)) )
+
+-- ---- Demand 3
+
+-- "an accepted assignment decodes to a plan that keeps the rules"
+pub accepted-assignment-is-plan : (book assignment plan : Bytes) (planSlice : ℕ) → checkAssignment book assignment planSlice ≡ accepted plan
+    → (b : Book) × (readBook book ≡ accepted b) × T (planFits (instanceOf b) plan) × T (keepsRules (instanceOf b) (planOf (instanceOf b) plan))
+unfolding checkAssignment
+accepted-assignment-is-plan book s plan n e =
+    let r = read-of book _ plan e in
+    let b = r .0 in
+    let I = instanceOf b in
+    let k = check-assignment book b (r .1) s n plan .0 e in
+    let sat = assignment-iff I s .0 (k .1) .1 in
+    ( b, r .1
+    , subst (λ (x : Bytes). T (planFits I x)) (k .2) (decoded-fits book b (r .1) s sat)
+    , subst (λ (x : Bytes). T (keepsRules I (planOf I x))) (k .2) (decoded-keeps book b (r .1) s sat) )
+
+-- "an accepted refutation means that every plan for that book breaks one, over every allowed set of borders and every
+-- movement": one claim about the whole file, for every list of steps in it.
+pub accepted-refutation-no-plan : (book refutation : Bytes) (lent : Lent) → checkRefutation book refutation lent ≡ accepted tt
+    → (b : Book) × (readBook book ≡ accepted b)
+      × ((p : Plan) → IsPlan (instanceOf b) p → (rule : ℕ) × (brokenRule (instanceOf b) p ≡ some rule))
+unfolding checkRefutation
+accepted-refutation-no-plan book r lent e =
+    let k = read-of book _ tt e in
+    let I = instanceOf (k .0) in
+    let file = check-refutation book (k .0) (k .1) r lent .0 e .1 in
+    (k .0, k .1, λ p moves. breaks I p (λ keeps.
+        refuted lent (variables I) (formula I) r file _ (plan-satisfies book (k .0) (k .1) p moves keeps (no-condition I p))))
+  where
+    breaks : (I : Instance) (p : Plan) → (T (keepsRules I p) → ⊥) → (rule : ℕ) × (brokenRule I p ≡ some rule)
+    breaks I p h = go (brokenRule I p) refl
+      where
+        go : (o : Option ℕ) → brokenRule I p ≡ o → (rule : ℕ) × (brokenRule I p ≡ some rule)
+        go none e = absurd (h (no-broken I p .0 e))
+        go (some n) e = (n, e)
+
+-- "so no book ever has both accepted, whichever solvers they come from", whatever slices each was lent
+pub never-both : (book assignment plan refutation : Bytes) (planSlice : ℕ) (lent : Lent)
+    → checkAssignment book assignment planSlice ≡ accepted plan → checkRefutation book refutation lent ≡ accepted tt → ⊥
+unfolding checkAssignment
+never-both book s plan r n lent e f =
+    let k = read-of book _ plan e in
+    let I = instanceOf (k .0) in
+    refuted lent (variables I) (formula I) r (check-refutation book (k .0) (k .1) r lent .0 f .1) (assigned s)
+    (assignment-iff I s .0 (check-assignment book (k .0) (k .1) s n plan .0 e .1) .1)
+
+-- "an assignment is accepted exactly when it satisfies that document's formula"
+pub assignment-exact : (book assignment : Bytes) (b : Book) (planSlice : ℕ) → readBook book ≡ accepted b → planLength (instanceOf b) ≤ planSlice
+    → ((plan : Bytes) × (checkAssignment book assignment planSlice ≡ accepted plan))
+      ↔ (T (assignmentFits (instanceOf b) assignment) × T (satisfies (assigned assignment) (formula (instanceOf b))))
+assignment-exact book s b n read room =
+    let I = instanceOf b in
+    ( (λ e. assignment-iff I s .0 (check-assignment book b read s n (e .0) .0 (e .1) .1))
+    , (λ h. (decode I s, check-assignment book b read s n (decode I s) .1 (room, assignment-iff I s .1 h, refl))) )
+
+-- The file is document 01's frames of a list of steps, literals and hints as laid down there; each step follows the step rule;
+-- and exactly one step, the last, is the empty clause.
+pub IsRefutation : Instance → Bytes → List ProofStep → Type 0
+IsRefutation I file steps =
+    (file ≡ fileOf steps) × ((st : ProofStep) → List·Memᴰ st steps → InFields st) × GoodSteps (variables I) (formula I) steps
+
+-- The lent memory is as long as document 01 names: it holds the formula, and the clauses of the file's steps behind it.
+pub LongEnough : Instance → Bytes → Lent → Type 0
+LongEnough I file lent =
+    T (formulaFits lent I)
+    × ((steps : List ProofStep) → file ≡ fileOf steps → T (clausesFit lent (formula I ++ map (λ st. st .literals) steps)))
+
+-- "a refutation exactly when it is in document 01's frames, literals and hints as laid down there, each of its steps follows the
+-- step rule, and exactly one step, the last, is the empty clause"
+pub refutation-exact : (book refutation : Bytes) (b : Book) (lent : Lent) → readBook book ≡ accepted b
+    → T (bytes refutation) → LongEnough (instanceOf b) refutation lent
+    → (checkRefutation book refutation lent ≡ accepted tt) ↔ ((steps : List ProofStep) × IsRefutation (instanceOf b) refutation steps)
+unfolding IsRefutation LongEnough
+refutation-exact book r b lent read isBytes long =
+    let I = instanceOf b in
+    let exact = file-iff lent (variables I) (formula I) r isBytes in
+    ( (λ e. let k = exact .0 (check-refutation book b read r lent .0 e .1) in (k .0, (k .1, k .2, k .3)))
+    , (λ h. check-refutation book b read r lent .1
+        (long .0, exact .1 (h .0, h .1 .0, h .1 .1, h .1 .2, long .1 (h .0) (h .1 .0)))) )

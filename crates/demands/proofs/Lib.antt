@@ -1,0 +1,17 @@
+pub mod Faults
+pub mod Wellformed
+pub mod Growing
+pub mod Reading
+pub mod Sections
+pub mod Meaning
+pub mod Coding
+pub mod Moves
+pub mod Rules
+pub mod Satisfied
+pub mod Encoding
+pub mod Extra
+pub mod Plans
+pub mod Refuting
+pub mod Files
+pub mod Entries
+pub mod Demands

@@ -1,0 +1,123 @@
+-- What each family of clauses says of a valuation. Assumes nothing.
+use mathlib.Core.Path.{_≡_, refl, sym, ap, _∙_, subst}
+use mathlib.Core.Logic.{_↔_, Iff·rfl, _⊎_, inl, inr}
+use mathlib.Core.Bool.{Bool, true, false, not, _&&_, _||_}
+use Prim.Native.Nat.{ℕ, zero, suc, _+_, _-_, _≤_, _<_}
+use mathlib.Core.List.{List, [], _∷_, _++_, map, List·Memᴰ}
+use lib.Dec.{T, leb, ltb, eqb}
+use Rattle.laws.proofs.Tests.{meaning, and-iff, or-iff, all-iff}
+use Rattle.laws.proofs.Rows.{rows, all-append}
+use Rattle.spec.specs.Lists.{all, any, upTo, range, each, only, one}
+use Rattle.spec.specs.Instance.{Instance, inWindow, servedAtDeparture}
+use Rattle.spec.specs.Formula.{Literal, Clause, is, not′, borderVar, runVar, goneVar, claimVar, moveVar, familyA, familyB, familyC, familyD, familyE, familyF, familyG, familyH, familyI, ownVariables, formula}
+use Rattle.spec.specs.Extra.{extraClauses}
+use Rattle.spec.specs.Assignment.{Value, yes′, no′, open′, truth, deny, isYes, valueOf, isTrue, holds, satisfies}
+
+module _ (α : ℕ → Bool) where
+  pub affirmed : (v : ℕ) → isTrue α (is v) ≡ α v
+  unfolding isTrue truth isYes valueOf
+  affirmed v = go (α v)
+    where
+      go : (b : Bool) → isYes (valueOf b) ≡ b
+      go true = refl
+      go false = refl
+
+  pub denied′ : (v : ℕ) → isTrue α (not′ v) ≡ not (α v)
+  unfolding isTrue truth isYes valueOf deny
+  denied′ v = go (α v)
+    where
+      go : (b : Bool) → isYes (deny (valueOf b)) ≡ not b
+      go true = refl
+      go false = refl
+
+-- how a family's clauses are taken apart
+ruleset taken = (rows, affirmed, denied′, meaning)
+
+module _ (I : Instance) (α : ℕ → Bool) where
+  -- A: a denied border is not set, a forced one is
+  pub meansA : T (satisfies α (familyA I)) ↔ ((n : ℕ) → n < I .nodes
+      → (T (I .denied n) → T (α (borderVar I n)) → ⊥) × (T (I .forced n) → T (α (borderVar I n))))
+  unfolding satisfies holds familyA
+  meansA = simp taken Iff·rfl
+
+  -- B: nothing before the departure
+  pub meansB : T (satisfies α (familyB I)) ↔ ((i : ℕ) → i < I .trains → (t : ℕ) → t < I .departure i
+      → ((r : ℕ) → r < I .runs i → T (α (runVar I i t r)) → ⊥) × (T (α (goneVar I i t)) → ⊥))
+  unfolding satisfies holds familyB
+  meansB = simp taken Iff·rfl
+
+  -- C: one move at least, and no two
+  pub meansC : T (satisfies α (familyC I)) ↔ ((i : ℕ) → i < I .trains → (t : ℕ) → I .departure i ≤ t → t < I .intervals
+      → (T (any (λ r. α (runVar I i t r)) (upTo (I .runs i))) ⊎ T (α (goneVar I i t)))
+      × ((m : ℕ) → m < I .runs i + 1 → (n : ℕ) → m + 1 ≤ n → n < I .runs i + 1
+          → T (α (moveVar I i t m)) → T (α (moveVar I i t n)) → ⊥))
+  unfolding satisfies holds familyC
+  meansC = simp taken (simp or-iff Iff·rfl)
+
+  -- D: at the departure a run from the given place, and not gone
+  pub meansD : T (satisfies α (familyD I)) ↔ ((i : ℕ) → i < I .trains
+      → ((r : ℕ) → r < I .runs i → (T (I .given i r) → ⊥) → T (α (runVar I i (I .departure i) r)) → ⊥)
+      × (T (α (goneVar I i (I .departure i))) → ⊥))
+  unfolding satisfies holds familyD
+  meansD = simp taken Iff·rfl
+
+  -- E: a run is followed by one from its end, or by gone where it may leave; gone by gone
+  pub meansE : T (satisfies α (familyE I)) ↔ ((i : ℕ) → i < I .trains → (t : ℕ) → I .departure i ≤ t → t < I .intervals - 1
+      → ((r : ℕ) → r < I .runs i → T (α (runVar I i t r))
+          → T (any (λ q. I .follows i r q && α (runVar I i (t + 1) q)) (upTo (I .runs i))) ⊎ T (I .leaves i r && α (goneVar I i (t + 1))))
+      × (T (α (goneVar I i t)) → T (α (goneVar I i (t + 1)))))
+  unfolding satisfies holds familyE
+  meansE = simp taken (simp or-iff Iff·rfl)
+
+  -- F: a call that the given place does not serve in time is served by a run's end
+  pub meansF : T (satisfies α (familyF I)) ↔ ((i : ℕ) → i < I .trains → (c : ℕ) → c < I .calls i → (T (servedAtDeparture I i c) → ⊥)
+      → (t : ℕ) × (I .departure i ≤ t) × (t < I .intervals)
+      × (T (inWindow I i c (t + 1)) × ((r : ℕ) × (r < I .runs i) × (T (I .serves i c r) × T (α (runVar I i t r))))))
+  unfolding satisfies holds familyF
+  meansF = simp taken Iff·rfl
+
+  -- G: a run claims its segments
+  pub meansG : T (satisfies α (familyG I)) ↔ ((i : ℕ) → i < I .trains → (t : ℕ) → t < I .intervals → (r : ℕ) → r < I .runs i
+      → (s : ℕ) → List·Memᴰ s (I .path i r) → T (α (runVar I i t r)) → T (α (claimVar I i t s)))
+  unfolding satisfies holds familyG
+  meansG = simp (taken, all-iff) Iff·rfl
+
+  -- H: a claim reaches over a node that is no border
+  pub meansH : T (satisfies α (familyH I)) ↔ ((i : ℕ) → i < I .trains → (t : ℕ) → t < I .intervals → (n : ℕ) → n < I .nodes
+      → (s : ℕ) → s < I .segments → (u : ℕ) → u < I .segments → T (I .meet n s u)
+      → T (α (claimVar I i t s)) → T (α (borderVar I n)) ⊎ T (α (claimVar I i t u)))
+  unfolding satisfies holds familyH
+  meansH = simp taken (simp or-iff Iff·rfl)
+
+  -- I: no segment is claimed by two trains
+  pub meansI : T (satisfies α (familyI I)) ↔ ((t : ℕ) → t < I .intervals → (i : ℕ) → i < I .trains → (j : ℕ) → i + 1 ≤ j → j < I .trains
+      → (s : ℕ) → s < I .segments → T (α (claimVar I i t s)) → T (α (claimVar I j t s)) → ⊥)
+  unfolding satisfies holds familyI
+  meansI = simp taken Iff·rfl
+
+  -- the whole formula, family by family
+  pub record Families : Type 0 where
+    pub A : T (satisfies α (familyA I))
+    pub B : T (satisfies α (familyB I))
+    pub C : T (satisfies α (familyC I))
+    pub D : T (satisfies α (familyD I))
+    pub E : T (satisfies α (familyE I))
+    pub F : T (satisfies α (familyF I))
+    pub G : T (satisfies α (familyG I))
+    pub H : T (satisfies α (familyH I))
+    pub J : T (satisfies α (familyI I))
+    pub extra : T (satisfies α (extraClauses I (ownVariables I)))
+
+  pub families : T (satisfies α (formula I)) → Families
+  unfolding satisfies formula
+  families h =
+      let k = simp (all-append, and-iff) at h in
+      record
+      { A = k .0; B = k .1 .0; C = k .1 .1 .0; D = k .1 .1 .1 .0; E = k .1 .1 .1 .1 .0; F = k .1 .1 .1 .1 .1 .0
+      ; G = k .1 .1 .1 .1 .1 .1 .0; H = k .1 .1 .1 .1 .1 .1 .1 .0; J = k .1 .1 .1 .1 .1 .1 .1 .1 .0; extra = k .1 .1 .1 .1 .1 .1 .1 .1 .1 }
+
+  pub from-families : Families → T (satisfies α (formula I))
+  unfolding satisfies formula
+  from-families k =
+      simp (all-append, and-iff)
+      (k .A, (k .B, (k .C, (k .D, (k .E, (k .F, (k .G, (k .H, (k .J, k .extra)))))))))

@@ -1,0 +1,127 @@
+-- What each plan rule says, and what a valuation that codes a plan says of each move. Assumes nothing.
+use mathlib.Core.Path.{_≡_, refl, sym, ap, _∙_, subst}
+use mathlib.Core.Logic.{_↔_, Iff·rfl, _⊎_, inl, inr}
+use mathlib.Core.Bool.{Bool, true, false, not, _&&_, _||_}
+use Prim.Native.Nat.{ℕ, zero, suc, _+_, _-_, _≤_, _<_}
+use native.Mathlib.Omega.{arith}
+use mathlib.Core.List.{List, [], _∷_, List·Memᴰ}
+use lib.Dec.{T, eqb, eqb-refl}
+use Rattle.laws.proofs.Tests.{meaning, and-iff, or-iff, all-iff, eqb-iff, ltb-iff}
+use Rattle.spec.specs.Lists.{all, any, upTo, range}
+use Rattle.spec.specs.Instance.{Instance, inWindow, servedAtDeparture}
+use Rattle.spec.specs.Sections.{together}
+use Rattle.spec.specs.Plan.{Plan, Move, run, absent, gone, isAbsent, isGone, runs, ifRun, ofRun, isMove, rule1, rule2, rule3, rule4, rule5, rule6, servedBy, keepsRules}
+use Rattle.spec.specs.Formula.{borderVar, runVar, goneVar}
+use Rattle.demands.proofs.Coding.{Codes}
+
+-- ---- the rules
+
+module _ (I : Instance) (p : Plan) where
+  pub means1 : T (rule1 I p) ↔ ((n : ℕ) → n < I .nodes
+      → (T (I .denied n) → T (p .border n) → ⊥) × (T (I .forced n) → T (p .border n)))
+  unfolding rule1
+  means1 = simp meaning Iff·rfl
+
+  pub means2 : T (rule2 I p) ↔ ((i : ℕ) → i < I .trains
+      → (((t : ℕ) → t < I .departure i → T (isAbsent (p .move i t)))
+          × ((t : ℕ) → I .departure i ≤ t → t < I .intervals → T (isAbsent (p .move i t)) → ⊥))
+      × T (runs (p .move i (I .departure i)) (I .given i)))
+  unfolding rule2
+  means2 = simp meaning Iff·rfl
+
+  pub means3 : T (rule3 I p) ↔ ((i : ℕ) → i < I .trains
+      → ((t : ℕ) → t < I .departure i + 1 → T (isGone (p .move i t)) → ⊥)
+      × ((t : ℕ) → t < I .intervals - 1
+          → (T (isGone (p .move i (t + 1))) → T (isGone (p .move i t)) ⊎ T (runs (p .move i t) (I .leaves i)))
+          × (T (isGone (p .move i t)) → T (isGone (p .move i (t + 1))))))
+  unfolding rule3
+  means3 = simp meaning (simp or-iff Iff·rfl)
+
+  pub means4 : T (rule4 I p) ↔ ((i : ℕ) → i < I .trains → (t : ℕ) → t < I .intervals - 1
+      → T (ifRun (p .move i t) λ r. ifRun (p .move i (t + 1)) λ q. I .follows i r q))
+  unfolding rule4
+  means4 = simp meaning Iff·rfl
+
+  pub means5 : T (rule5 I p) ↔ ((i : ℕ) → i < I .trains → (c : ℕ) → c < I .calls i
+      → T (servedAtDeparture I i c) ⊎ T (servedBy I p i c))
+  unfolding rule5
+  means5 = simp meaning (simp or-iff Iff·rfl)
+
+  pub means6 : T (rule6 I p) ↔ ((t : ℕ) → t < I .intervals → (i : ℕ) → i < I .trains → (j : ℕ) → i + 1 ≤ j → j < I .trains
+      → (s : ℕ) → List·Memᴰ s (ofRun (p .move i t) (I .path i)) → (u : ℕ) → List·Memᴰ u (ofRun (p .move j t) (I .path j))
+      → T (together I (p .border) s u) → ⊥)
+  unfolding rule6
+  means6 = simp (meaning, all-iff) Iff·rfl
+
+  -- the six rules, by name
+  pub record Kept : Type 0 where
+    pub one : T (rule1 I p)
+    pub two : T (rule2 I p)
+    pub three : T (rule3 I p)
+    pub four : T (rule4 I p)
+    pub five : T (rule5 I p)
+    pub six : T (rule6 I p)
+
+  pub kept : T (keepsRules I p) → Kept
+  unfolding keepsRules
+  kept h =
+      let k = simp and-iff at h in
+      record { one = k .0 .0 .0 .0 .0; two = k .0 .0 .0 .0 .1; three = k .0 .0 .0 .1; four = k .0 .0 .1; five = k .0 .1; six = k .1 }
+
+  pub from-kept : Kept → T (keepsRules I p)
+  unfolding keepsRules
+  from-kept k = simp and-iff (((((k .one, k .two), k .three), k .four), k .five), k .six)
+
+-- ---- moves
+
+-- a move is a run, absent or gone
+pub data IsMove (m : Move) : Type 0 where
+  aRun : (r : ℕ) → m ≡ run r → IsMove m
+  isAway : m ≡ absent → IsMove m
+  hasLeft : m ≡ gone → IsMove m
+
+pub which : (m : Move) → IsMove m
+which (run r) = aRun r refl
+which absent = isAway refl
+which gone = hasLeft refl
+
+pub run-of : (m : Move) (f : ℕ → Bool) → T (runs m f) → (r : ℕ) × (m ≡ run r) × T (f r)
+unfolding runs
+run-of (run r) f h = (r, refl, h)
+run-of absent f h = absurd h
+run-of gone f h = absurd h
+
+pub gone-of : {m : Move} → T (isGone m) → m ≡ gone
+unfolding isGone
+gone-of {m = run r} h = absurd h
+gone-of {m = absent} h = absurd h
+gone-of {m = gone} h = refl
+
+pub absent-of : {m : Move} → T (isAbsent m) → m ≡ absent
+unfolding isAbsent
+absent-of {m = run r} h = absurd h
+absent-of {m = absent} h = refl
+absent-of {m = gone} h = absurd h
+
+-- ---- what a valuation that codes a plan says
+
+module _ (I : Instance) (α : ℕ → Bool) (p : Plan) (code : Codes I α p) (i : ℕ) (l : i < I .trains) (t : ℕ) (h : t < I .intervals) where
+  -- a run's variable is true exactly where the move is that run
+  pub run-true : (r : ℕ) → r < I .runs i → T (α (runVar I i t r)) → p .move i t ≡ run r
+  run-true r k a =
+      let found = run-of (p .move i t) (eqb r) (subst T (code .runsSame i l t h r k) a) in
+      found .1 ∙ ap run (sym (eqb-iff r (found .0) .0 (found .2)))
+
+  pub true-run : (r : ℕ) → p .move i t ≡ run r → (r < I .runs i) × T (α (runVar I i t r))
+  unfolding isMove runs
+  true-run r e =
+      let k : r < I .runs i = ltb-iff r (I .runs i) .0 (subst (λ (m : Move). T (isMove I i m)) e (code .moves i l t h)) in
+      (k, subst T (sym (code .runsSame i l t h r k ∙ ap (λ (m : Move). runs m (eqb r)) e)) (eqb-refl r))
+
+  -- gone's variable is true exactly where the move is gone
+  pub gone-true : T (α (goneVar I i t)) → p .move i t ≡ gone
+  gone-true a = gone-of (subst T (code .goneSame i l t h) a)
+
+  pub true-gone : p .move i t ≡ gone → T (α (goneVar I i t))
+  unfolding isGone
+  true-gone e = subst T (sym (code .goneSame i l t h ∙ ap isGone e)) tt

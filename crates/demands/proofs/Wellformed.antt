@@ -1,0 +1,135 @@
+-- What the later proofs need of a well-formed book, said of its instance: `Sound`. The main theorem is `sound`.
+-- Assumes nothing.
+use mathlib.Core.Path.{_≡_, refl}
+use mathlib.Core.Bool.{Bool, true, false}
+use Prim.Native.Nat.{ℕ, zero, suc, _+_, _*_, _-_, _/_, _≤_, _<_}
+use native.Mathlib.Nat.{not-suc-le-zero, le-of-suc-le-suc}
+use native.Mathlib.Omega.{arith}
+use mathlib.Core.List.{List, [], _∷_, _++_, map, List·Memᴰ, List·Memᴰ·head, List·Memᴰ·tail, Memᴰ·of-map}
+use lib.ListN.{length, getD}
+use lib.Dec.{T, ltb, eqb}
+use Rattle.spec.specs.Lists.{all, only, one, pick}
+use Rattle.spec.specs.Book.{Book, Train, nodeKindAt, trainAt, callsOf, noCall, deniesBorder, forcesBorder, segmentOf, lengthInSegments}
+use Rattle.spec.specs.Runs.{directed, goesOn, extend, pathsOf, runsOf}
+use Rattle.spec.specs.Read.{wellFormed, trainFits, callFits}
+use Rattle.spec.specs.Instance.{Instance, instanceOf, compile, runLists, runAt, callAt}
+use Rattle.laws.proofs.Tests.{and-iff, eqb-iff, ltb-iff, leb-iff, all-iff, all-upTo}
+use Rattle.laws.proofs.Rows.{all-append, all-cons, all-each}
+
+-- What holds of the instance of a well-formed book.
+pub record Sound (I : Instance) : Type 0 where
+  -- a train departs before the last time
+  pub departs : (i : ℕ) → i < I .trains → I .departure i < I .intervals
+  -- a train has few enough runs for a plan's two bytes
+  pub fewRuns : (i : ℕ) → i < I .trains → I .runs i ≤ 256
+  -- a run's segments are segments of the book
+  pub inside : (i r : ℕ) → i < I .trains → r < I .runs i → (s : ℕ) → List·Memᴰ s (I .path i r) → s < I .segments
+  -- a call's window is no empty one, and ends by the last time
+  pub ordered : (i c : ℕ) → i < I .trains → c < I .calls i → I .first i c ≤ I .last i c
+  pub windows : (i c : ℕ) → i < I .trains → c < I .calls i → I .last i c ≤ I .intervals
+  -- no node's border is both denied and forced
+  pub kinds : (n : ℕ) → n < I .nodes → T (I .denied n) → T (I .forced n) → ⊥
+
+-- ---- rows
+
+-- what stands at a number in a row is in the row
+pub getD-mem {ℓ} : {A : Type ℓ} (xs : List A) (i : ℕ) (d : A) → i < length xs → List·Memᴰ (getD xs i d) xs
+getD-mem [] i d h = absurd (not-suc-le-zero h)
+getD-mem (x ∷ xs) zero d h = List·Memᴰ·head refl
+getD-mem (x ∷ xs) (suc i) d h = List·Memᴰ·tail (getD-mem xs i d (le-of-suc-le-suc h))
+
+-- a test of the whole row holds of what stands at a number
+pub all-at {ℓ} : {A : Type ℓ} (f : A → Bool) (xs : List A) (i : ℕ) (d : A) → T (all f xs) → i < length xs → T (f (getD xs i d))
+all-at f xs i d h l = all-iff f xs .0 h (getD xs i d) (getD-mem xs i d l)
+
+-- what stands at a number in a mapped row
+pub map-at {ℓ κ} : {A : Type ℓ} {B : Type κ} (f : A → B) (xs : List A) (i : ℕ) (d : A) (e : B) → i < length xs → getD (map f xs) i e ≡ f (getD xs i d)
+map-at f [] i d e h = absurd (not-suc-le-zero h)
+map-at f (x ∷ xs) zero d e h = refl
+map-at f (x ∷ xs) (suc i) d e h = map-at f xs i d e (le-of-suc-le-suc h)
+
+-- a test that holds of a row holds of what is picked from it
+pub all-pick {ℓ} : {A : Type ℓ} (f g : A → Bool) (xs : List A) → T (all f xs) → T (all f (pick g xs))
+unfolding all pick only
+all-pick f g [] h = tt
+all-pick f g (x ∷ xs) h = let p = and-iff (f x) (all f xs) .0 h in go (g x) (p .0) (all-pick f g xs (p .1))
+  where
+    go : (b : Bool) → T (f x) → T (all f (pick g xs)) → T (all f (only b (one x) ++ pick g xs))
+    go true k rest = and-iff (f x) (all f (pick g xs)) .1 (k, rest)
+    go false k rest = rest
+
+-- ---- runs
+
+-- d is a directed segment of the book
+below : Book → ℕ → Bool
+below b d = ltb d (2 * length (b .segments))
+
+module _ (b : Book) where
+  -- a path that goes on over directed segments of the book stays within the book
+  extend-below : (missing : ℕ) (path : List ℕ) → T (all (below b) path) → T (all (all (below b)) (extend b missing path))
+  unfolding extend all below directed
+  extend-below zero path h = and-iff (all (below b) path) true .1 (h, tt)
+  extend-below (suc missing) path h = simp (all-each, all-upTo) (λ d l. go d l (goesOn b path d) (extend-below missing (path ++ one d)))
+    where
+      go : (d : ℕ) → d < 2 * length (b .segments) → (on : Bool)
+        → (T (all (below b) (path ++ one d)) → T (all (all (below b)) (extend b missing (path ++ one d))))
+        → T (all (all (below b)) (elim on [ true ↦ extend b missing (path ++ one d) | false ↦ [] ]))
+      go d l true rest = rest (simp (all-append, all-cons, and-iff, ltb-iff) (h, (l, tt)))
+      go d l false rest = tt
+
+  -- all runs of a train stay within the book
+  runs-below : (t : Train) → T (all (all (below b)) (runsOf b t))
+  unfolding runsOf pathsOf directed all below
+  runs-below t = simp (all-each, all-upTo) (λ j m d l. extend-below (lengthInSegments b t + j - 1) (one d) (and-iff (below b d) true .1 (ltb-iff d (2 * length (b .segments)) .1 l, tt)))
+
+-- ---- a well-formed book, number by number
+
+noTrain : Train
+noTrain = record { metres = 0; speed = 0; departure = 0; place = [] }
+
+-- a train's run list, by its number
+runs-at : (b : Book) (i : ℕ) → i < length (b .trains) → getD (runLists b) i [] ≡ runsOf b (trainAt b i)
+unfolding runLists trainAt noTrain
+runs-at b i l = map-at (runsOf b) (b .trains) i noTrain [] l
+
+module _ (b : Book) (h : T (wellFormed b)) where
+  -- a train departs before T, and has at most 256 runs
+  train-sound : (i : ℕ) → i < length (b .trains)
+    → (trainAt b i .departure < b .intervals) × (length (runsOf b (trainAt b i)) ≤ 256)
+  unfolding wellFormed trainFits trainAt noTrain
+  train-sound i l =
+      let w = (simp and-iff at h) .0 .1 .1 in
+      let p = simp (and-iff, ltb-iff, leb-iff) at (all-at _ (b .trains) i noTrain w l) in
+      (p .0 .0 .0 .0 .1, p .1)
+
+  -- a call's window is in order and within T
+  call-sound : (i c : ℕ) → c < length (callsOf b i) → (callAt b i c .first ≤ callAt b i c .last) × (callAt b i c .last ≤ b .intervals)
+  unfolding wellFormed callFits callsOf callAt
+  call-sound i c l =
+      let w = all-pick (callFits b) (λ k. eqb (k .train) i) (b .calls) ((simp and-iff at h) .1 .0) in
+      let p = simp (and-iff, ltb-iff, leb-iff) at (all-at (callFits b) (callsOf b i) c noCall w l) in
+      (p .0 .1, p .1)
+
+  -- a run's segments are segments of the book
+  path-sound : (i r : ℕ) → i < length (b .trains) → r < length (getD (runLists b) i []) → (s : ℕ)
+    → List·Memᴰ s (map segmentOf (runAt (runLists b) i r)) → s < length (b .segments)
+  unfolding runAt segmentOf below
+  path-sound i r l k s m =
+      let w : T (all (all (below b)) (getD (runLists b) i [])) = rw (runs-at b i l) (runs-below b (trainAt b i)) in
+      let p = Memᴰ·of-map segmentOf (runAt (runLists b) i r) m in
+      let q = ltb-iff (p .0) (2 * length (b .segments)) .0 (all-iff (below b) _ .0 (all-at _ _ r [] w k) (p .0) (p .1)) in
+      let e : p .0 / 2 ≡ s = p .2 in
+      omega arith
+
+-- The instance of a well-formed book is sound.
+pub sound : (b : Book) → T (wellFormed b) → Sound (instanceOf b)
+unfolding instanceOf compile deniesBorder forcesBorder
+sound b h = record
+  { departs = λ i l. train-sound b h i l .0
+  ; fewRuns = λ i l. rw (runs-at b i l) (train-sound b h i l .1)
+  ; inside = path-sound b h
+  ; ordered = λ i c l k. call-sound b h i c k .0
+  ; windows = λ i c l k. call-sound b h i c k .1
+  ; kinds = λ n l d f.
+      let e = eqb-iff (nodeKindAt b n) 0 .0 d in let g = eqb-iff (nodeKindAt b n) 2 .0 f in omega arith
+  }

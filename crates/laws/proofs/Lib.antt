@@ -1,0 +1,5 @@
+pub mod Tests
+pub mod Rows
+pub mod Numbers
+pub mod Frames
+pub mod Parts

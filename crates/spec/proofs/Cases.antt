@@ -1,0 +1,182 @@
+-- Document 01's starred cases, as a table of what is asked and what the document answers, computed by one statement.
+-- Each goes through the reader, in a whole book. Assumes nothing.
+use mathlib.Core.Path.{_≡_, refl}
+use mathlib.Core.Bool.{Bool, true, false, not, _&&_, _||_, cond}
+use Prim.Native.Nat.{ℕ, zero, suc, _+_, _*_, _-_}
+use mathlib.Core.List.{List, [], _∷_, _++_, map}
+use mathlib.Core.Option.{Option, none, some}
+use lib.ListN.{length, getD}
+use lib.IntN.{ℤ, pos, negsuc}
+use lib.Dec.{eqb}
+use Rattle.spec.specs.Lists.{Bytes, Verdict, accepted, refused, andThen, pick, upTo, one, each, count, range, only, all, any, empty, lastOr, same, has, different, sumTo, firstFault}
+use Rattle.spec.specs.Numbers.{littleEndian, number, field, signed, unsigned, digits, decimal, decimalZ}
+use Rattle.spec.specs.Frames.{frame, payloadLength, kindField, payloadOf, behind, cutShort, kindNumber, stepNumber, kindOrder, findKind, rankIn, rank, timeWidth, trainCountAt, lengthFits, stepLengthFits}
+use Rattle.spec.specs.Book.{Book, noBook, nodeKindAt, segmentAt, trainAt, callsOf, noCall, goalOf, deniesBorder, forcesBorder, greatestNodeKind, touches, shareNode, segmentOf, startNode, endNode, joinIs, joined, lengthInSegments, speedInSegments}
+use Rattle.spec.specs.Runs.{leadsTo, linked, isPath, directed, goesOn, extend, pathsOf, runsOf, startPlace, endPlace, contains}
+use Rattle.spec.specs.Read.{readBook, headOf, segmentIn, joinIn, trainIn, callIn, between, headFits, segmentFits, joinFits, trainFits, reachFits, placeFits, callFits, joinRepeats, someHas, mayDivide, contentFaults, add, readingStart, isHead, isEnd, unknownKind, outOfOrder, kindFaults, frameFaults, addFound, pastFrame, bookFaults, refuseOr, stepAt, step, readFrom}
+use Rattle.spec.specs.Instance.{Instance, placeServes, mayLeave, trainLength, runAt, callAt, compile, runLists, instanceOf, inWindow, servedAtDeparture}
+use Rattle.spec.specs.Sections.{neighbours, togetherBelow, together}
+use Rattle.spec.specs.Extra.{extraVariables, extraClauses}
+use Rattle.spec.specs.Formula.{width, base, borderVar, runVar, goneVar, claimVar, moveVar, ownVariables, variables, familyA, familyB, familyC, familyD, familyE, familyF, familyG, familyH, familyI, formula, wordsOf, dimacsOpening, dimacsLine, dimacsText}
+use Rattle.spec.specs.Assignment.{deny, truth}
+use Rattle.spec.specs.Refutation.{ProofStep, stepPayload, fileOf, literalCount, hintCount, stepIn, variableOf, risesFrom, literalsFit, hintsFit, makeTrue, makeFalse, refuting, isNo, isOpen, clauseAt, notFalse, hinted, goThrough, followsRule, Lent, clausesFit, stepFaults, stepDetail, checkSteps, checkFile}
+use Rattle.spec.specs.Entry.{demand, findNone, readInstance, formulaWritten, writeFormula, formulaText, formulaFits, checkRefutation}
+
+-- An answer: rows of numbers, a text or a clause, or a refusal's number and detail.
+pub data Answer : Type 0 where
+  rows : List (List ℕ) → Answer
+  text : Bytes → Answer
+  clause : List ℤ → Answer
+  yes-accepted : Answer
+  refusal : ℕ → ℕ → Answer
+
+pub record Case : Type 0 where
+  pub asked : Answer
+  pub answer : Answer
+
+answered : {A : Type 0} → Verdict A → (A → Answer) → Answer
+answered (accepted a) f = f a
+answered (refused n d) f = refusal n d
+
+-- ---- the books
+
+-- Book L, as the document prints it
+bookL : Bytes
+bookL =
+    0x05 ∷ 0x00 ∷ 0x01 ∷ 0x00 ∷ 0x64 ∷ 0x00 ∷ 0x0A ∷ 0x00 ∷ 0x01 ∷ 0x01 ∷ 0x00 ∷ 0x02 ∷ 0x00 ∷ 0x00 ∷ 0x01 ∷ 0x00 ∷ 0x02 ∷ 0x00 ∷ 0x00
+    ∷ 0x03 ∷ 0x00 ∷ 0x03 ∷ 0x00 ∷ 0x00 ∷ 0x01 ∷ 0x00 ∷ 0x07 ∷ 0x00 ∷ 0x05 ∷ 0x00 ∷ 0x50 ∷ 0x00 ∷ 0x24 ∷ 0x00 ∷ 0x00 ∷ 0x01 ∷ 0x00
+    ∷ 0x04 ∷ 0x00 ∷ 0x06 ∷ 0x00 ∷ 0x00 ∷ 0x00 ∷ 0x00 ∷ 0x01 ∷ 0x00 ∷ 0x00 ∷ 0x08 ∷ 0x00 ∷ []
+
+-- rs 100, rt 10, T 1
+headFrame : Bytes
+headFrame = frame 1 (100 ∷ 0 ∷ 10 ∷ 0 ∷ 1 ∷ [])
+
+nodeFrame : ℕ → Bytes
+nodeFrame kind = frame 2 (kind ∷ [])
+
+segmentFrame : ℕ → ℕ → Bytes
+segmentFrame a b = frame 3 (a ∷ b ∷ 0 ∷ [])
+
+-- a train below 256 m and 512 km/h that departs in interval 0
+trainFrame : ℕ → ℕ → List ℕ → Bytes
+trainFrame metres speed place =
+    frame 5 (littleEndian 2 metres ++ littleEndian 2 speed ++ (0 ∷ length place ∷ []) ++ place)
+
+callFrame : ℕ → ℕ → ℕ → Bytes
+callFrame segment first last = frame 6 (0 ∷ segment ∷ first ∷ last ∷ [])
+
+endFrame : Bytes
+endFrame = frame 8 []
+
+-- Segments 0 (nodes 0, 1) and 1 (nodes 1, 2), with or without a join at node 1, and one train
+pairBook : Bytes → ℕ → ℕ → List ℕ → Bytes
+pairBook joins metres speed place =
+    headFrame ++ nodeFrame 0 ++ nodeFrame 0 ++ nodeFrame 0 ++ segmentFrame 0 1 ++ segmentFrame 1 2 ++ joins
+    ++ trainFrame metres speed place ++ callFrame 0 0 1 ++ endFrame
+
+joinFrame : Bytes
+joinFrame = frame 4 (1 ∷ 0 ∷ 1 ∷ [])
+
+-- Book M: L with a third node of kind 0, the unjoined segment 1 in TTD 0 and the call on segment 1
+bookM : ℕ → Bytes
+bookM last =
+    headFrame ++ nodeFrame 0 ++ nodeFrame 0 ++ nodeFrame 0 ++ segmentFrame 0 1 ++ segmentFrame 1 2
+    ++ trainFrame 80 36 (0 ∷ []) ++ callFrame 1 0 last ++ endFrame
+
+-- Three segments in a row, or in a ring over the same nodes, all in TTD 0
+tripleBook : ℕ → Bytes
+tripleBook lastNode =
+    headFrame ++ nodeFrame 1 ++ nodeFrame 1 ++ nodeFrame 1 ++ nodeFrame 1
+    ++ segmentFrame 0 1 ++ segmentFrame 1 2 ++ segmentFrame 2 lastNode
+    ++ trainFrame 80 36 (0 ∷ []) ++ callFrame 0 0 1 ++ endFrame
+
+-- ---- what is asked
+
+-- l and k of the train that was read
+reach : Bytes → Answer
+reach s = answered (readBook s) λ b. rows ((lengthInSegments b (trainAt b 0) ∷ speedInSegments b (trainAt b 0) ∷ []) ∷ [])
+
+runList : Bytes → Answer
+runList s = answered (readBook s) λ b. rows (runsOf b (trainAt b 0))
+
+-- the section of each segment, with a border at this node alone
+sections : Bytes → ℕ → Answer
+sections s n = answered (readInstance s) λ I.
+    rows (map (λ t. pick (λ u. together I (eqb n) t u) (upTo (I .segments))) (upTo (I .segments)))
+
+printed : Bytes → Answer
+printed s = answered (formulaText s 16384) text
+
+clauseNumber : ℕ → Bytes → Answer
+clauseNumber n s = answered (readInstance s) λ I. clause (clauseAt (formula I) n)
+
+-- the refutation of one empty step with these hints
+emptyStep : List ℕ → Bytes
+emptyStep hints = fileOf (one (record { literals = []; hints = hints }))
+
+refuted : Bytes → Bytes → Answer
+refuted s r = answered (checkRefutation s r (record { words = 16384; clauses = 8192; values = 65536; trail = 8192 })) λ _. yes-accepted
+
+-- ---- the table
+
+pub table : List Case
+table =
+    -- *36 km/h gives 1; *100 m gives 1
+    record { asked = reach (pairBook joinFrame 100 36 (0 ∷ [])); answer = rows ((1 ∷ 1 ∷ []) ∷ []) }
+    -- *35 is refused by 7
+    ∷ record { asked = reach (pairBook joinFrame 100 35 (0 ∷ [])); answer = refusal 7 0 }
+    -- *323 gives 8
+    ∷ record { asked = reach (pairBook joinFrame 100 323 (0 ∷ [])); answer = rows ((1 ∷ 8 ∷ []) ∷ []) }
+    -- *101 m gives 2
+    ∷ record { asked = reach (pairBook joinFrame 101 36 (0 ∷ 2 ∷ [])); answer = rows ((2 ∷ 1 ∷ []) ∷ []) }
+    -- *joined at 1, six runs; *unjoined, four
+    ∷ record
+      { asked = runList (pairBook joinFrame 100 36 (0 ∷ []))
+      ; answer = rows ((0 ∷ []) ∷ (1 ∷ []) ∷ (2 ∷ []) ∷ (3 ∷ []) ∷ (0 ∷ 2 ∷ []) ∷ (3 ∷ 1 ∷ []) ∷ []) }
+    ∷ record
+      { asked = runList (pairBook [] 100 36 (0 ∷ []))
+      ; answer = rows ((0 ∷ []) ∷ (1 ∷ []) ∷ (2 ∷ []) ∷ (3 ∷ []) ∷ []) }
+    -- *Three segments in a row, border at node 1: sections {0} and {1, 2}; *in a ring one border divides nothing
+    ∷ record { asked = sections (tripleBook 3) 1; answer = rows ((0 ∷ []) ∷ (1 ∷ 2 ∷ []) ∷ (1 ∷ 2 ∷ []) ∷ []) }
+    ∷ record
+      { asked = sections (tripleBook 0) 1
+      ; answer = rows ((0 ∷ 1 ∷ 2 ∷ []) ∷ (0 ∷ 1 ∷ 2 ∷ []) ∷ (0 ∷ 1 ∷ 2 ∷ []) ∷ []) }
+    -- *Book L's text: "p cnf 6 10", "-1 0", "-2 0", "3 4 5 0", "-3 -4 0", "-3 -5 0", "-4 -5 0", "-4 0", "-5 0", "-3 6 0", "-4 6 0"
+    ∷ record
+      { asked = printed bookL
+      ; answer = text
+        (112 ∷ 32 ∷ 99 ∷ 110 ∷ 102 ∷ 32 ∷ 54 ∷ 32 ∷ 49 ∷ 48 ∷ 10
+        ∷ 45 ∷ 49 ∷ 32 ∷ 48 ∷ 10
+        ∷ 45 ∷ 50 ∷ 32 ∷ 48 ∷ 10
+        ∷ 51 ∷ 32 ∷ 52 ∷ 32 ∷ 53 ∷ 32 ∷ 48 ∷ 10
+        ∷ 45 ∷ 51 ∷ 32 ∷ 45 ∷ 52 ∷ 32 ∷ 48 ∷ 10
+        ∷ 45 ∷ 51 ∷ 32 ∷ 45 ∷ 53 ∷ 32 ∷ 48 ∷ 10
+        ∷ 45 ∷ 52 ∷ 32 ∷ 45 ∷ 53 ∷ 32 ∷ 48 ∷ 10
+        ∷ 45 ∷ 52 ∷ 32 ∷ 48 ∷ 10
+        ∷ 45 ∷ 53 ∷ 32 ∷ 48 ∷ 10
+        ∷ 45 ∷ 51 ∷ 32 ∷ 54 ∷ 32 ∷ 48 ∷ 10
+        ∷ 45 ∷ 52 ∷ 32 ∷ 54 ∷ 32 ∷ 48 ∷ 10 ∷ []) }
+    -- *Window 0 to 1: clause 19 is 6 7; the empty step with hints 16, 17, 19 is accepted, *with 19, 16, 17 refused by 20
+    ∷ record { asked = clauseNumber 19 (bookM 1); answer = clause (pos 6 ∷ pos 7 ∷ []) }
+    ∷ record { asked = refuted (bookM 1) (emptyStep (16 ∷ 17 ∷ 19 ∷ [])); answer = yes-accepted }
+    ∷ record { asked = refuted (bookM 1) (emptyStep (19 ∷ 16 ∷ 17 ∷ [])); answer = refusal 20 1 }
+    -- *Window 0 to 0: clause 19 is empty and its lone hint suffices
+    ∷ record { asked = clauseNumber 19 (bookM 0); answer = clause [] }
+    ∷ record { asked = refuted (bookM 0) (emptyStep (19 ∷ [])); answer = yes-accepted }
+    ∷ []
+
+pub cases : map (λ c. c .asked) table ≡ map (λ c. c .answer) table
+unfolding
+    table answered bookL headFrame nodeFrame segmentFrame trainFrame callFrame endFrame pairBook joinFrame bookM tripleBook reach runList sections printed clauseNumber emptyStep refuted
+    andThen pick upTo each count range only all any empty lastOr same has different sumTo firstFault
+    littleEndian number field signed unsigned digits decimal decimalZ
+    frame payloadLength kindField payloadOf behind cutShort kindNumber stepNumber kindOrder findKind rankIn rank timeWidth trainCountAt lengthFits stepLengthFits
+    noBook nodeKindAt segmentAt trainAt callsOf noCall goalOf deniesBorder forcesBorder greatestNodeKind touches shareNode segmentOf startNode endNode joinIs joined lengthInSegments speedInSegments
+    leadsTo linked isPath directed goesOn extend pathsOf runsOf startPlace endPlace contains
+    readBook headOf segmentIn joinIn trainIn callIn between headFits segmentFits joinFits trainFits reachFits placeFits callFits joinRepeats someHas mayDivide contentFaults add readingStart isHead isEnd unknownKind outOfOrder kindFaults frameFaults addFound pastFrame bookFaults refuseOr stepAt step readFrom
+    placeServes mayLeave trainLength runAt callAt compile runLists instanceOf inWindow servedAtDeparture
+    neighbours togetherBelow together
+    extraVariables extraClauses width base borderVar runVar goneVar claimVar moveVar ownVariables variables familyA familyB familyC familyD familyE familyF familyG familyH familyI formula wordsOf dimacsOpening dimacsLine dimacsText
+    deny truth stepPayload fileOf literalCount hintCount stepIn variableOf risesFrom literalsFit hintsFit makeTrue makeFalse refuting isNo isOpen clauseAt notFalse hinted goThrough followsRule clausesFit stepFaults stepDetail checkSteps checkFile
+    demand findNone readInstance formulaWritten writeFormula formulaText formulaFits checkRefutation
+cases = refl

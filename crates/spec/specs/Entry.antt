@@ -1,0 +1,110 @@
+-- The entry points, each as ONE definition: what it returns and what each output holds, from the book's bytes, the second
+-- input's bytes and the lengths of the lent slices, and from nothing else. An output slice `old` holds after the call
+-- `overwrite old (written …)`, and each working slice of length n holds n zeros. Assumes nothing.
+use mathlib.Core.Bool.{Bool, true, false, not, _&&_, _||_, cond}
+use Prim.Native.Nat.{ℕ, zero, suc, _+_}
+use mathlib.Core.List.{List, [], _∷_, _++_, map}
+use mathlib.Core.Option.{Option, none, some}
+use lib.ListN.{length, getD, drop}
+use lib.IntN.{ℤ}
+use lib.Dec.{leb, ltb, eqb}
+use Rattle.spec.specs.Lists.{Bytes, Verdict, accepted, refused, andThen}
+use Rattle.spec.specs.Book.{Book}
+use Rattle.spec.specs.Read.{readBook}
+use Rattle.spec.specs.Instance.{Instance, instanceOf}
+use Rattle.spec.specs.Plan.{planFits, planLength, planOf, brokenRule}
+use Rattle.spec.specs.Formula.{Clause, formula, variables, wordsOf, dimacsText}
+use Rattle.spec.specs.Assignment.{assignmentFits, assigned, firstFalse, decode, encode}
+use Rattle.spec.specs.Refutation.{Lent, clausesFit, checkFile}
+
+-- a test that refuses with a number and detail 0
+unfoldable pub demand : Bool → ℕ → Verdict (Unit {0})
+demand true n = accepted tt
+demand false n = refused n 0
+
+-- a search that refuses with a number and what was found as the detail
+unfoldable pub findNone : Option ℕ → ℕ → Verdict (Unit {0})
+findNone none n = accepted tt
+findNone (some d) n = refused n d
+
+-- "A success changes only the stated length of an output"; "Outputs are unchanged" on a refusal.
+unfoldable pub overwrite {ℓ} : {A : Type ℓ} → List A → List A → List A
+overwrite old new = new ++ drop (length new) old
+
+unfoldable pub written : {A : Type 0} → Verdict (List A) → List A
+written (accepted xs) = xs
+written (refused n d) = []
+
+-- ---- reading a book; it is lent nothing. `readBook` is what it returns; the other entry points go on from its instance.
+
+unfoldable pub readInstance : Bytes → Verdict Instance
+readInstance book = andThen (readBook book) λ b. accepted (instanceOf b)
+
+-- ---- writing the formula; lent: an output of words
+
+-- the totals that are returned, and the words that are written
+pub record Written : Type 0 where
+  pub variableCount : ℕ
+  pub clauseCount : ℕ
+  pub wordCount : ℕ
+  pub words : List ℤ
+
+unfoldable pub formulaWritten : Instance → Written
+formulaWritten I = record
+  { variableCount = variables I
+  ; clauseCount = length (formula I)
+  ; wordCount = length (wordsOf (formula I))
+  ; words = wordsOf (formula I) }
+
+unfoldable pub writeFormula : Bytes → ℕ → Verdict Written
+writeFormula book outLength =
+    andThen (readInstance book) λ I.
+    andThen (demand (leb (length (wordsOf (formula I))) outLength) 12) λ _.
+    accepted (formulaWritten I)
+
+-- the text that the formula program prints
+unfoldable pub formulaText : Bytes → ℕ → Verdict Bytes
+formulaText book outLength =
+    andThen (writeFormula book outLength) λ _.
+    andThen (readInstance book) λ I.
+    accepted (dimacsText (variables I) (formula I))
+
+-- ---- checking an assignment and decoding it; lent: an output of the plan's bytes
+
+-- 13, then 14 with the least false clause; no output
+unfoldable pub judgeAssignment : Instance → Bytes → Verdict (Unit {0})
+judgeAssignment I s =
+    andThen (demand (assignmentFits I s) 13) λ _. findNone (firstFalse (assigned s) 1 (formula I)) 14
+
+unfoldable pub checkAssignment : Bytes → Bytes → ℕ → Verdict Bytes
+checkAssignment book assignment outLength =
+    andThen (readInstance book) λ I.
+    andThen (demand (leb (planLength I) outLength) 12) λ _.
+    andThen (judgeAssignment I assignment) λ _.
+    accepted (decode I assignment)
+
+-- ---- checking a plan and writing it as an assignment; lent: an output of the assignment's bytes
+
+-- 15, then 16 with the least broken rule; no output
+unfoldable pub judgePlan : Instance → Bytes → Verdict (Unit {0})
+judgePlan I s = andThen (demand (planFits I s) 15) λ _. findNone (brokenRule I (planOf I s)) 16
+
+unfoldable pub checkPlan : Bytes → Bytes → ℕ → Verdict Bytes
+checkPlan book plan outLength =
+    andThen (readInstance book) λ I.
+    andThen (demand (leb (variables I) outLength) 12) λ _.
+    andThen (judgePlan I plan) λ _.
+    accepted (encode I (planOf I plan))
+
+-- ---- checking a refutation; lent: words, clauses, values and trail, all of them working slices
+
+-- 12: what the formula alone needs
+unfoldable pub formulaFits : Lent → Instance → Bool
+formulaFits lent I =
+    clausesFit lent (formula I) && leb (variables I) (lent .values) && leb (variables I) (lent .trail)
+
+unfoldable pub checkRefutation : Bytes → Bytes → Lent → Verdict (Unit {0})
+checkRefutation book refutation lent =
+    andThen (readInstance book) λ I.
+    andThen (demand (formulaFits lent I) 12) λ _.
+    checkFile lent (variables I) (formula I) refutation

@@ -1,0 +1,91 @@
+-- "A file of frames": length, kind, payload; and each kind's number and payload length, which belong to the kind and are
+-- written down here once. Assumes nothing.
+use mathlib.Core.Bool.{Bool, true, false, not, _&&_, _||_}
+use Prim.Native.Nat.{ℕ, zero, suc, _+_, _*_, _-_, _%_}
+use mathlib.Core.List.{List, [], _∷_, _++_}
+use mathlib.Core.Option.{Option, none, some}
+use lib.ListN.{length, take, drop}
+use lib.Dec.{leb, ltb, eqb}
+use Rattle.spec.specs.Lists.{Bytes, any}
+use Rattle.spec.specs.Numbers.{littleEndian, field}
+
+-- "two-byte length of the payload, two-byte kind, payload; all little-endian"
+unfoldable pub frame : ℕ → Bytes → Bytes
+frame kind payload = littleEndian 2 (length payload) ++ littleEndian 2 kind ++ payload
+
+-- The frame at the start of s: what its first four bytes say, its payload, and what stands behind it.
+unfoldable pub payloadLength : Bytes → ℕ
+payloadLength s = field s 0 2
+
+unfoldable pub kindField : Bytes → ℕ
+kindField s = field s 2 2
+
+unfoldable pub payloadOf : Bytes → Bytes
+payloadOf s = take (payloadLength s) (drop 4 s)
+
+unfoldable pub behind : Bytes → Bytes
+behind s = drop (4 + payloadLength s) s
+
+-- refusals 1 and 17: "under 4 bytes left, or payload past the end"
+unfoldable pub cutShort : Bytes → Bool
+cutShort s = ltb (length s) 4 || ltb (length s) (4 + payloadLength s)
+
+-- The kinds of a book's frames.
+pub data Kind : Type 0 where
+  headKind nodeKind segmentKind joinKind trainKind callKind unbreakableKind endKind : Kind
+
+-- "1 Head … 8 End"
+unfoldable pub kindNumber : Kind → ℕ
+kindNumber headKind = 1
+kindNumber nodeKind = 2
+kindNumber segmentKind = 3
+kindNumber joinKind = 4
+kindNumber trainKind = 5
+kindNumber callKind = 6
+kindNumber unbreakableKind = 7
+kindNumber endKind = 8
+
+-- "of kind 20": a refutation's step
+unfoldable pub stepNumber : ℕ
+stepNumber = 20
+
+-- "Kinds never go down through the file": the order in which the kinds come
+unfoldable pub kindOrder : List Kind
+kindOrder = headKind ∷ nodeKind ∷ segmentKind ∷ joinKind ∷ trainKind ∷ callKind ∷ unbreakableKind ∷ endKind ∷ []
+
+-- the kind that has this number, among some
+unfoldable pub findKind : ℕ → List Kind → Option Kind
+findKind n [] = none
+findKind n (k ∷ ks) = elim (eqb n (kindNumber k)) [ true ↦ some k | false ↦ findKind n ks ]
+
+-- the place of a kind's number in the order, from 1 (past its end for a number that is no kind's)
+unfoldable pub rankIn : ℕ → List Kind → ℕ
+rankIn n [] = 1
+rankIn n (k ∷ ks) = elim (eqb n (kindNumber k)) [ true ↦ 1 | false ↦ suc (rankIn n ks) ]
+
+unfoldable pub rank : ℕ → ℕ
+rank n = rankIn n kindOrder
+
+-- "Fields are one byte unless noted": how many bytes a time has
+unfoldable pub timeWidth : ℕ
+timeWidth = 1
+
+-- Where a train's count n stands in its payload: behind length (2), speed (2) and departure.
+unfoldable pub trainCountAt : ℕ
+trainCountAt = 4 + timeWidth
+
+-- refusal 4: the payload's length is the one of its kind
+unfoldable pub lengthFits : Kind → Bytes → Bool
+lengthFits headKind p = eqb (length p) (4 + timeWidth)
+lengthFits nodeKind p = eqb (length p) 1
+lengthFits segmentKind p = eqb (length p) 3
+lengthFits joinKind p = eqb (length p) 3
+lengthFits trainKind p = leb (trainCountAt + 1) (length p) && eqb (length p) (trainCountAt + 1 + field p trainCountAt 1)
+lengthFits callKind p = eqb (length p) (2 + 2 * timeWidth)
+lengthFits unbreakableKind p = eqb (length p) 1
+lengthFits endKind p = eqb (length p) 0
+
+-- refusal 17: "payload not 2 + 4n + 4h", n being its first two bytes
+unfoldable pub stepLengthFits : Bytes → Bool
+stepLengthFits p =
+    leb 2 (length p) && leb (2 + 4 * field p 0 2) (length p) && eqb ((length p - (2 + 4 * field p 0 2)) % 4) 0

@@ -1,0 +1,94 @@
+-- What the plan rules and the formula ask of a book, and nothing else: counts, and answers by number. The book's text is
+-- turned into these answers in one place, `instanceOf`, so a rule of the book (which node kinds deny a border, whether a
+-- place serves a call, who may be gone) is changed here and nowhere else. Assumes nothing.
+use mathlib.Core.Bool.{Bool, true, false, not, _&&_, _||_, cond}
+use Prim.Native.Nat.{ℕ, zero, suc, _+_, _*_, _-_}
+use mathlib.Core.List.{List, [], _∷_, _++_, map}
+use lib.ListN.{length, getD}
+use lib.Dec.{leb, ltb, eqb}
+use Rattle.spec.specs.Lists.{same}
+use Rattle.spec.specs.Book.{Book, Train, Call, nodeKindAt, trainAt, callsOf, noCall, goalOf, deniesBorder, forcesBorder, shareNode, segmentOf, lengthInSegments}
+use Rattle.spec.specs.Runs.{runsOf, startPlace, endPlace, contains}
+
+pub record Instance : Type 0 where
+  pub nodes : ℕ
+  pub segments : ℕ
+  pub trains : ℕ
+  pub intervals : ℕ
+  -- by node: no border may be set, a border must be set
+  pub denied : ℕ → Bool
+  pub forced : ℕ → Bool
+  -- by node and two segments: different, of one TTD, and both touch the node
+  pub meet : ℕ → ℕ → ℕ → Bool
+  -- by train: its departure, how many runs and how many calls it has
+  pub departure : ℕ → ℕ
+  pub runs : ℕ → ℕ
+  pub calls : ℕ → ℕ
+  -- by train and run: it starts at the given place; its segments in path order; gone may follow it
+  pub given : ℕ → ℕ → Bool
+  pub path : ℕ → ℕ → List ℕ
+  pub leaves : ℕ → ℕ → Bool
+  -- by train and two runs: the second starts at the place where the first ends
+  pub follows : ℕ → ℕ → ℕ → Bool
+  -- by train and call: its window, and whether the given place serves it
+  pub first : ℕ → ℕ → ℕ
+  pub last : ℕ → ℕ → ℕ
+  pub servedAtStart : ℕ → ℕ → Bool
+  -- by train, call and run: the place where the run ends serves it
+  pub serves : ℕ → ℕ → ℕ → Bool
+
+-- whether a place serves a call: "the train's place contains the segment"
+unfoldable pub placeServes : Book → Call → List ℕ → Bool
+placeServes b c place = contains place (c .segment)
+
+-- who may be gone: after "a run whose end place contains the goal's segment"
+unfoldable pub mayLeave : Book → ℕ → List ℕ → Bool
+mayLeave b i place = placeServes b (goalOf b i) place
+
+-- a train's l, by its number
+unfoldable pub trainLength : Book → ℕ → ℕ
+trainLength b i = lengthInSegments b (trainAt b i)
+
+-- "a run's number in the train's list, from 0": the run with a number, of run lists by train
+unfoldable pub runAt : List (List (List ℕ)) → ℕ → ℕ → List ℕ
+runAt lists i r = getD (getD lists i []) r []
+
+unfoldable pub callAt : Book → ℕ → ℕ → Call
+callAt b i c = getD (callsOf b i) c noCall
+
+unfoldable pub compile : Book → List (List (List ℕ)) → Instance
+compile b lists = record
+  { nodes = length (b .nodes)
+  ; segments = length (b .segments)
+  ; trains = length (b .trains)
+  ; intervals = b .intervals
+  ; denied = λ n. deniesBorder (nodeKindAt b n)
+  ; forced = λ n. forcesBorder (nodeKindAt b n)
+  ; meet = λ n s t. shareNode b n s t
+  ; departure = λ i. trainAt b i .departure
+  ; runs = λ i. length (getD lists i [])
+  ; calls = λ i. length (callsOf b i)
+  ; given = λ i r. same (startPlace (trainLength b i) (runAt lists i r)) (trainAt b i .place)
+  ; path = λ i r. map segmentOf (runAt lists i r)
+  ; leaves = λ i r. mayLeave b i (endPlace (trainLength b i) (runAt lists i r))
+  ; follows = λ i r q. same (endPlace (trainLength b i) (runAt lists i r)) (startPlace (trainLength b i) (runAt lists i q))
+  ; first = λ i c. callAt b i c .first
+  ; last = λ i c. callAt b i c .last
+  ; servedAtStart = λ i c. placeServes b (callAt b i c) (trainAt b i .place)
+  ; serves = λ i c r. placeServes b (callAt b i c) (endPlace (trainLength b i) (runAt lists i r))
+  }
+
+-- the run lists, by train
+unfoldable pub runLists : Book → List (List (List ℕ))
+runLists b = map (runsOf b) (b .trains)
+
+unfoldable pub instanceOf : Book → Instance
+instanceOf b = compile b (runLists b)
+
+-- "at some time from first to last"
+unfoldable pub inWindow : Instance → ℕ → ℕ → ℕ → Bool
+inWindow I i c time = leb (I .first i c) time && leb time (I .last i c)
+
+-- "At time d its place is the given one": the call is served there
+unfoldable pub servedAtDeparture : Instance → ℕ → ℕ → Bool
+servedAtDeparture I i c = inWindow I i c (I .departure i) && I .servedAtStart i c

@@ -1,0 +1,246 @@
+-- Reading a book: the frames in file order, each through its table of refusals by rising number, then the book's own.
+-- The lines of these tables are document 01's table of refusals 1 to 11. Assumes nothing.
+use mathlib.Core.Bool.{Bool, true, false, not, _&&_, _||_, cond}
+use Prim.Native.Nat.{ℕ, zero, suc, _+_, _*_, _-_, _/_, _%_}
+use mathlib.Core.List.{List, [], _∷_, _++_, map}
+use mathlib.Core.Option.{Option, none, some}
+use lib.ListN.{length, getD, take, drop}
+use lib.Dec.{leb, ltb, eqb}
+use Rattle.spec.specs.Lists.{Bytes, any, all, upTo, one, empty, Fault, _when_, firstFault, Verdict, accepted, refused}
+use Rattle.spec.specs.Numbers.{field}
+use Rattle.spec.specs.Frames.{Kind, headKind, nodeKind, segmentKind, joinKind, trainKind, callKind, unbreakableKind, endKind, kindNumber, kindOrder, findKind, rank, timeWidth, trainCountAt, lengthFits, kindField, payloadOf, behind, cutShort}
+use Rattle.spec.specs.Book.{Book, Segment, Join, Train, Call, noBook, nodeKindAt, segmentAt, callsOf, deniesBorder, greatestNodeKind, touches, shareNode, joinIs, lengthInSegments, speedInSegments}
+use Rattle.spec.specs.Runs.{isPath, runsOf}
+
+-- What a payload says, field by field.
+unfoldable pub headOf : Book → Bytes → Book
+headOf b p = record
+  { segmentMetres = field p 0 2; intervalSeconds = field p 2 2; intervals = field p 4 timeWidth
+  ; nodes = b .nodes; segments = b .segments; joins = b .joins; trains = b .trains; calls = b .calls }
+
+unfoldable pub segmentIn : Bytes → Segment
+segmentIn p = record { a = field p 0 1; b = field p 1 1; ttd = field p 2 1 }
+
+unfoldable pub joinIn : Bytes → Join
+joinIn p = record { node = field p 0 1; left = field p 1 1; right = field p 2 1 }
+
+unfoldable pub trainIn : Bytes → Train
+trainIn p = record
+  { metres = field p 0 2; speed = field p 2 2; departure = field p 4 timeWidth; place = drop (trainCountAt + 1) p }
+
+unfoldable pub callIn : Bytes → Call
+callIn p = record
+  { train = field p 0 1; segment = field p 1 1; first = field p 2 timeWidth; last = field p (2 + timeWidth) timeWidth }
+
+-- The limits: "At most 96", "At most 64", "At most 128", "At most 8", "One to four a train", "T 1 to 32", "TTD 0 to 63",
+-- l and k "are 1 to 8", "At most 256 a train".
+abbrev pub maxNodes : ℕ
+maxNodes = 96
+
+abbrev pub maxSegments : ℕ
+maxSegments = 64
+
+abbrev pub maxJoins : ℕ
+maxJoins = 128
+
+abbrev pub maxTrains : ℕ
+maxTrains = 8
+
+abbrev pub maxCalls : ℕ
+maxCalls = 4
+
+abbrev pub maxIntervals : ℕ
+maxIntervals = 32
+
+abbrev pub maxTtd : ℕ
+maxTtd = 63
+
+abbrev pub maxReach : ℕ
+maxReach = 8
+
+abbrev pub maxRuns : ℕ
+maxRuns = 256
+
+unfoldable pub between : ℕ → ℕ → ℕ → Bool
+between low high n = leb low n && leb n high
+
+-- 6 of a Head: "rs, rt at least 1; T 1 to 32"
+unfoldable pub headFits : Book → Bool
+headFits b = leb 1 (b .segmentMetres) && leb 1 (b .intervalSeconds) && between 1 maxIntervals (b .intervals)
+
+-- 6 of a Segment: "node a, node b (different), TTD 0 to 63"
+unfoldable pub segmentFits : Book → Segment → Bool
+segmentFits b s =
+    ltb (s .a) (length (b .nodes)) && ltb (s .b) (length (b .nodes)) && not (eqb (s .a) (s .b)) && leb (s .ttd) maxTtd
+
+-- 6 of a Join: "node, two different segments touching it"
+unfoldable pub joinFits : Book → Join → Bool
+joinFits b j =
+    ltb (j .node) (length (b .nodes)) && ltb (j .left) (length (b .segments)) && ltb (j .right) (length (b .segments))
+    && not (eqb (j .left) (j .right))
+    && touches (segmentAt b (j .left)) (j .node) && touches (segmentAt b (j .right)) (j .node)
+
+-- 6 of a Join: "a pair at one node stands once, in either order"; these are the joins before it
+unfoldable pub joinRepeats : List Join → Join → Bool
+joinRepeats before j = any (joinIs (j .node) (j .left) (j .right)) before
+
+-- 6 of a Train: "at least 1", "below T", "n directed segments"
+unfoldable pub trainFits : Book → Train → Bool
+trainFits b t =
+    leb 1 (t .metres) && ltb (t .departure) (b .intervals) && all (λ d. ltb d (2 * length (b .segments))) (t .place)
+
+-- 7: "Both are 1 to 8."
+unfoldable pub reachFits : Book → Train → Bool
+reachFits b t = between 1 maxReach (lengthInSegments b t) && between 1 maxReach (speedInSegments b t)
+
+-- 8: "n is not l, or the row is no path"
+unfoldable pub placeFits : Book → Train → Bool
+placeFits b t = eqb (length (t .place)) (lengthInSegments b t) && isPath b (t .place)
+
+-- 6 of a Call: "train, segment, first, last, with first ≤ last ≤ T"
+unfoldable pub callFits : Book → Call → Bool
+callFits b c =
+    ltb (c .train) (length (b .trains)) && ltb (c .segment) (length (b .segments)) && leb (c .first) (c .last)
+    && leb (c .last) (b .intervals)
+
+-- 6 of an Unbreakable TTD: "a TTD that some segment has"
+unfoldable pub someHas : Book → ℕ → Bool
+someHas b ttd = any (λ s. eqb (s .ttd) ttd) (b .segments)
+
+-- 9: "unbreakable TTD with two segments at a node of kind 1 or 2"
+unfoldable pub mayDivide : Book → ℕ → Bool
+mayDivide b ttd =
+    any (λ n. not (deniesBorder (nodeKindAt b n))
+        && any (λ s. eqb (segmentAt b s .ttd) ttd && any (λ t. shareNode b n s t) (upTo (length (b .segments))))
+            (upTo (length (b .segments))))
+        (upTo (length (b .nodes)))
+
+-- 5 to 9, by kind; b is the book as far as it was read
+unfoldable pub contentFaults : Book → Kind → Bytes → List Fault
+contentFaults b headKind p = one (6 when not (headFits (headOf b p)))
+contentFaults b nodeKind p = 5 when leb maxNodes (length (b .nodes)) ∷ one (6 when ltb greatestNodeKind (field p 0 1))
+contentFaults b segmentKind p =
+    5 when leb maxSegments (length (b .segments)) ∷ one (6 when not (segmentFits b (segmentIn p)))
+contentFaults b joinKind p = 5 when leb maxJoins (length (b .joins)) ∷ one (6 when (not (joinFits b (joinIn p)) || joinRepeats (b .joins) (joinIn p)))
+contentFaults b trainKind p =
+    5 when leb maxTrains (length (b .trains)) ∷ 6 when not (trainFits b (trainIn p)) ∷ 7 when not (reachFits b (trainIn p))
+    ∷ one (8 when not (placeFits b (trainIn p)))
+contentFaults b callKind p =
+    5 when leb maxCalls (length (callsOf b (callIn p .train))) ∷ one (6 when not (callFits b (callIn p)))
+contentFaults b unbreakableKind p = 6 when not (someHas b (field p 0 1)) ∷ one (9 when mayDivide b (field p 0 1))
+contentFaults b endKind p = []
+
+-- the book with what a frame adds
+unfoldable pub add : Book → Kind → Bytes → Book
+add b headKind p = headOf b p
+add b nodeKind p = record
+  { segmentMetres = b .segmentMetres; intervalSeconds = b .intervalSeconds; intervals = b .intervals
+  ; nodes = b .nodes ++ one (field p 0 1); segments = b .segments; joins = b .joins; trains = b .trains; calls = b .calls }
+add b segmentKind p = record
+  { segmentMetres = b .segmentMetres; intervalSeconds = b .intervalSeconds; intervals = b .intervals
+  ; nodes = b .nodes; segments = b .segments ++ one (segmentIn p); joins = b .joins; trains = b .trains; calls = b .calls }
+add b joinKind p = record
+  { segmentMetres = b .segmentMetres; intervalSeconds = b .intervalSeconds; intervals = b .intervals
+  ; nodes = b .nodes; segments = b .segments; joins = b .joins ++ one (joinIn p); trains = b .trains; calls = b .calls }
+add b trainKind p = record
+  { segmentMetres = b .segmentMetres; intervalSeconds = b .intervalSeconds; intervals = b .intervals
+  ; nodes = b .nodes; segments = b .segments; joins = b .joins; trains = b .trains ++ one (trainIn p); calls = b .calls }
+add b callKind p = record
+  { segmentMetres = b .segmentMetres; intervalSeconds = b .intervalSeconds; intervals = b .intervals
+  ; nodes = b .nodes; segments = b .segments; joins = b .joins; trains = b .trains; calls = b .calls ++ one (callIn p) }
+add b unbreakableKind p = b
+add b endKind p = b
+
+-- How far the reader is: the rank of the last frame's kind (0 before the first), and the book as far as it was read.
+pub record Reading : Type 0 where
+  pub last : ℕ
+  pub book : Book
+
+unfoldable pub readingStart : Reading
+readingStart = record { last = 0; book = noBook }
+
+unfoldable pub isHead : ℕ → Bool
+isHead n = eqb n (kindNumber headKind)
+
+unfoldable pub isEnd : ℕ → Bool
+isEnd n = eqb n (kindNumber endKind)
+
+-- 2: "kind not 1 to 8"
+unfoldable pub unknownKind : ℕ → Bool
+unknownKind n = not (any (λ k. eqb n (kindNumber k)) kindOrder)
+
+-- 3: "first not Head, second Head, kind gone down, bytes after End"
+unfoldable pub outOfOrder : ℕ → Bytes → Bool
+outOfOrder last s =
+    eqb last 0 && not (isHead (kindField s)) || not (eqb last 0) && isHead (kindField s)
+    || ltb (rank (kindField s)) last || isEnd (kindField s) && not (empty (behind s))
+
+-- 4 to 9, for a number that may be no kind's
+unfoldable pub kindFaults : Book → Option Kind → Bytes → List Fault
+kindFaults b none p = []
+kindFaults b (some k) p = 4 when not (lengthFits k p) ∷ contentFaults b k p
+
+-- 1 to 9 for the frame at the start of s: "each by rising number"
+unfoldable pub frameFaults : Reading → Bytes → List Fault
+frameFaults r s =
+    1 when cutShort s ∷ 2 when unknownKind (kindField s) ∷ 3 when outOfOrder (r .last) s
+    ∷ kindFaults (r .book) (findKind (kindField s) kindOrder) (payloadOf s)
+
+unfoldable pub addFound : Book → Option Kind → Bytes → Book
+addFound b none p = b
+addFound b (some k) p = add b k p
+
+-- the reader past the frame at the start of s
+unfoldable pub pastFrame : Reading → Bytes → Reading
+pastFrame r s = record
+  { last = rank (kindField s); book = addFound (r .book) (findKind (kindField s) kindOrder) (payloadOf s) }
+
+-- 10: "no train, or one without a call"; 11: "over 256 runs"
+unfoldable pub bookFaults : Book → List Fault
+bookFaults b =
+    10 when (empty (b .trains) || any (λ i. empty (callsOf b i)) (upTo (length (b .trains))))
+    ∷ one (11 when any (λ t. ltb maxRuns (length (runsOf b t))) (b .trains))
+
+-- a refusal of the reader has detail 0
+unfoldable pub refuseOr : {A : Type 0} → Option ℕ → A → Verdict A
+refuseOr none a = accepted a
+refuseOr (some n) a = refused n 0
+
+-- One frame: the end of reading with its verdict, or reading on behind it.
+pub data Step : Type 0 where
+  stop : Verdict Book → Step
+  more : Reading → Bytes → Step
+
+unfoldable pub stepAt : Option ℕ → Reading → Bytes → Step
+stepAt (some n) r s = stop (refused n 0)
+stepAt none r s =
+    elim (isEnd (kindField s)) [ true ↦ stop (refuseOr (firstFault (bookFaults (r .book))) (r .book))
+    | false ↦ more (pastFrame r s) (behind s) ]
+
+unfoldable pub step : Reading → Bytes → Step
+step r s = stepAt (firstFault (frameFaults r s)) r s
+
+-- "Frames are taken in file order … then the book". A frame has four bytes at least, so `fuel` is never used up.
+unfoldable pub readFrom : ℕ → Reading → Bytes → Verdict Book
+readFrom zero r s = refused 1 0
+readFrom (suc fuel) r s = elim (step r s) [ stop v ↦ v | more r′ s′ ↦ readFrom fuel r′ s′ ]
+
+unfoldable pub readBook : Bytes → Verdict Book
+readBook s = readFrom (suc (length s)) readingStart s
+
+-- ---- what a book that was read is
+
+-- no join of the list repeats one before it
+unfoldable pub joinsOnce : List Join → Bool
+joinsOnce js = all (λ n. not (joinRepeats (take n js) (getD js n (record { node = 0; left = 0; right = 0 })))) (upTo (length js))
+
+-- every sentence of "The book" and "Runs and the plan" that a book can break, of the book as a whole
+unfoldable pub wellFormed : Book → Bool
+wellFormed b =
+    headFits b
+    && (leb (length (b .nodes)) maxNodes && all (λ k. leb k greatestNodeKind) (b .nodes))
+    && (leb (length (b .segments)) maxSegments && all (segmentFits b) (b .segments))
+    && (leb (length (b .joins)) maxJoins && all (joinFits b) (b .joins) && joinsOnce (b .joins))
+    && (leb (length (b .trains)) maxTrains && not (empty (b .trains))
+        && all (λ t. trainFits b t && reachFits b t && placeFits b t && leb (length (runsOf b t)) maxRuns) (b .trains))
+    && (all (callFits b) (b .calls) && all (λ i. between 1 maxCalls (length (callsOf b i))) (upTo (length (b .trains))))

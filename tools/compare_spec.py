@@ -1,0 +1,255 @@
+#!/usr/bin/env python3
+"""Hold the definitions of crates/spec, evaluated by the checker, against the reference on random inputs.
+
+    compare_spec.py SEED BOOKS
+
+makes BOOKS random and damaged books from SEED, with assignments, plans and refutations for those that pass, asks both
+sides the same questions and prints how many answers of each kind agreed, or which did not.  A question's answer is a row of
+numbers: 0 and the result, or the refusal's number and detail.  The questions become a table of a small crate beside a copy
+of crates/spec, and the checker prints the numbers of those that differ.
+"""
+
+import os
+import random
+import re
+import shutil
+import subprocess
+import sys
+import tempfile
+from collections import Counter
+
+import reference
+import samples
+
+ROOT = os.path.dirname(os.path.dirname(os.path.abspath(__file__)))
+SPECS = os.path.join(ROOT, "crates", "spec", "specs")
+# the most characters of questions in one table: a declaration has a limit of steps
+TABLE_SIZE = 60000
+
+PRELUDE = """
+use mathlib.Core.Path.{_≡_, refl}
+use mathlib.Core.Bool.{Bool, true, false}
+use Prim.Native.Nat.{ℕ, zero, suc, _+_, _*_}
+use mathlib.Core.List.{List, [], _∷_, _++_, map}
+use lib.ListN.{length}
+use lib.IntN.{ℤ, pos, negsuc}
+
+answered : {A : Type 0} → Verdict A → (A → List ℕ) → List ℕ
+answered (accepted a) f = 0 ∷ f a
+answered (refused n d) f = n ∷ d ∷ []
+
+code : ℤ → ℕ
+code (pos n) = 2 * n
+code (negsuc n) = 2 * n + 1
+
+rows : List (List ℕ) → List ℕ
+rows xs = each xs λ x. length x ∷ x
+
+lists : Bytes → List ℕ
+lists s = answered (readBook s) λ b. length (b .nodes) ∷ length (b .segments) ∷ length (b .joins) ∷ each (runLists b) λ l. length l ∷ rows l
+
+grouped : Bytes → List ℕ → List ℕ
+grouped s borders = answered (readInstance s) λ I.
+    rows (map (λ t. pick (λ u. together I (λ n. has n borders) t u) (upTo (I .segments))) (upTo (I .segments)))
+
+words : Bytes → ℕ → List ℕ
+words s n = answered (writeFormula s n) λ w. w .variableCount ∷ w .clauseCount ∷ w .wordCount ∷ map code (w .words)
+
+printed : Bytes → List ℕ
+printed s = answered (formulaText s 1000000) λ t. t
+
+decoding : Bytes → Bytes → ℕ → List ℕ
+decoding s a n = answered (checkAssignment s a n) λ p. p
+
+encoding : Bytes → Bytes → ℕ → List ℕ
+encoding s p n = answered (checkPlan s p n) λ a. a
+
+refuting′ : Bytes → Bytes → ℕ → ℕ → ℕ → ℕ → List ℕ
+refuting′ s r w c v t = answered (checkRefutation s r (record { words = w; clauses = c; values = v; trail = t })) λ _. []
+
+record Case : Type 0 where
+  asked : List ℕ
+  answer : List ℕ
+
+failing : ℕ → List Case → List ℕ
+failing n [] = []
+failing n (c ∷ cs) = only (mathlib.Core.Bool.not (same (c .asked) (c .answer))) (n ∷ []) ++ failing (suc n) cs
+"""
+HELPERS = "answered code rows lists grouped words printed decoding encoding refuting′ failing"
+
+
+def names_of_specs():
+    """The modules of crates/spec with the names that a table needs to bring in and to unfold."""
+    bring, unfold = [], []
+    for module in re.findall(r"pub mod (\w+)", open(os.path.join(SPECS, "Lib.antt")).read()):
+        text = open(os.path.join(SPECS, module + ".antt")).read()
+        functions = re.findall(r"^ *unfoldable pub (\S+)", text, re.M)
+        types = re.findall(r"^pub (?:data|record) (\S+)", text, re.M) + re.findall(r"^abbrev pub (Bytes)", text, re.M)
+        makers = ["accepted", "refused"] if module == "Lists" else []
+        bring.append("use Rattle.spec.specs.%s.{%s}" % (module, ", ".join(types + makers + functions)))
+        unfold += functions
+    return bring, unfold
+
+
+def row(numbers):
+    return "(" + "".join("%d ∷ " % n for n in numbers) + "[])"
+
+
+def answer_of(result):
+    """A result of the reference as the row of numbers that the table holds."""
+    if result[0] == "refused":
+        return list(result[1:])
+    return [0] + list(result[1] if len(result) > 1 else [])
+
+
+def coded(literal):
+    return 2 * literal if literal >= 0 else 2 * (-literal - 1) + 1
+
+
+def listed(data):
+    try:
+        book = reference.read_book(data)
+    except reference.Refused as r:
+        return [r.number, r.detail]
+    out = [0, len(book.nodes), len(book.segments), len(book.joins)]
+    for runs in book.runs:
+        out.append(len(runs))
+        for run in runs:
+            out += [len(run)] + list(run)
+    return out
+
+
+def written(data, length):
+    result = reference.entry_write_formula(data, length)
+    if result[0] == "refused":
+        return list(result[1:])
+    return [0] + list(result[1:4]) + [coded(x) for x in result[4]]
+
+
+def grouped(data, borders):
+    book = reference.read_book(data)
+    flags = [1 if n in borders else 0 for n in range(len(book.nodes))]
+    out = [0]
+    for section in reference.sections(book, flags):
+        out += [len(section)] + sorted(section)
+    return out
+
+
+def book_questions(rng, data):
+    """What is asked of every book: its lists, its words with enough room and with one word too few."""
+    yield "book", "lists %s" % row(data), listed(data)
+    result = reference.entry_write_formula(data, 10 ** 6)
+    if result[0] != "refused":
+        yield "words", "words %s %d" % (row(data), 10 ** 6), written(data, 10 ** 6)
+        yield "short", "words %s %d" % (row(data), result[3] - 1), written(data, result[3] - 1)
+        book = reference.read_book(data)
+        yield "text", "printed %s" % row(data), [0] + list(reference.dimacs(book))
+        for _ in range(2):
+            borders = [n for n in range(len(book.nodes)) if rng.random() < 0.4]
+            yield "sections", "grouped %s %s" % (row(data), row(borders)), grouped(data, borders)
+
+
+def input_questions(rng, data, book, each):
+    """Assignments, plans and refutations for a book that passes, with room enough or one entry short."""
+    variables, clauses = reference.formula(book)
+    plan_length = reference.plan_length(book)
+    for s in list(samples.random_assignments(rng, book, each)):
+        n = plan_length - (rng.random() < 0.1)
+        yield "assignment", "decoding %s %s %d" % (row(data), row(s), n), answer_of(reference.entry_check_assignment(data, s, n))
+    for s in list(samples.random_plans(rng, book, each)):
+        n = variables - (rng.random() < 0.1)
+        yield "plan", "encoding %s %s %d" % (row(data), row(s), n), answer_of(reference.entry_check_plan(data, s, n))
+    words = reference.word_count(clauses)
+    for s in list(samples.random_refutations(rng, book, each)):
+        lent = [words + 400, len(clauses) + 60, variables, variables]
+        if rng.random() < 0.3:
+            which = rng.randrange(4)
+            lent[which] = [words + rng.randrange(8), len(clauses) + rng.randrange(3), variables, variables][which] - (rng.random() < 0.3)
+        asked = "refuting′ %s %s %d %d %d %d" % ((row(data), row(s)) + tuple(lent))
+        yield "refutation", asked, answer_of(reference.entry_check_refutation(data, s, *lent))
+
+
+def questions(rng, books):
+    for n in range(books):
+        damaged = n % 3 == 2
+        data = samples.damaged_book(rng) if damaged else samples.random_book(rng, "tiny")
+        if len(data) > 900:
+            continue
+        yield from book_questions(rng, data)
+        try:
+            book = reference.read_book(data)
+        except reference.Refused:
+            continue
+        if len(reference.formula(book)[1]) < 700:
+            yield from input_questions(rng, data, book, 8)
+
+
+def tables(asked):
+    """The questions, cut into tables of a bounded size."""
+    table, size = [], 0
+    for q in asked:
+        if table and size + len(q[1]) + 8 * len(q[2]) > TABLE_SIZE:
+            yield table
+            table, size = [], 0
+        table.append(q)
+        size += len(q[1]) + 8 * len(q[2])
+    if table:
+        yield table
+
+
+def module_text(table):
+    bring, unfold = names_of_specs()
+    lines = ["-- questions"] + bring + [PRELUDE, "table : List Case", "table ="]
+    lines += ["    record { asked = %s; answer = %s } ∷" % (asked, row(answer)) for _, asked, answer in table]
+    lines += ["    []", "", "agree : failing 0 table ≡ []"]
+    lines += ["unfolding", "    table " + HELPERS, "    " + " ".join(unfold), "agree = refl", ""]
+    return "\n".join(lines)
+
+
+def run_tables(asked):
+    """Lay the crates out in a scratch folder, check them, and return the questions on which the two differ."""
+    scratch = tempfile.mkdtemp(prefix="compare")
+    crates = os.path.join(scratch, "crates")
+    shutil.copytree(os.path.join(ROOT, "crates", "spec"), os.path.join(crates, "spec"))
+    wrong, broken = [], []
+    cut = list(tables(asked))
+    for n, table in enumerate(cut):
+        folder = os.path.join(crates, "probe")
+        shutil.rmtree(folder, ignore_errors=True)
+        os.makedirs(os.path.join(folder, "src"))
+        os.makedirs(os.path.join(folder, "specs"))
+        open(os.path.join(folder, "src", "lib.rt"), "w").write("// Questions only.\n")
+        open(os.path.join(folder, "specs", "Lib.antt"), "w").write("pub mod Questions\n")
+        open(os.path.join(folder, "specs", "Questions.antt"), "w").write(module_text(table))
+        open(os.path.join(scratch, "crates.txt"), "w").write("spec:\nprobe: spec\n")
+        done = subprocess.run(["rt", "dev", "probe"], cwd=scratch, capture_output=True, text=True)
+        if done.returncode == 0:
+            continue
+        found = re.search(r"failing 0 table.*?computed: .*?((?:\d+ ∷ )+)\[\]|((?:\d+ ∷ )+)\[\]", done.stdout + done.stderr)
+        if found:
+            wrong += [table[int(i)] for i in re.findall(r"\d+", found.group(1) or found.group(2))]
+        else:
+            broken.append((n, (done.stdout + done.stderr)[-3000:]))
+    shutil.rmtree(scratch)
+    return wrong, broken, len(cut)
+
+
+def main(arguments):
+    seed, books = int(arguments[0]), int(arguments[1])
+    asked = list(questions(random.Random(seed), books))
+    wrong, broken, count = run_tables(asked)
+    kinds = Counter(kind for kind, _, _ in asked)
+    refusals = Counter(answer[0] for _, _, answer in asked)
+    print("seed %d: %d questions in %d tables" % (seed, len(asked), count))
+    print("  by kind:", ", ".join("%s %d" % kv for kv in sorted(kinds.items())))
+    print("  by answer (0 is accepted):", ", ".join("%d: %d" % kv for kv in sorted(refusals.items())))
+    for kind, question, answer in wrong:
+        print("DIFFER %s: %s\n    reference: %s" % (kind, question, answer))
+    for n, text in broken:
+        print("NOT DECIDED table %d:\n%s" % (n, text))
+    print("%d differ, %d tables not decided" % (len(wrong), len(broken)))
+    return 1 if wrong or broken else 0
+
+
+if __name__ == "__main__":
+    sys.exit(main(sys.argv[1:]))

@@ -1,0 +1,879 @@
+#!/usr/bin/env python3
+"""A plain reference of document 01: book, plan, formula, verdict.
+
+Every function states sentences of document 01 as simply as it can.  Nothing
+here is fast on purpose; the only care taken is that no input can make a
+listing explode.
+"""
+
+import sys
+from collections import namedtuple
+
+ABSENT = 65534
+GONE = 65535
+
+# "Head ... Node ... Segment ... Join ... Train ... Call ... Unbreakable ... End"
+HEAD, NODE, SEGMENT, JOIN, TRAIN, CALL, UNBREAKABLE, END = range(1, 9)
+
+# "payload length belong to the kind"; a train has n more bytes than this.
+PAYLOAD = {HEAD: 5, NODE: 1, SEGMENT: 3, JOIN: 3, TRAIN: 6, CALL: 4,
+           UNBREAKABLE: 1, END: 0}
+
+# "At most 96 ... 64 ... 128 ... 8", "one to four a train", "at most 256 a train"
+MOST_NODES, MOST_SEGMENTS, MOST_JOINS, MOST_TRAINS = 96, 64, 128, 8
+MOST_CALLS, MOST_RUNS = 4, 256
+
+# "A file of frames ... of kind 20"
+STEP = 20
+
+# "they lend at most 64 KiB a slice"
+LENT_BYTES = 65536
+LENT_WORDS = LENT_BYTES // 4
+LENT_CLAUSES = LENT_BYTES // 8
+LENT_VALUES = LENT_BYTES
+LENT_TRAIL = LENT_BYTES // 8
+
+
+class Refused(Exception):
+    """A refusal: "A refusal returns its number and a detail"."""
+
+    def __init__(self, number, detail=0):
+        super().__init__(number, detail)
+        self.number = number
+        self.detail = detail
+
+
+class Train:
+    """One train: its fields, l and k, and its calls in file order."""
+
+    def __init__(self, length, speed, departure, place, l, k):
+        self.length = length
+        self.speed = speed
+        self.departure = departure
+        self.place = place
+        self.l = l
+        self.k = k
+        self.calls = []
+
+    def goal(self):
+        """Text: "the train's last call in the file is its goal": its segment."""
+        return self.calls[-1][0]
+
+
+class Book:
+    """What the frames say; "numbers from 0 in file order"."""
+
+    def __init__(self):
+        self.rs = self.rt = self.T = 0
+        self.nodes = []
+        self.segments = []
+        self.joins = []
+        self.trains = []
+        self.unbreakable = []
+        self.runs = []
+        self.joined = set()     # (node, lower segment, higher segment)
+
+
+def refuse_if(condition, number, detail=0):
+    if condition:
+        raise Refused(number, detail)
+
+
+def two_bytes(data, at):
+    return int.from_bytes(data[at:at + 2], "little")
+
+
+def rounded_up(a, b):
+    return -(-a // b)
+
+
+# ---------------------------------------------------------------- the book
+
+
+def read_book(data):
+    """Frames in file order, each by rising number; then the book."""
+    book = Book()
+    at, last = 0, None
+    while last != END:
+        refuse_if(len(data) - at < 4, 1)
+        length, kind = two_bytes(data, at), two_bytes(data, at + 2)
+        refuse_if(at + 4 + length > len(data), 1)
+        payload = data[at + 4:at + 4 + length]
+        at += 4 + length
+        refuse_if(not HEAD <= kind <= END, 2)
+        refuse_if(out_of_order(last, kind), 3)
+        refuse_if(kind == END and at < len(data), 3)
+        refuse_if(length != payload_length(kind, payload), 4)
+        if kind != END:
+            TAKE[kind](book, payload)
+        last = kind
+    finish_book(book)
+    return book
+
+
+def out_of_order(last, kind):
+    """Text: "first not Head, second Head, kind gone down"."""
+    if last is None:
+        return kind != HEAD
+    return kind == HEAD or kind < last
+
+
+def payload_length(kind, payload):
+    """The length the kind asks for; of a train "count n, then n directed"."""
+    if kind == TRAIN and len(payload) >= PAYLOAD[TRAIN]:
+        return PAYLOAD[TRAIN] + payload[5]
+    return PAYLOAD[kind]
+
+
+def take_head(book, p):
+    """Text: "rs, rt at least 1; T 1 to 32"."""
+    book.rs, book.rt, book.T = two_bytes(p, 0), two_bytes(p, 2), p[4]
+    refuse_if(book.rs < 1 or book.rt < 1 or not 1 <= book.T <= 32, 6)
+
+
+def take_node(book, p):
+    """Text: "border kind, 0 never, 1 may be set, 2 always set. At most 96"."""
+    refuse_if(len(book.nodes) == MOST_NODES, 5)
+    refuse_if(p[0] > 2, 6)
+    book.nodes.append(p[0])
+
+
+def take_segment(book, p):
+    """Text: "node a, node b (different), TTD 0 to 63. At most 64"."""
+    a, b, ttd = p
+    refuse_if(len(book.segments) == MOST_SEGMENTS, 5)
+    refuse_if(a >= len(book.nodes) or b >= len(book.nodes), 6)
+    refuse_if(a == b or ttd > 63, 6)
+    book.segments.append((a, b, ttd))
+
+
+def take_join(book, p):
+    """Text: "node, two different segments touching it", "a pair at one node
+    stands once, in either order"."""
+    node, s1, s2 = p
+    refuse_if(len(book.joins) == MOST_JOINS, 5)
+    refuse_if(node >= len(book.nodes), 6)
+    refuse_if(max(s1, s2) >= len(book.segments) or s1 == s2, 6)
+    refuse_if(not touches(book, s1, node) or not touches(book, s2, node), 6)
+    pair = (node, min(s1, s2), max(s1, s2))
+    refuse_if(pair in book.joined, 6)
+    book.joined.add(pair)
+    book.joins.append((node, s1, s2))
+
+
+def take_train(book, p):
+    """The train's fields, then l and k, then its row."""
+    length, speed, departure = two_bytes(p, 0), two_bytes(p, 2), p[4]
+    place = list(p[6:])
+    refuse_if(len(book.trains) == MOST_TRAINS, 5)
+    refuse_if(length < 1 or departure >= book.T, 6)
+    refuse_if(any(x // 2 >= len(book.segments) for x in place), 6)
+    # "l is length/rs rounded up", "k is speed x rt x 5 / (18 x rs) rounded
+    # down. Both are 1 to 8."
+    l = rounded_up(length, book.rs)
+    k = speed * book.rt * 5 // (18 * book.rs)
+    refuse_if(not 1 <= l <= 8 or not 1 <= k <= 8, 7)
+    refuse_if(len(place) != l or not is_path(book, place), 8)
+    book.trains.append(Train(length, speed, departure, place, l, k))
+
+
+def take_call(book, p):
+    """Text: "train, segment, first, last, with first <= last <= T. One to four"."""
+    train, segment, first, last = p
+    known = train < len(book.trains)
+    refuse_if(known and len(book.trains[train].calls) == MOST_CALLS, 5)
+    refuse_if(not known or segment >= len(book.segments), 6)
+    refuse_if(not first <= last <= book.T, 6)
+    book.trains[train].calls.append((segment, first, last))
+
+
+def take_unbreakable(book, p):
+    """Text: "a TTD that some segment has. A repeat is allowed"; then "unbreakable
+    TTD with two segments at a node of kind 1 or 2"."""
+    ttd = p[0]
+    refuse_if(all(t != ttd for _, _, t in book.segments), 6)
+    for node, kind in enumerate(book.nodes):
+        there = [s for s in segments_at(book, node)
+                 if book.segments[s][2] == ttd]
+        refuse_if(kind in (1, 2) and len(there) >= 2, 9)
+    book.unbreakable.append(ttd)
+
+
+TAKE = {HEAD: take_head, NODE: take_node, SEGMENT: take_segment,
+        JOIN: take_join, TRAIN: take_train, CALL: take_call,
+        UNBREAKABLE: take_unbreakable}
+
+
+def finish_book(book):
+    """Text: "no train, or one without a call"; then "over 256 runs"."""
+    refuse_if(not book.trains or any(not t.calls for t in book.trains), 10)
+    for train in book.trains:
+        runs = list_runs(book, train)
+        refuse_if(len(runs) > MOST_RUNS, 11)
+        book.runs.append(runs)
+
+
+# ------------------------------------------------------- paths and the runs
+
+
+def touches(book, segment, node):
+    return node in book.segments[segment][:2]
+
+
+def segments_at(book, node):
+    return [s for s in range(len(book.segments)) if touches(book, s, node)]
+
+
+def begin_of(book, directed):
+    """Text: "Directed segment 2s runs from a to b of segment s, 2s+1 from b to a"."""
+    return book.segments[directed // 2][directed % 2]
+
+
+def end_of(book, directed):
+    return book.segments[directed // 2][1 - directed % 2]
+
+
+def follows(book, x, y):
+    """Text: "each ending where the next begins, with a join of the two there"."""
+    node = end_of(book, x)
+    low, high = sorted((x // 2, y // 2))
+    return begin_of(book, y) == node and (node, low, high) in book.joined
+
+
+def is_path(book, row):
+    """Text: "a row of directed segments, all on different segments ..."."""
+    different = len({x // 2 for x in row}) == len(row)
+    return different and all(follows(book, x, y) for x, y in zip(row, row[1:]))
+
+
+def list_runs(book, train):
+    """Text: "listed by j, then by their directed numbers in dictionary order".
+    The listing stops once it has passed 256."""
+    directed = range(2 * len(book.segments))
+    after = [[y for y in directed if follows(book, x, y)] for x in directed]
+    runs = []
+    for j in range(train.k + 1):
+        for x in directed:
+            extend([x], train.l + j - 1, after, runs)
+    return runs
+
+
+def extend(path, missing, after, runs):
+    """Text: "each path extended one segment at a time until its length is met"."""
+    if len(runs) > MOST_RUNS:
+        return
+    if missing == 0:
+        runs.append(list(path))
+        return
+    used = {x // 2 for x in path}
+    for y in after[path[-1]]:
+        if y // 2 not in used:
+            extend(path + [y], missing - 1, after, runs)
+
+
+def start_place(train, run):
+    """Text: "it starts at its first l"."""
+    return run[:train.l]
+
+
+def end_place(train, run):
+    """Text: "and ends at its last l"."""
+    return run[-train.l:]
+
+
+def holds(place, segment):
+    return any(x // 2 == segment for x in place)
+
+
+# ------------------------------------------------------------ the sections
+
+
+def sections(book, borders):
+    """For each segment the sorted list of those together with it: "a chain of
+    segments of that TTD links them, neighbours sharing a node that is no
+    border"."""
+    together = []
+    for s in range(len(book.segments)):
+        reached, waiting = {s}, [s]
+        while waiting:
+            x = waiting.pop()
+            for y in range(len(book.segments)):
+                if y not in reached and neighbours(book, borders, x, y):
+                    reached.add(y)
+                    waiting.append(y)
+        together.append(sorted(reached))
+    return together
+
+
+def neighbours(book, borders, x, y):
+    """Of one TTD and "sharing a node that is no border"."""
+    a, b, ttd = book.segments[x]
+    if book.segments[y][2] != ttd:
+        return False
+    return any(touches(book, y, node) and not borders[node] for node in (a, b))
+
+
+# ---------------------------------------------------------- the plan rules
+
+
+def broken_rule(book, borders, moves):
+    """0, or the least of the six plan rules that the plan breaks."""
+    rules = (keeps_rule_1, keeps_rule_2, keeps_rule_3, keeps_rule_4,
+             keeps_rule_5, keeps_rule_6)
+    for number, keeps in enumerate(rules, 1):
+        if not keeps(book, borders, moves):
+            return number
+    return 0
+
+
+def keeps_rule_1(book, borders, moves):
+    """Text: "Borders respect their kinds"."""
+    return all((kind, border) not in ((0, 1), (2, 0))
+               for kind, border in zip(book.nodes, borders))
+
+
+def run_in(book, moves, tr, i):
+    """The run of train tr in interval i, or None for absent and gone."""
+    move = moves[tr][i]
+    return None if move in (ABSENT, GONE) else book.runs[tr][move]
+
+
+def keeps_rule_2(book, borders, moves):
+    """Text: "Absent exactly in intervals before d; a run from the given place in
+    interval d"."""
+    for tr, train in enumerate(book.trains):
+        d = train.departure
+        for i in range(book.T):
+            if (moves[tr][i] == ABSENT) != (i < d):
+                return False
+        run = run_in(book, moves, tr, d)
+        if run is None or start_place(train, run) != train.place:
+            return False
+    return True
+
+
+def keeps_rule_3(book, borders, moves):
+    """Text: "Gone only after d, after gone or after a run whose end place contains
+    the goal's segment. After gone, gone"."""
+    for tr, train in enumerate(book.trains):
+        for i in range(book.T):
+            if i > 0 and moves[tr][i - 1] == GONE and moves[tr][i] != GONE:
+                return False
+            if moves[tr][i] == GONE and not may_be_gone(book, moves, tr, i):
+                return False
+    return True
+
+
+def may_be_gone(book, moves, tr, i):
+    train = book.trains[tr]
+    if i <= train.departure:
+        return False
+    before = run_in(book, moves, tr, i - 1)
+    if before is None:
+        return moves[tr][i - 1] == GONE
+    return holds(end_place(train, before), train.goal())
+
+
+def keeps_rule_4(book, borders, moves):
+    """Text: "A run after a run starts at the place where that one ended"."""
+    for tr, train in enumerate(book.trains):
+        for i in range(1, book.T):
+            before = run_in(book, moves, tr, i - 1)
+            run = run_in(book, moves, tr, i)
+            if before is None or run is None:
+                continue
+            if start_place(train, run) != end_place(train, before):
+                return False
+    return True
+
+
+def place_at(book, moves, tr, t):
+    """Text: "At time d its place is the given one; at time t > d it is the end of
+    the run of interval t - 1, if there was one"."""
+    train = book.trains[tr]
+    if t == train.departure:
+        return train.place
+    if t < train.departure:
+        return []
+    run = run_in(book, moves, tr, t - 1)
+    return [] if run is None else end_place(train, run)
+
+
+def keeps_rule_5(book, borders, moves):
+    """Text: "Each call: at some time from first to last the train's place contains
+    the segment"."""
+    for tr, train in enumerate(book.trains):
+        for segment, first, last in train.calls:
+            if not any(holds(place_at(book, moves, tr, t), segment)
+                       for t in range(first, last + 1)):
+                return False
+    return True
+
+
+def keeps_rule_6(book, borders, moves):
+    """Text: "In each interval no section holds segments of two trains' runs"."""
+    together = sections(book, borders)
+    for i in range(book.T):
+        holder = {}
+        for tr in range(len(book.trains)):
+            for s in touched(together, run_in(book, moves, tr, i)):
+                if holder.setdefault(s, tr) != tr:
+                    return False
+    return True
+
+
+def touched(together, run):
+    """The segments of the sections that a run touches."""
+    return sorted({s for x in run or [] for s in together[x // 2]})
+
+
+# ------------------------------------------------------------- the formula
+
+
+class Variables:
+    """Text: "node borders 1 to N; then by train and interval: its runs, gone, and
+    one claim a segment"."""
+
+    def __init__(self, book):
+        self.runs = [len(runs) for runs in book.runs]
+        self.bases = []
+        following = len(book.nodes) + 1
+        for count in self.runs:
+            width = count + 1 + len(book.segments)
+            self.bases.append((following, width))
+            following += book.T * width
+        self.count = following - 1
+
+    def border(self, node):
+        return node + 1
+
+    def run(self, tr, i, r):
+        base, width = self.bases[tr]
+        return base + i * width + r
+
+    def gone(self, tr, i):
+        return self.run(tr, i, self.runs[tr])
+
+    def claim(self, tr, i, segment):
+        return self.run(tr, i, self.runs[tr] + 1 + segment)
+
+
+def each_clause(book):
+    """The clauses, "families outermost"."""
+    v = Variables(book)
+    families = (family_a, family_b, family_c, family_d, family_e, family_f,
+                family_g, family_h, family_i)
+    for family in families:
+        yield from family(book, v)
+
+
+def family_a(book, v):
+    """Text: "kind 0: not border; kind 2: border"."""
+    for node, kind in enumerate(book.nodes):
+        if kind == 0:
+            yield [-v.border(node)]
+        if kind == 2:
+            yield [v.border(node)]
+
+
+def family_b(book, v):
+    """Text: "before d: no run, not gone"."""
+    for tr, train in enumerate(book.trains):
+        for i in range(train.departure):
+            for r in range(len(book.runs[tr])):
+                yield [-v.run(tr, i, r)]
+            yield [-v.gone(tr, i)]
+
+
+def family_c(book, v):
+    """Text: "from d on: some run or gone; then no two (pairs in order)"."""
+    for tr, train in enumerate(book.trains):
+        for i in range(train.departure, book.T):
+            moves = [v.run(tr, i, r) for r in range(len(book.runs[tr]))]
+            moves.append(v.gone(tr, i))
+            yield moves
+            for at, x in enumerate(moves):
+                for y in moves[at + 1:]:
+                    yield [-x, -y]
+
+
+def family_d(book, v):
+    """Text: "interval d: not a run that starts elsewhere; not gone"."""
+    for tr, train in enumerate(book.trains):
+        d = train.departure
+        for r, run in enumerate(book.runs[tr]):
+            if start_place(train, run) != train.place:
+                yield [-v.run(tr, d, r)]
+        yield [-v.gone(tr, d)]
+
+
+def family_e(book, v):
+    """Text: "after d: each run of the interval before implies a run starting at its
+    end, in list order, or, last, gone if its end contains the goal; then gone
+    implies gone"."""
+    for tr, train in enumerate(book.trains):
+        starts = [start_place(train, run) for run in book.runs[tr]]
+        ends = [end_place(train, run) for run in book.runs[tr]]
+        nexts = [[q for q, start in enumerate(starts) if start == end]
+                 for end in ends]
+        for i in range(train.departure + 1, book.T):
+            for r, end in enumerate(ends):
+                clause = [-v.run(tr, i - 1, r)]
+                clause += [v.run(tr, i, q) for q in nexts[r]]
+                if holds(end, train.goal()):
+                    clause.append(v.gone(tr, i))
+                yield clause
+            yield [-v.gone(tr, i - 1), v.gone(tr, i)]
+
+
+def family_f(book, v):
+    """Text: "each call, by train, then in file order: the runs of rule 5, by time;
+    no clause if d is from first to last and the place at d serves"."""
+    for tr, train in enumerate(book.trains):
+        d = train.departure
+        for segment, first, last in train.calls:
+            if first <= d <= last and holds(train.place, segment):
+                continue
+            serving = [r for r, run in enumerate(book.runs[tr])
+                       if holds(end_place(train, run), segment)]
+            times = range(max(first, d + 1), last + 1)
+            yield [v.run(tr, t - 1, r) for t in times for r in serving]
+
+
+def family_g(book, v):
+    """Text: "a run implies the claim of each of its segments, in path order", "in
+    every interval"."""
+    for tr in range(len(book.trains)):
+        for i in range(book.T):
+            for r, run in enumerate(book.runs[tr]):
+                for x in run:
+                    yield [-v.run(tr, i, r), v.claim(tr, i, x // 2)]
+
+
+def family_h(book, v):
+    """Text: "by node, then ordered pair of segments of one TTD there: claim of the
+    first implies border or claim of the second", "in every interval"."""
+    pairs = [(node, x, y) for node in range(len(book.nodes))
+             for x in segments_at(book, node) for y in segments_at(book, node)
+             if x != y and book.segments[x][2] == book.segments[y][2]]
+    for tr in range(len(book.trains)):
+        for i in range(book.T):
+            for node, x, y in pairs:
+                yield [-v.claim(tr, i, x), v.border(node), v.claim(tr, i, y)]
+
+
+def family_i(book, v):
+    """Text: "by interval, train pair, segment: not both claims"."""
+    count = len(book.trains)
+    pairs = [(x, y) for x in range(count) for y in range(x + 1, count)]
+    for i in range(book.T):
+        for x, y in pairs:
+            for s in range(len(book.segments)):
+                yield [-v.claim(x, i, s), -v.claim(y, i, s)]
+
+
+def formula(book):
+    """The number of variables and the whole list of clauses."""
+    return Variables(book).count, list(each_clause(book))
+
+
+def word_count(clauses):
+    """Text: "each clause closed by 0, which counts as a word"."""
+    return sum(len(clause) + 1 for clause in clauses)
+
+
+def dimacs(book):
+    """Text: "variables and clauses in the header, one clause a line"."""
+    variables, clauses = formula(book)
+    lines = ["p cnf %d %d\n" % (variables, len(clauses))]
+    for clause in clauses:
+        lines.append("".join("%d " % x for x in clause) + "0\n")
+    return "".join(lines).encode("ascii")
+
+
+def lent_formula(book, words_len, clauses_len=None):
+    """The clauses, or 12 as soon as they pass what is lent for them."""
+    clauses, words = [], 0
+    for clause in each_clause(book):
+        clauses.append(clause)
+        words += len(clause) + 1
+        refuse_if(words > words_len, 12)
+        refuse_if(clauses_len is not None and len(clauses) > clauses_len, 12)
+    return clauses
+
+
+# ------------------------------------------------------ assignment and plan
+
+
+def is_true(assignment, literal):
+    return assignment[abs(literal) - 1] == (1 if literal > 0 else 0)
+
+
+def plan_length(book):
+    """Text: "one byte a node, then, by train and interval, two bytes"."""
+    return len(book.nodes) + 2 * len(book.trains) * book.T
+
+
+def decode(book, assignment):
+    """Text: "its border bytes, then by train and interval the number of the run
+    whose variable is 1, 65535 where gone is 1, 65534 where neither is"."""
+    v = Variables(book)
+    plan = bytearray(assignment[:len(book.nodes)])
+    for tr in range(len(book.trains)):
+        for i in range(book.T):
+            value = GONE if is_true(assignment, v.gone(tr, i)) else ABSENT
+            for r in reversed(range(len(book.runs[tr]))):
+                if is_true(assignment, v.run(tr, i, r)):
+                    value = r
+            plan += value.to_bytes(2, "little")
+    return bytes(plan)
+
+
+def read_plan(book, plan):
+    """The borders and the moves; 15 is "length or a value wrong"."""
+    refuse_if(len(plan) != plan_length(book), 15)
+    borders = list(plan[:len(book.nodes)])
+    refuse_if(any(b > 1 for b in borders), 15)
+    moves, at = [], len(book.nodes)
+    for tr in range(len(book.trains)):
+        row = [two_bytes(plan, at + 2 * i) for i in range(book.T)]
+        refuse_if(any(len(book.runs[tr]) <= x < ABSENT for x in row), 15)
+        moves.append(row)
+        at += 2 * book.T
+    return borders, moves
+
+
+def write_assignment(book, borders, moves):
+    """Text: "A plan's assignment claims exactly the sections its runs touch"."""
+    v = Variables(book)
+    together = sections(book, borders)
+    assignment = bytearray(v.count)
+    assignment[:len(borders)] = bytes(borders)
+    for tr in range(len(book.trains)):
+        for i in range(book.T):
+            move = moves[tr][i]
+            if move == GONE:
+                assignment[v.gone(tr, i) - 1] = 1
+            elif move != ABSENT:
+                assignment[v.run(tr, i, move) - 1] = 1
+            for s in touched(together, run_in(book, moves, tr, i)):
+                assignment[v.claim(tr, i, s) - 1] = 1
+    return bytes(assignment)
+
+
+# ----------------------------------------------------------- the refutation
+
+Step = namedtuple("Step", "literals hints")
+
+
+class Lent:
+    """The clauses that hints may name, and how much is lent for them."""
+
+    def __init__(self, book, words_len, clauses_len):
+        self.clauses = lent_formula(book, words_len, clauses_len)
+        self.words = word_count(self.clauses)
+        self.words_len = words_len
+        self.clauses_len = clauses_len
+
+    def add(self, literals):
+        """Text: "each proved step adds its own behind them"; 12 if it cannot."""
+        refuse_if(self.words + len(literals) + 1 > self.words_len, 12)
+        refuse_if(len(self.clauses) + 1 > self.clauses_len, 12)
+        self.words += len(literals) + 1
+        self.clauses.append(literals)
+
+
+def check_steps(variables, lent, data):
+    """The steps in file order, up to the empty one at the file's end."""
+    at, number, ended = 0, 0, False
+    while at < len(data):
+        refuse_if(ended, 21)
+        number += 1
+        step, at = read_step(data, at, number)
+        check_literals(variables, step, number)
+        own = len(lent.clauses) + 1
+        refuse_if(any(not 1 <= h < own for h in step.hints), 19, number)
+        # 12 "comes after 19, with the step's words and clause added"; its own
+        # clause is not one that its hints may name, so adding it now is safe.
+        lent.add(step.literals)
+        refuse_if(not proves(lent.clauses, step), 20, number)
+        ended = not step.literals
+    refuse_if(not ended, 21)
+
+
+def read_step(data, at, number):
+    """Text: "frame cut, kind not 20, payload not 2 + 4n + 4h"."""
+    refuse_if(len(data) - at < 4, 17, number)
+    length, kind = two_bytes(data, at), two_bytes(data, at + 2)
+    refuse_if(at + 4 + length > len(data), 17, number)
+    refuse_if(kind != STEP, 17, number)
+    payload = data[at + 4:at + 4 + length]
+    refuse_if(length < 2, 17, number)
+    hints_at = 2 + 4 * two_bytes(payload, 0)
+    refuse_if(length < hints_at or (length - hints_at) % 4 != 0, 17, number)
+    literals = [int.from_bytes(payload[x:x + 4], "little", signed=True)
+                for x in range(2, hints_at, 4)]
+    hints = [int.from_bytes(payload[x:x + 4], "little")
+             for x in range(hints_at, length, 4)]
+    return Step(literals, hints), at + 4 + length
+
+
+def check_literals(variables, step, number):
+    """Text: "literal 0, unknown or not rising"."""
+    before = 0
+    for literal in step.literals:
+        variable = abs(literal)
+        refuse_if(not 1 <= variable <= variables, 18, number)
+        refuse_if(variable <= before, 18, number)
+        before = variable
+
+
+def proves(clauses, step):
+    """The step rule, hint by hint."""
+    # "take each literal of the step false, every other variable open"
+    true = {-literal for literal in step.literals}
+    for at, hint in enumerate(step.hints):
+        not_false = [x for x in clauses[hint - 1] if -x not in true]
+        if not not_false:
+            # "must be the last and proves the step"
+            return at == len(step.hints) - 1
+        if len(not_false) > 1 or not_false[0] in true:
+            # "every other hint refutes nothing, and the step is refused there"
+            return False
+        # "a single literal not false, and that one open, makes it true"
+        true.add(not_false[0])
+    # "a step whose hints run out unproved is refused too"
+    return False
+
+
+# --------------------------------------------------------- the entry points
+
+
+def verdict(check):
+    """What a check returns, or its refusal."""
+    try:
+        return ("accepted",) + tuple(check())
+    except Refused as refused:
+        return ("refused", refused.number, refused.detail)
+
+
+def entry_read_book(book_bytes):
+    def check():
+        read_book(book_bytes)
+        return ()
+    return verdict(check)
+
+
+def entry_write_formula(book_bytes, words_len):
+    def check():
+        book = read_book(book_bytes)
+        clauses = lent_formula(book, words_len)
+        words = [x for clause in clauses for x in clause + [0]]
+        return Variables(book).count, len(clauses), len(words), words
+    return verdict(check)
+
+
+def entry_check_assignment(book_bytes, assignment_bytes, plan_len):
+    def check():
+        book = read_book(book_bytes)
+        refuse_if(plan_len < plan_length(book), 12)
+        refuse_if(len(assignment_bytes) != Variables(book).count, 13)
+        refuse_if(any(x > 1 for x in assignment_bytes), 13)
+        # "the least false clause for 14", clauses counted from 1
+        for number, clause in enumerate(each_clause(book), 1):
+            if not any(is_true(assignment_bytes, x) for x in clause):
+                raise Refused(14, number)
+        return (decode(book, assignment_bytes),)
+    return verdict(check)
+
+
+def entry_check_plan(book_bytes, plan_bytes, assignment_len):
+    def check():
+        book = read_book(book_bytes)
+        refuse_if(assignment_len < Variables(book).count, 12)
+        borders, moves = read_plan(book, plan_bytes)
+        rule = broken_rule(book, borders, moves)
+        refuse_if(rule != 0, 16, rule)
+        return (write_assignment(book, borders, moves),)
+    return verdict(check)
+
+
+def entry_check_refutation(book_bytes, refutation_bytes, words_len,
+                           clauses_len, values_len, trail_len):
+    def check():
+        book = read_book(book_bytes)
+        variables = Variables(book).count
+        refuse_if(min(values_len, trail_len) < variables, 12)
+        lent = Lent(book, words_len, clauses_len)
+        check_steps(variables, lent, refutation_bytes)
+        return ()
+    return verdict(check)
+
+
+# ------------------------------------------------------------- the programs
+
+
+def print_formula(book_bytes):
+    """The formula in DIMACS, or the line of the refusal."""
+    answer = longer_input(book_bytes)
+    answer = answer or entry_write_formula(book_bytes, LENT_WORDS)
+    if answer[0] == "accepted":
+        return dimacs(read_book(book_bytes))
+    return verdict_line(answer)
+
+
+def longer_input(*inputs):
+    """Text: "refuse longer input by 12 first"."""
+    if any(len(x) > LENT_BYTES for x in inputs):
+        return ("refused", 12, 0)
+    return None
+
+
+def verdict_line(answer):
+    """Text: "the word accepted on a line"; "its number, a blank and its detail"."""
+    if answer[0] == "accepted":
+        return b"accepted\n"
+    return b"%d %d\n" % answer[1:]
+
+
+def check_two(name, book_bytes, second):
+    """The verdict of one of the three checking programs."""
+    answer = longer_input(book_bytes, second)
+    if answer:
+        return answer
+    if name == "check_assignment":
+        return entry_check_assignment(book_bytes, second, LENT_BYTES)
+    if name == "check_plan":
+        return entry_check_plan(book_bytes, second, LENT_BYTES)
+    return entry_check_refutation(book_bytes, second, LENT_WORDS,
+                                  LENT_CLAUSES, LENT_VALUES, LENT_TRAIL)
+
+
+def read_file(name):
+    with open(name, "rb") as file:
+        return file.read()
+
+
+def main(arguments):
+    usage = ("usage: print_formula < BOOK | check_assignment BOOK ASSIGNMENT "
+             "[PLAN] | check_plan BOOK PLAN [ASSIGNMENT] | check_refutation "
+             "BOOK REFUTATION")
+    names = ("check_assignment", "check_plan", "check_refutation")
+    if arguments == ["print_formula"]:
+        sys.stdout.buffer.write(print_formula(sys.stdin.buffer.read()))
+        return 0
+    if not arguments or arguments[0] not in names:
+        sys.exit(usage)
+    most = 3 if arguments[0] == "check_refutation" else 4
+    if not 3 <= len(arguments) <= most:
+        sys.exit(usage)
+    answer = check_two(arguments[0], *map(read_file, arguments[1:3]))
+    if len(arguments) == 4 and answer[0] == "accepted":
+        with open(arguments[3], "wb") as file:
+            file.write(answer[1])
+    sys.stdout.buffer.write(verdict_line(answer))
+    return 0
+
+
+if __name__ == "__main__":
+    sys.exit(main(sys.argv[1:]))
