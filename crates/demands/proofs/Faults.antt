@@ -32,6 +32,7 @@ first-none (f ∷ fs) e = go (f .holds) e (first-none fs)
     go true e rest = let z : _≡_ {A = ℕ} 0 1 = cc in omega arith
     go false e rest = rest e
 
+-- and back
 pub clear-first : (fs : List Fault) → T (all passes fs) → firstFault fs ≡ none
 unfolding firstFault all passes
 clear-first [] h = refl
@@ -55,6 +56,7 @@ first-some n (f ∷ fs) e = go (f .holds) refl e (first-some n fs)
         { before = f ∷ r .before; after = r .after; split = ap {B = List Fault} (λ fs. f ∷ fs) (r .split)
         ; clear = and-iff (not (f .holds)) (all passes (r .before)) .1 (from-denied t, r .clear) }
 
+-- and back
 pub holds-first : (n : ℕ) (fs : List Fault) → FirstHolds n fs → firstFault fs ≡ some n
 unfolding firstFault all passes
 holds-first n fs h = rw (h .split) (go (h .before) (h .clear))

@@ -22,14 +22,10 @@ use Rattle.laws.proofs.Numbers.{bytes, length-littleEndian, field-written, litt
 use Rattle.laws.proofs.Numbers.{unsigned-lt, signed-unsigned, mag-signed, unsigned-signed}
 use Rattle.laws.proofs.Frames.{payloadLength-lt, length-payloadOf, bytes-payloadOf, bytes-behind, frame-read}
 use Rattle.laws.proofs.Frames.{payloadOf-frame, kindField-frame, behind-frame, whole-frame}
+use Rattle.laws.proofs.Parts.{each-append, length-count}
 use Rattle.demands.proofs.Refuting.{stepAt, Passes, Accepts, lastStep, moreSteps, accept-to, accept-from, rule-iff}
 
 -- ---- rows of four-byte fields
-
-length-count : (n a : ℕ) → length (count a n) ≡ n
-unfolding count
-length-count zero a = refl
-length-count (suc n) a = ap suc (length-count n (suc a))
 
 -- values, each in four bytes as the number that `code` gives
 writeRow : {A : Type 0} → (A → ℕ) → List A → Bytes
@@ -49,7 +45,7 @@ module _ {A : Type 0} (read : ℕ → A) (code : A → ℕ) where
 
   length-readRow : (p : Bytes) (at k n : ℕ) → length (readRow read p at k n) ≡ n
   unfolding readRow
-  length-readRow p at k n = length-map (count k n) _ ∙ length-count n k
+  length-readRow p at k n = length-map (count k n) _ ∙ length-count k n
 
   -- what is read is written as it stood
   write-read : (p : Bytes) (at k n : ℕ) → ((m : ℕ) → m < 256 ^ 4 → code (read m) ≡ m) → T (bytes p)
@@ -196,16 +192,11 @@ module _ (s : ProofStep) (f : InFields s) where
 
 -- ---- the lent slices
 
-each-append : {A B : Type 0} (f : A → List B) (xs ys : List A) → each (xs ++ ys) f ≡ each xs f ++ each ys f
-unfolding each
-each-append f [] ys = refl
-each-append f (x ∷ xs) ys = ap (λ (zs : List _). f x ++ zs) (each-append f xs ys) ∙ sym (append-assoc (f x) (each xs f) (each ys f))
-
 -- where clauses fit, the first of them do
 fits-prefix : (lent : Lent) (cs ds : List Clause) → T (clausesFit lent (cs ++ ds)) → T (clausesFit lent cs)
 unfolding clausesFit wordsOf
 fits-prefix lent cs ds h =
-    let p = simp (and-iff, leb-iff, each-append (λ c. c ++ one (pos 0)), length-append) at h in
+    let p = simp (and-iff, leb-iff, each-append, length-append) at h in
     simp (and-iff, leb-iff) (omega arith)
 
 -- ---- one step of a file

@@ -1,6 +1,6 @@
 -- The book as far as it was read: what holds of it (`Growing`), and that every frame without a fault keeps it, since what
 -- fitted the shorter book fits the longer one. Assumes nothing.
-use mathlib.Core.Path.{_≡_, refl, sym, ap, _∙_}
+use mathlib.Core.Path.{_≡_, refl, sym}
 use mathlib.Core.Logic.{_≢_, _↔_, inl}
 use mathlib.Core.Bool.{Bool, true, false, not, _&&_, _||_, Bool·not-not}
 use Prim.Native.Nat.{ℕ, suc, _+_, _*_, _/_, _≤_, _<_}
@@ -15,15 +15,10 @@ use Rattle.spec.specs.Numbers.{field}
 use Rattle.spec.specs.Frames.{Kind, headKind, nodeKind, segmentKind, joinKind, trainKind, callKind, unbreakableKind, endKind}
 use Rattle.spec.specs.Book.{Book, Segment, Join, Train, Call, noBook, segmentAt, callsOf, greatestNodeKind, startNode, endNode, segmentOf, joined, lengthInSegments, speedInSegments}
 use Rattle.spec.specs.Runs.{leadsTo, linked, isPath, runsOf}
-use Rattle.spec.specs.Read.{headOf, headFits, segmentFits, joinFits, joinRepeats, trainFits, reachFits, placeFits, callFits, contentFaults, add, bookFaults, joinsOnce, wellFormed, between, segmentIn, joinIn, trainIn, callIn}
+use Rattle.spec.specs.Read.{headOf, headFits, segmentFits, joinFits, joinRepeats, trainFits, reachFits, placeFits, callFits, contentFaults, add, bookFaults, joinsOnce, wellFormed, between}
 use Rattle.demands.proofs.Faults.{passes}
-use Rattle.laws.proofs.Tests.{and-iff, or-iff, ltb-iff, leb-iff, all-iff, all-upTo, from-true}
+use Rattle.laws.proofs.Tests.{and-iff, or-iff, ltb-iff, leb-iff, all-iff, all-upTo, from-true, neither-iff}
 use Rattle.laws.proofs.Rows.{all-append, any-append}
-
--- neither of two tests holds
-pub neither : (a b : Bool) → T (not (a || b)) ↔ (T (not a) × T (not b))
-neither true b = (λ h. absurd h, λ h. h .0)
-neither false b = (λ h. (tt, h), λ h. h .1)
 
 -- a number that is not above another is at most it
 not-above : (m n : ℕ) → T (not (ltb n m)) → T (leb m n)
@@ -37,6 +32,7 @@ data Starts {A : Type 0} (xs : List A) : List A → Type 0 where
   longer : (x : A) → Starts xs (xs ++ one x)
 
 module _ {A : Type 0} where
+  -- a row that grows is no shorter, keeps what stood in it, and passes what it passed
   starts-length : {xs ys : List A} → Starts xs ys → length xs ≤ length ys
   starts-length same = omega arith
   starts-length {xs} (longer x) = simp length-append (omega arith)
@@ -50,7 +46,7 @@ module _ {A : Type 0} where
   starts-any {xs} f (longer x) h = rw (any-append f xs (one x)) (or-iff (any f xs) (any f (one x)) .1 (inl h))
 
   -- one test implies another all along a row
-  all-weaken : (f g : A → Bool) (xs : List A) → ((x : A) → T (f x) → T (g x)) → T (all f xs) → T (all g xs)
+  pub all-weaken : (f g : A → Bool) (xs : List A) → ((x : A) → T (f x) → T (g x)) → T (all f xs) → T (all g xs)
   all-weaken f g xs k h = all-iff g xs .1 (λ x m. k x (all-iff f xs .0 h x m))
 
 -- at most n, and each passes the test
@@ -73,6 +69,7 @@ module _ {A : Type 0} {xs : List A} (f g : A → Bool) (k : (x : A) → T (f x) 
   all-grow same new h = all-weaken f g xs k h
   all-grow (longer x) new h = simp (all-append, and-iff) (all-weaken f g xs k h, (k x new, tt))
 
+  -- and stays short where there was room
   few-grow : {ys : List A} (n : ℕ) (s : Starts xs ys) → New (Room n f xs) s → Few n f xs → Few n g ys
   unfolding Few New Room
   few-grow n same new h = (h .0, all-grow same tt (h .1))
@@ -96,6 +93,7 @@ record Longer (b c : Book) : Type 0 where
 module _ (b c : Book) (g : Longer b c) where
   -- what fitted the book fits the longer one
 
+  -- a segment that fitted
   segment-keeps : (s : Segment) → T (segmentFits b s) → T (segmentFits c s)
   unfolding segmentFits
   segment-keeps s h =
@@ -103,10 +101,12 @@ module _ (b c : Book) (g : Longer b c) where
       let l = starts-length (g .nodes) in
       simp (and-iff, ltb-iff) (((omega arith, omega arith), p .0 .1), p .1)
 
+  -- a segment stays what it was
   segment-same : (s : ℕ) → s < length (b .segments) → segmentAt c s ≡ segmentAt b s
   unfolding segmentAt
   segment-same s l = starts-at _ s (g .segments) l
 
+  -- a join that fitted
   join-keeps : (j : Join) → T (joinFits b j) → T (joinFits c j)
   unfolding joinFits
   join-keeps j h =
@@ -117,6 +117,7 @@ module _ (b c : Book) (g : Longer b c) where
       let f = segment-same (j .right) (p .0 .0 .0 .1) in
       simp (and-iff, ltb-iff) (((((omega arith, omega arith), omega arith), p .0 .0 .1), rw e (p .0 .1)), rw f (p .1))
 
+  -- l and k stay
   length-same : (t : Train) → lengthInSegments c t ≡ lengthInSegments b t
   unfolding lengthInSegments
   length-same t = rw (g .metres)
@@ -134,12 +135,14 @@ module _ (b c : Book) (g : Longer b c) where
   unfolding endNode segmentOf
   end-same d l = rw (segment-same (d / 2) (omega arith))
 
+  -- where one led to the next it still does
   leads-keeps : (d e : ℕ) → d < 2 * length (b .segments) → e < 2 * length (b .segments) → T (leadsTo b d e) → T (leadsTo c d e)
   unfolding leadsTo joined
   leads-keeps d e l k h =
       let p = simp and-iff at h in
       simp and-iff (rw (end-same d l, start-same e k) (p .0), rw (end-same d l) (starts-any _ (g .joins) (p .1)))
 
+  -- and so along a row
   linked-keeps : (ds : List ℕ) → T (all (λ d. ltb d (2 * length (b .segments))) ds) → T (linked b ds) → T (linked c ds)
   unfolding linked all
   linked-keeps [] l h = tt
@@ -156,6 +159,7 @@ pub trainAllFits : Book → Train → Bool
 trainAllFits b t = trainFits b t && reachFits b t && placeFits b t
 
 module _ (b c : Book) (g : Longer b c) where
+  -- a train that fitted, with its place
   train-keeps : (t : Train) → T (trainAllFits b t) → T (trainAllFits c t)
   unfolding trainAllFits trainFits reachFits placeFits isPath
   train-keeps t h =
@@ -168,6 +172,7 @@ module _ (b c : Book) (g : Longer b c) where
       further : (d : ℕ) → T (ltb d (2 * length (b .segments))) → T (ltb d (2 * length (c .segments)))
       further d h = let l = starts-length (g .segments) in simp ltb-iff (let k = simp ltb-iff at h in omega arith)
 
+  -- a call that fitted
   call-keeps : (k : Call) → T (callFits b k) → T (callFits c k)
   unfolding callFits
   call-keeps k h =
@@ -197,7 +202,7 @@ once-grow {js} (longer j) k h = all-upTo _ (length (js ++ one j)) .1 (λ n l. go
         rw (e, take-append-seam js (one j), getD-append-seam js j [] noJoin) k
 
 -- what is picked from a longer row
-pick-append : {A : Type 0} (f : A → Bool) (xs ys : List A) → pick f (xs ++ ys) ≡ pick f xs ++ pick f ys
+pub pick-append : {A : Type 0} (f : A → Bool) (xs ys : List A) → pick f (xs ++ ys) ≡ pick f xs ++ pick f ys
 unfolding pick
 pick-append f [] ys = refl
 pick-append f (x ∷ xs) ys = rw (pick-append f xs ys) (sym (append-assoc (only (f x) (one x)) (pick f xs) (pick f ys)))
@@ -263,34 +268,44 @@ growing-longer b c g n w = record
   ; calls = all-grow _ _ (call-keeps b c g) (g .calls) (n .calls) (w .calls)
   ; fewCalls = few-calls (g .calls) (n .fewCalls) (w .fewCalls) }
 
--- What a frame adds, but a Head.
+-- What a frame adds, but a Head: the book with longer rows.
+grown : (b : Book) {ns : List ℕ} {ss : List Segment} {js : List Join} {ts : List Train} {cs : List Call} → Starts (b .nodes) ns
+  → Starts (b .segments) ss → Starts (b .joins) js → Starts (b .trains) ts → Starts (b .calls) cs → Longer b (record
+    { segmentMetres = b .segmentMetres; intervalSeconds = b .intervalSeconds; intervals = b .intervals
+    ; nodes = ns; segments = ss; joins = js; trains = ts; calls = cs })
+grown b n s j t c = record { metres = refl; seconds = refl; times = refl; nodes = n; segments = s; joins = j; trains = t; calls = c }
+
+-- by kind, at most one row is longer
 add-longer : (b : Book) (k : Kind) (p : Bytes) → k ≢ headKind → Longer b (add b k p)
-unfolding add
+unfolding add grown
 add-longer b headKind p h = absurd (h refl)
-add-longer b nodeKind p h = record { metres = refl; seconds = refl; times = refl; nodes = longer _; segments = same; joins = same; trains = same; calls = same }
-add-longer b segmentKind p h = record { metres = refl; seconds = refl; times = refl; nodes = same; segments = longer _; joins = same; trains = same; calls = same }
-add-longer b joinKind p h = record { metres = refl; seconds = refl; times = refl; nodes = same; segments = same; joins = longer _; trains = same; calls = same }
-add-longer b trainKind p h = record { metres = refl; seconds = refl; times = refl; nodes = same; segments = same; joins = same; trains = longer _; calls = same }
-add-longer b callKind p h = record { metres = refl; seconds = refl; times = refl; nodes = same; segments = same; joins = same; trains = same; calls = longer _ }
-add-longer b unbreakableKind p h = record { metres = refl; seconds = refl; times = refl; nodes = same; segments = same; joins = same; trains = same; calls = same }
-add-longer b endKind p h = record { metres = refl; seconds = refl; times = refl; nodes = same; segments = same; joins = same; trains = same; calls = same }
+add-longer b nodeKind p h = grown b (longer _) same same same same
+add-longer b segmentKind p h = grown b same (longer _) same same same
+add-longer b joinKind p h = grown b same same (longer _) same same
+add-longer b trainKind p h = grown b same same same (longer _) same
+add-longer b callKind p h = grown b same same same same (longer _)
+add-longer b unbreakableKind p h = grown b same same same same same
+add-longer b endKind p h = grown b same same same same same
 
 -- A frame without a fault adds what fits.
-add-fits : (b : Book) (k : Kind) (p : Bytes) (h : k ≢ headKind) → T (all passes (contentFaults b k p)) → Fits b (add b k p) (add-longer b k p h)
-unfolding add contentFaults all passes add-longer New Room trainAllFits
+add-fits : (b : Book) (k : Kind) (p : Bytes) (h : k ≢ headKind) → T (all passes (contentFaults b k p))
+  → Fits b (add b k p) (add-longer b k p h)
+unfolding add contentFaults all passes add-longer grown New Room trainAllFits
 add-fits b headKind p h f = absurd (h refl)
 add-fits b nodeKind p h f =
     let q = simp and-iff at f in record
-    { nodes = (q .0, not-above (field p 0 1) greatestNodeKind (q .1 .0)); segments = tt; joins = tt; once = tt; trains = tt; calls = tt; fewCalls = tt }
+    { nodes = (q .0, not-above (field p 0 1) greatestNodeKind (q .1 .0)); segments = tt; joins = tt; once = tt; trains = tt
+    ; calls = tt; fewCalls = tt }
 add-fits b segmentKind p h f =
     let q = simp (and-iff, Bool·not-not) at f in record
     { nodes = tt; segments = (q .0, q .1 .0); joins = tt; once = tt; trains = tt; calls = tt; fewCalls = tt }
 add-fits b joinKind p h f =
-    let q = simp (and-iff, neither, Bool·not-not) at f in record
+    let q = simp (and-iff, neither-iff, Bool·not-not) at f in record
     { nodes = tt; segments = tt; joins = (q .0, q .1 .0 .0); once = q .1 .0 .1; trains = tt; calls = tt; fewCalls = tt }
 add-fits b trainKind p h f =
     let q = simp (and-iff, Bool·not-not) at f in record
-    { nodes = tt; segments = tt; joins = tt; once = tt; trains = (q .0, simp and-iff ((q .1 .0, q .1 .1 .0), q .1 .1 .1 .0)); calls = tt; fewCalls = tt }
+    { nodes = tt; segments = tt; joins = tt; once = tt; trains = (q .0, simp and-iff ((q .1 .0, q .1 .1 .0), q .1 .1 .1 .0))
+    ; calls = tt; fewCalls = tt }
 add-fits b callKind p h f =
     let q = simp (and-iff, Bool·not-not) at f in record
     { nodes = tt; segments = tt; joins = tt; once = tt; trains = tt; calls = q .1 .0; fewCalls = q .0 }
@@ -298,16 +313,19 @@ add-fits b unbreakableKind p h f = record { nodes = tt; segments = tt; joins = t
 add-fits b endKind p h f = record { nodes = tt; segments = tt; joins = tt; once = tt; trains = tt; calls = tt; fewCalls = tt }
 
 -- Every frame without a fault, but a Head, keeps the book growing.
-pub growing-add : (b : Book) (k : Kind) (p : Bytes) → k ≢ headKind → T (all passes (contentFaults b k p)) → Growing b → Growing (add b k p)
+pub growing-add : (b : Book) (k : Kind) (p : Bytes) → k ≢ headKind → T (all passes (contentFaults b k p)) → Growing b
+  → Growing (add b k p)
 growing-add b k p h f w = growing-longer b (add b k p) (add-longer b k p h) (add-fits b k p h f) w
 
 -- ---- the book as a whole
 
 -- none of a row passes a test
-none-any : {A : Type 0} (f : A → Bool) (xs : List A) → T (not (any f xs)) → T (all (λ x. not (f x)) xs)
+pub none-iff : {A : Type 0} (f : A → Bool) (xs : List A) → T (not (any f xs)) ↔ T (all (λ x. not (f x)) xs)
 unfolding any all
-none-any f [] h = tt
-none-any f (x ∷ xs) h = let p = neither (f x) (any f xs) .0 h in simp and-iff (p .0, none-any f xs (p .1))
+none-iff f [] = (λ h. tt, λ h. tt)
+none-iff f (x ∷ xs) =
+    let both = neither-iff (f x) (any f xs) in let each′ = and-iff (not (f x)) (all (λ x. not (f x)) xs) in
+    (λ h. each′ .1 (both .0 h .0, none-iff f xs .0 (both .0 h .1)), λ h. both .1 (each′ .0 h .0, none-iff f xs .1 (each′ .0 h .1)))
 
 -- two tests, all along a row
 all-both : {A : Type 0} (f g : A → Bool) (xs : List A) → T (all f xs) → T (all g xs) → T (all (λ x. f x && g x) xs)
@@ -323,11 +341,12 @@ not-empty (x ∷ xs) h = omega arith
 pub growing-whole : (b : Book) → Growing b → T (all passes (bookFaults b)) → T (wellFormed b)
 unfolding wellFormed bookFaults all passes Few trainAllFits between
 growing-whole b w f =
-    let q = simp (and-iff, neither) at f in
+    let q = simp (and-iff, neither-iff) at f in
     let runs = all-weaken _ (λ t. leb (length (runsOf b t)) 256) (b .trains) (λ t h. not-above (length (runsOf b t)) 256 h)
-        (none-any _ (b .trains) (q .1 .0)) in
-    let counts = none-any (λ i. empty (callsOf b i)) (upTo (length (b .trains))) (q .0 .1) in
+        (none-iff _ (b .trains) .0 (q .1 .0)) in
+    let counts = none-iff (λ i. empty (callsOf b i)) (upTo (length (b .trains))) .0 (q .0 .1) in
     simp (and-iff, leb-iff)
     ( ((((w .head, (w .nodes .0, w .nodes .1)), (w .segments .0, w .segments .1)), ((w .joins .0, w .joins .1), w .once))
       , ((w .trains .0, q .0 .0), all-both _ _ (b .trains) (w .trains .1) runs))
-    , (w .calls, all-weaken _ _ (upTo (length (b .trains))) (λ i h. simp (and-iff, leb-iff) (not-empty (callsOf b i) h, w .fewCalls i)) counts) )
+    , (w .calls, all-weaken _ _ (upTo (length (b .trains)))
+        (λ i h. simp (and-iff, leb-iff) (not-empty (callsOf b i) h, w .fewCalls i)) counts) )

@@ -2,6 +2,7 @@ pub mod Faults
 pub mod Wellformed
 pub mod Growing
 pub mod Reading
+pub mod Building
 pub mod Sections
 pub mod Meaning
 pub mod Coding

@@ -5,19 +5,20 @@ use mathlib.Core.Path.{_≡_, refl, sym, ap, _∙_, subst}
 use mathlib.Core.Logic.{_≢_, _↔_, _⊎_, inl, inr}
 use mathlib.Core.Bool.{Bool, true, false, not, _&&_, Bool·not-not}
 use mathlib.Core.Option.{Option, none, some}
-use Prim.Native.Nat.{ℕ, zero, suc, _+_, _<_}
+use Prim.Native.Nat.{ℕ, zero, suc, _<_}
 use native.Mathlib.Nat.{not-suc-le-zero}
 use native.Mathlib.Omega.{arith}
 use mathlib.Core.List.{List, [], _∷_}
-use lib.ListN.{length, length-drop}
-use lib.Dec.{T, ltb, eqb, nltb→le, eqb→eq, T-not}
+use lib.ListN.{length}
+use lib.Dec.{T, eqb, eqb→eq, T-not}
 use Rattle.spec.specs.Lists.{Bytes, all, any, firstFault, Verdict, accepted, refused}
-use Rattle.spec.specs.Frames.{kindField, behind, cutShort, payloadLength, payloadOf, Kind, headKind, nodeKind, segmentKind, joinKind, trainKind, callKind, unbreakableKind, endKind, kindNumber, kindOrder, findKind, rankIn, rank}
+use Rattle.spec.specs.Frames.{kindField, behind, cutShort, payloadOf, Kind, headKind, nodeKind, segmentKind, joinKind, trainKind, callKind, unbreakableKind, endKind, kindNumber, kindOrder, findKind, rankIn, rank}
 use Rattle.spec.specs.Book.{Book, noBook}
 use Rattle.spec.specs.Read.{Reading, readingStart, isEnd, frameFaults, bookFaults, pastFrame, refuseOr, Step, stop, more, stepAt, step, unknownKind, isHead, outOfOrder, kindFaults, addFound, contentFaults, add, readFrom, readBook, wellFormed}
-use Rattle.demands.proofs.Growing.{neither, Growing, growing-head, growing-add, growing-whole}
+use Rattle.demands.proofs.Growing.{Growing, growing-head, growing-add, growing-whole}
 use Rattle.demands.proofs.Faults.{passes, FirstHolds, first-none, clear-first, first-some, holds-first}
-use Rattle.laws.proofs.Tests.{and-iff, not-iff, eqb-iff, true-of, from-true, from-denied}
+use Rattle.laws.proofs.Frames.{length-behind}
+use Rattle.laws.proofs.Tests.{and-iff, not-iff, eqb-iff, true-of, denied-of, from-true, from-denied, neither-iff}
 
 -- ---- one frame
 
@@ -29,8 +30,10 @@ pub data ReadsTo (s : Bytes) : Reading → Bytes → Type 0 where
 -- How reading ends at the frame at the start of s, with the verdict v.
 pub data Ends (r : Reading) (s : Bytes) (v : Verdict Book) : Type 0 where
   frame : (n : ℕ) → FirstHolds n (frameFaults r s) → v ≡ refused n 0 → Ends r s v
-  book : (n : ℕ) → T (all passes (frameFaults r s)) → T (isEnd (kindField s)) → FirstHolds n (bookFaults (r .book)) → v ≡ refused n 0 → Ends r s v
-  pass : T (all passes (frameFaults r s)) → T (isEnd (kindField s)) → T (all passes (bookFaults (r .book))) → v ≡ accepted (r .book) → Ends r s v
+  book : (n : ℕ) → T (all passes (frameFaults r s)) → T (isEnd (kindField s)) → FirstHolds n (bookFaults (r .book))
+    → v ≡ refused n 0 → Ends r s v
+  pass : T (all passes (frameFaults r s)) → T (isEnd (kindField s)) → T (all passes (bookFaults (r .book)))
+    → v ≡ accepted (r .book) → Ends r s v
 
 -- a frame after which the reader goes on
 pub record GoesOn (r : Reading) (s : Bytes) (r′ : Reading) (s′ : Bytes) : Type 0 where
@@ -45,6 +48,7 @@ module _ (r : Reading) (s : Bytes) where
   Meaning (stop v) = Ends r s v
   Meaning (more r′ s′) = GoesOn r s r′ s′
 
+  -- a step is what it means
   step-means : Meaning (step r s)
   unfolding step stepAt Meaning refuseOr
   step-means = go (firstFault (frameFaults r s)) refl
@@ -63,6 +67,7 @@ module _ (r : Reading) (s : Bytes) where
       go (some n) e = frame n (first-some n _ e) refl
       go none e = clear (isEnd (kindField s)) refl (first-none _ e)
 
+  -- read at either end
   ends : (v : Verdict Book) → step r s ≡ stop v → Ends r s v
   unfolding Meaning
   ends v e = subst Meaning e step-means
@@ -78,6 +83,12 @@ module _ (r : Reading) (s : Bytes) where
   stops v (book n c t h e) = rw (clear-first _ c, true-of (isEnd (kindField s)) t, stepAt, holds-first n _ h, e)
   stops v (pass c t d e) = rw (clear-first _ c, true-of (isEnd (kindField s)) t, stepAt, clear-first _ d, e)
 
+  -- and the step goes on exactly where the frame has no fault and is not the End
+  pub goes-iff : (r′ : Reading) (s′ : Bytes) → (step r s ≡ more r′ s′) ↔ GoesOn r s r′ s′
+  unfolding step stepAt
+  goes-iff r′ s′ =
+      ( goes-on r′ s′
+      , λ g. rw (clear-first _ (g .clear), denied-of (isEnd (kindField s)) (g .notEnd), stepAt, g .reading, g .rest) )
 
 -- What a frame without a fault is.
 record Fine (r : Reading) (s : Bytes) : Type 0 where
@@ -86,24 +97,18 @@ record Fine (r : Reading) (s : Bytes) : Type 0 where
   inOrder : T (not (outOfOrder (r .last) s))
   content : T (all passes (kindFaults (r .book) (findKind (kindField s) kindOrder) (payloadOf s)))
 
+-- by the table's lines
 fine : (r : Reading) (s : Bytes) → T (all passes (frameFaults r s)) → Fine r s
 unfolding frameFaults all passes
 fine r s c = let p = simp and-iff at c in record { whole = p .0; known = p .1 .0; inOrder = p .1 .1 .0; content = p .1 .1 .1 }
 
--- a frame has four bytes at least
-shorter : (s : Bytes) → T (not (cutShort s)) → length (behind s) < length s
-unfolding behind cutShort
-shorter s h =
-    let p = neither (ltb (length s) 4) (ltb (length s) (4 + payloadLength s)) .0 h in
-    let l = nltb→le (length s) 4 (p .0) in
-    simp length-drop (omega arith)
-
 -- what is left behind a frame is shorter
 less-left : (r r′ : Reading) (s s′ : Bytes) → step r s ≡ more r′ s′ → length s′ < length s
-less-left r r′ s s′ e = let g = goes-on r s r′ s′ e in rw (g .rest) (shorter s (fine r s (g .clear) .whole))
+less-left r r′ s s′ e = let g = goes-on r s r′ s′ e in rw (g .rest) (omega (arith, length-behind s (fine r s (g .clear) .whole)))
 
 -- ---- the whole file
 
+-- reading with fuel left stops, or goes on, where the step does
 stops-reading : (f : ℕ) (r : Reading) (s : Bytes) (v : Verdict Book) → step r s ≡ stop v → readFrom (suc f) r s ≡ v
 unfolding readFrom
 stops-reading f r s v e = rw (e, readFrom)
@@ -140,7 +145,8 @@ finds zero s s′ r h c = absurd (not-suc-le-zero h)
 finds (suc f) s s′ r h c = go (step r s′) refl (finds f s)
   where
     go : (o : Step) → step r s′ ≡ o
-      → ((s″ : Bytes) (r : Reading) → length s″ < f → ReadsTo s r s″ → (r‴ : Reading) × (s‴ : Bytes) × ReadsTo s r‴ s‴ × Ends r‴ s‴ (readFrom f r s″))
+      → ((s″ : Bytes) (r : Reading) → length s″ < f → ReadsTo s r s″
+        → (r‴ : Reading) × (s‴ : Bytes) × ReadsTo s r‴ s‴ × Ends r‴ s‴ (readFrom f r s″))
       → (r″ : Reading) × (s″ : Bytes) × ReadsTo s r″ s″ × Ends r″ s″ (readFrom (suc f) r s′)
     go (stop v) e rest = (r, s′, c, rw (stops-reading f r s′ v e) (ends r s′ v e))
     go (more r″ s″) e rest =
@@ -150,7 +156,9 @@ finds (suc f) s s′ r h c = go (step r s′) refl (finds f s)
 -- Reading is exact: a file's verdict is v exactly where the frames lead to one at which reading ends with v.
 pub read-iff : (s : Bytes) (v : Verdict Book) → (readBook s ≡ v) ↔ ((r : Reading) × (s′ : Bytes) × ReadsTo s r s′ × Ends r s′ v)
 unfolding readBook
-read-iff s v = (λ e. rw (← e) (finds (suc (length s)) s s readingStart (omega arith) start), λ h. along s (h .1) (h .0) (h .2) ∙ stops-reading (length (h .1)) (h .0) (h .1) v (stops (h .0) (h .1) v (h .3)))
+read-iff s v =
+    ( λ e. rw (← e) (finds (suc (length s)) s s readingStart (omega arith) start)
+    , λ h. along s (h .1) (h .0) (h .2) ∙ stops-reading (length (h .1)) (h .0) (h .1) v (stops (h .0) (h .1) v (h .3)) )
 
 -- A refusal is given only where a condition stated for it holds, and none that is tried before it: of the frame that
 -- reading has come to, or, at the End frame, of the book. Its detail is 0.
@@ -189,7 +197,7 @@ data Reached (r : Reading) : Type 0 where
   growing : r .last ≢ 0 → Growing (r .book) → Reached r
 
 -- a kind's place in the order is counted from 1
-rank-not-zero : (n : ℕ) (ks : List Kind) → rankIn n ks ≢ 0
+pub rank-not-zero : (n : ℕ) (ks : List Kind) → rankIn n ks ≢ 0
 unfolding rankIn
 rank-not-zero n [] = omega arith
 rank-not-zero n (k ∷ ks) = go (eqb n (kindNumber k))
@@ -203,36 +211,40 @@ Found : ℕ → List Kind → Option Kind → Type 0
 Found n ks none = T (not (any (λ k. eqb n (kindNumber k)) ks))
 Found n ks (some k) = n ≡ kindNumber k
 
+-- that is what is found
 finds-kind : (n : ℕ) (ks : List Kind) → Found n ks (findKind n ks)
 unfolding findKind Found any
 finds-kind n [] = tt
 finds-kind n (k ∷ ks) = go (eqb n (kindNumber k)) refl (findKind n ks) (finds-kind n ks)
   where
     skip : (o : Option Kind) → eqb n (kindNumber k) ≡ false → Found n ks o → Found n (k ∷ ks) o
-    skip none e h = neither (eqb n (kindNumber k)) (any (λ k. eqb n (kindNumber k)) ks) .1 (from-denied e, h)
+    skip none e h = neither-iff (eqb n (kindNumber k)) (any (λ k. eqb n (kindNumber k)) ks) .1 (from-denied e, h)
     skip (some j) e h = h
 
     go : (b : Bool) → eqb n (kindNumber k) ≡ b → (o : Option Kind) → Found n ks o → Found n (k ∷ ks) (elim b [ true ↦ some k | false ↦ o ])
     go true e o h = eqb→eq n (kindNumber k) (from-true e)
     go false e o h = skip o e h
 
--- a Head comes first, and only first
+-- of two tests that do not both hold, where one does the other does not
 not-both : (a b : Bool) → T (not (a && b)) → T a → T (not b)
 not-both true b h k = h
 not-both false b h k = absurd k
 
+-- the first frame is a Head
 head-first : (r : Reading) (s : Bytes) → T (not (outOfOrder (r .last) s)) → r .last ≡ 0 → kindField s ≡ 1
 unfolding outOfOrder isHead kindNumber
 head-first r s h e =
-    let p = simp neither at h in
+    let p = simp neither-iff at h in
     let q = not-both (eqb (r .last) 0) (not (eqb (kindField s) 1)) (p .0 .0 .0) (eqb-iff (r .last) 0 .1 e) in
     eqb→eq (kindField s) 1 (rw Bool·not-not at q)
 
+-- no later frame is one
 head-once : (r : Reading) (s : Bytes) → T (not (outOfOrder (r .last) s)) → r .last ≢ 0 → kindField s ≢ 1
 unfolding outOfOrder isHead kindNumber
 head-once r s h l e =
-    let p = simp neither at h in
-    let q = not-both (not (eqb (r .last) 0)) (eqb (kindField s) 1) (p .0 .0 .1) (not-iff (eqb (r .last) 0) .1 (λ t. l (eqb→eq (r .last) 0 t))) in
+    let p = simp neither-iff at h in
+    let z = not-iff (eqb (r .last) 0) .1 (λ t. l (eqb→eq (r .last) 0 t)) in
+    let q = not-both (not (eqb (r .last) 0)) (eqb (kindField s) 1) (p .0 .0 .1) z in
     T-not (eqb (kindField s) 1) q (eqb-iff (kindField s) 1 .1 e)
 
 -- only a Head has the number 1
@@ -257,7 +269,9 @@ reads-head b k p e q c =
 -- a frame without a fault leads on in a growing book
 reached-on : (r : Reading) (s : Bytes) → Fine r s → Reached r → Reached (pastFrame r s)
 unfolding pastFrame rank addFound kindFaults all unknownKind Found kindNumber
-reached-on r s f w = growing (rank-not-zero (kindField s) kindOrder) (go (findKind (kindField s) kindOrder) (finds-kind (kindField s) kindOrder) (f .content) w)
+reached-on r s f w =
+    growing (rank-not-zero (kindField s) kindOrder)
+      (go (findKind (kindField s) kindOrder) (finds-kind (kindField s) kindOrder) (f .content) w)
   where
     go : (o : Option Kind) → Found (kindField s) kindOrder o → T (all passes (kindFaults (r .book) o (payloadOf s))) → Reached r
       → Growing (addFound (r .book) o (payloadOf s))
@@ -267,6 +281,7 @@ reached-on r s f w = growing (rank-not-zero (kindField s) kindOrder) (go (findKi
     go (some k) h c (growing l w) =
         growing-add (r .book) k (payloadOf s) (λ q. head-once r s (f .inOrder) l (h ∙ ap kindNumber q)) ((simp and-iff at c) .1) w
 
+-- so wherever the reader comes, it is at the start or in a growing book
 reached : {s s′ : Bytes} {r : Reading} → ReadsTo s r s′ → Reached r
 unfolding readingStart
 reached start = nothing refl refl

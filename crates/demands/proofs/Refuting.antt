@@ -20,7 +20,7 @@ use Rattle.spec.specs.Refutation.{Values, makeTrue, makeFalse, refuting, isNo, 
 use Rattle.spec.specs.Refutation.{Hinted, proves, makes, useless, hinted, goThrough, followsRule}
 use Rattle.spec.specs.Refutation.{AllFalse, Forces, Proves, atLast, onward, TakenFalse}
 use Rattle.spec.specs.Refutation.{stepFaults, stepDetail, checkSteps, checkFile}
-use Rattle.laws.proofs.Tests.{and-iff, leb-iff, ltb-iff, eqb-iff, any-iff, decide, true-of, false-of, from-true}
+use Rattle.laws.proofs.Tests.{and-iff, leb-iff, ltb-iff, eqb-iff, any-iff, decide, true-of, false-of, from-true, neither-iff, not-not-iff}
 use Rattle.laws.proofs.Rows.{all-append, all-one}
 use Rattle.laws.proofs.Frames.{length-behind}
 
@@ -383,22 +383,14 @@ pub record Passes (lent : Lent) (vars : ℕ) (cs : List Clause) (s : Bytes) : Ty
   pub room : T (clausesFit lent (added cs s))
   pub rule : T (followsRule cs (stepAt s))
 
-not-or-iff : (a b : Bool) → T (not (a || b)) ↔ (T (not a) × T (not b))
-not-or-iff true b = (λ h. absurd h, λ h. h .0)
-not-or-iff false b = (λ h. (tt, h), λ h. h .1)
-
-not-not-iff : (b : Bool) → T (not (not b)) ↔ T b
-not-not-iff true = (λ h. h, λ h. h)
-not-not-iff false = (λ h. h, λ h. h)
-
 passes-iff : (lent : Lent) (vars : ℕ) (cs : List Clause) (s : Bytes)
     → firstFault (stepFaults lent vars cs s) ≡ none ↔ Passes lent vars cs s
 unfolding stepFaults all
 passes-iff lent vars cs s =
-    (λ e. let p = simp (and-iff, not-or-iff, not-not-iff, eqb-iff) at (firstFault-iff (stepFaults lent vars cs s) .0 e) in record
+    (λ e. let p = simp (and-iff, neither-iff, not-not-iff, eqb-iff) at (firstFault-iff (stepFaults lent vars cs s) .0 e) in record
       { whole = p .0 .0 .0; kind = p .0 .0 .1; sized = p .0 .1; literalsGood = p .1 .0; hintsGood = p .1 .1 .0
       ; room = p .1 .1 .1 .0; rule = p .1 .1 .1 .1 .0 }
-    , λ r. firstFault-iff (stepFaults lent vars cs s) .1 (simp (and-iff, not-or-iff, not-not-iff, eqb-iff)
+    , λ r. firstFault-iff (stepFaults lent vars cs s) .1 (simp (and-iff, neither-iff, not-not-iff, eqb-iff)
       (((r .whole, r .kind), r .sized), (r .literalsGood, (r .hintsGood, (r .room, (r .rule, tt)))))))
 
 -- The steps of an accepted file, from the clauses that the first of them may name.

@@ -1,17 +1,17 @@
 -- What the later proofs need of a well-formed book, said of its instance: `Sound`. The main theorem is `sound`.
 -- Assumes nothing.
 use mathlib.Core.Path.{_≡_, refl}
-use mathlib.Core.Bool.{Bool, true, false}
+use mathlib.Core.Bool.{Bool, true, false, not, _&&_}
 use Prim.Native.Nat.{ℕ, zero, suc, _+_, _*_, _-_, _/_, _≤_, _<_}
 use native.Mathlib.Nat.{not-suc-le-zero, le-of-suc-le-suc}
 use native.Mathlib.Omega.{arith}
 use mathlib.Core.List.{List, [], _∷_, _++_, map, List·Memᴰ, List·Memᴰ·head, List·Memᴰ·tail, Memᴰ·of-map}
 use lib.ListN.{length, getD}
-use lib.Dec.{T, ltb, eqb}
-use Rattle.spec.specs.Lists.{all, only, one, pick}
-use Rattle.spec.specs.Book.{Book, Train, nodeKindAt, trainAt, callsOf, noCall, deniesBorder, forcesBorder, segmentOf, lengthInSegments}
+use lib.Dec.{T, leb, ltb, eqb}
+use Rattle.spec.specs.Lists.{all, upTo, only, one, pick, empty}
+use Rattle.spec.specs.Book.{Book, Train, greatestNodeKind, nodeKindAt, trainAt, callsOf, noCall, deniesBorder, forcesBorder, segmentOf, lengthInSegments}
 use Rattle.spec.specs.Runs.{directed, goesOn, extend, pathsOf, runsOf}
-use Rattle.spec.specs.Read.{wellFormed, trainFits, callFits}
+use Rattle.spec.specs.Read.{wellFormed, headFits, segmentFits, joinFits, joinsOnce, trainFits, reachFits, placeFits, callFits, between}
 use Rattle.spec.specs.Instance.{Instance, instanceOf, compile, runLists, runAt, callAt}
 use Rattle.laws.proofs.Tests.{and-iff, eqb-iff, ltb-iff, leb-iff, all-iff, all-upTo}
 use Rattle.laws.proofs.Rows.{all-append, all-cons, all-each}
@@ -30,6 +30,31 @@ pub record Sound (I : Instance) : Type 0 where
   -- no node's border is both denied and forced
   pub kinds : (n : ℕ) → n < I .nodes → T (I .denied n) → T (I .forced n) → ⊥
 
+-- What well-formedness says, part by part.
+pub record Parts (b : Book) : Type 0 where
+  pub head : T (headFits b)
+  pub fewNodes : length (b .nodes) ≤ 96
+  pub nodes : T (all (λ k. leb k greatestNodeKind) (b .nodes))
+  pub fewSegments : length (b .segments) ≤ 64
+  pub segments : T (all (segmentFits b) (b .segments))
+  pub fewJoins : length (b .joins) ≤ 128
+  pub joins : T (all (joinFits b) (b .joins))
+  pub once : T (joinsOnce (b .joins))
+  pub fewTrains : length (b .trains) ≤ 8
+  pub someTrain : T (not (empty (b .trains)))
+  pub trains : T (all (λ t. trainFits b t && reachFits b t && placeFits b t && leb (length (runsOf b t)) 256) (b .trains))
+  pub calls : T (all (callFits b) (b .calls))
+  pub counts : T (all (λ i. between 1 4 (length (callsOf b i))) (upTo (length (b .trains))))
+
+-- the parts of a well-formed book
+pub parts : (b : Book) → T (wellFormed b) → Parts b
+unfolding wellFormed
+parts b h = let p = simp (and-iff, leb-iff) at h in record
+  { head = p .0 .0 .0 .0 .0; fewNodes = p .0 .0 .0 .0 .1 .0; nodes = p .0 .0 .0 .0 .1 .1
+  ; fewSegments = p .0 .0 .0 .1 .0; segments = p .0 .0 .0 .1 .1
+  ; fewJoins = p .0 .0 .1 .0 .0; joins = p .0 .0 .1 .0 .1; once = p .0 .0 .1 .1
+  ; fewTrains = p .0 .1 .0 .0; someTrain = p .0 .1 .0 .1; trains = p .0 .1 .1; calls = p .1 .0; counts = p .1 .1 }
+
 -- ---- rows
 
 -- what stands at a number in a row is in the row
@@ -39,11 +64,13 @@ getD-mem (x ∷ xs) zero d h = List·Memᴰ·head refl
 getD-mem (x ∷ xs) (suc i) d h = List·Memᴰ·tail (getD-mem xs i d (le-of-suc-le-suc h))
 
 -- a test of the whole row holds of what stands at a number
-pub all-at {ℓ} : {A : Type ℓ} (f : A → Bool) (xs : List A) (i : ℕ) (d : A) → T (all f xs) → i < length xs → T (f (getD xs i d))
+pub all-at {ℓ} : {A : Type ℓ} (f : A → Bool) (xs : List A) (i : ℕ) (d : A) → T (all f xs) → i < length xs
+  → T (f (getD xs i d))
 all-at f xs i d h l = all-iff f xs .0 h (getD xs i d) (getD-mem xs i d l)
 
 -- what stands at a number in a mapped row
-pub map-at {ℓ κ} : {A : Type ℓ} {B : Type κ} (f : A → B) (xs : List A) (i : ℕ) (d : A) (e : B) → i < length xs → getD (map f xs) i e ≡ f (getD xs i d)
+pub map-at {ℓ κ} : {A : Type ℓ} {B : Type κ} (f : A → B) (xs : List A) (i : ℕ) (d : A) (e : B) → i < length xs
+  → getD (map f xs) i e ≡ f (getD xs i d)
 map-at f [] i d e h = absurd (not-suc-le-zero h)
 map-at f (x ∷ xs) zero d e h = refl
 map-at f (x ∷ xs) (suc i) d e h = map-at f xs i d e (le-of-suc-le-suc h)
@@ -80,10 +107,12 @@ module _ (b : Book) where
   -- all runs of a train stay within the book
   runs-below : (t : Train) → T (all (all (below b)) (runsOf b t))
   unfolding runsOf pathsOf directed all below
-  runs-below t = simp (all-each, all-upTo) (λ j m d l. extend-below (lengthInSegments b t + j - 1) (one d) (and-iff (below b d) true .1 (ltb-iff d (2 * length (b .segments)) .1 l, tt)))
+  runs-below t = simp (all-each, all-upTo) λ j m d l.
+      extend-below (lengthInSegments b t + j - 1) (one d) (and-iff (below b d) true .1 (ltb-iff d (2 * length (b .segments)) .1 l, tt))
 
 -- ---- a well-formed book, number by number
 
+-- what stands for a train that is not there
 noTrain : Train
 noTrain = record { metres = 0; speed = 0; departure = 0; place = [] }
 
@@ -96,17 +125,18 @@ module _ (b : Book) (h : T (wellFormed b)) where
   -- a train departs before T, and has at most 256 runs
   train-sound : (i : ℕ) → i < length (b .trains)
     → (trainAt b i .departure < b .intervals) × (length (runsOf b (trainAt b i)) ≤ 256)
-  unfolding wellFormed trainFits trainAt noTrain
+  unfolding trainFits trainAt noTrain
   train-sound i l =
-      let w = (simp and-iff at h) .0 .1 .1 in
+      let w = parts b h .trains in
       let p = simp (and-iff, ltb-iff, leb-iff) at (all-at _ (b .trains) i noTrain w l) in
       (p .0 .0 .0 .0 .1, p .1)
 
   -- a call's window is in order and within T
-  call-sound : (i c : ℕ) → c < length (callsOf b i) → (callAt b i c .first ≤ callAt b i c .last) × (callAt b i c .last ≤ b .intervals)
-  unfolding wellFormed callFits callsOf callAt
+  call-sound : (i c : ℕ) → c < length (callsOf b i)
+    → (callAt b i c .first ≤ callAt b i c .last) × (callAt b i c .last ≤ b .intervals)
+  unfolding callFits callsOf callAt
   call-sound i c l =
-      let w = all-pick (callFits b) (λ k. eqb (k .train) i) (b .calls) ((simp and-iff at h) .1 .0) in
+      let w = all-pick (callFits b) (λ k. eqb (k .train) i) (b .calls) (parts b h .calls) in
       let p = simp (and-iff, ltb-iff, leb-iff) at (all-at (callFits b) (callsOf b i) c noCall w l) in
       (p .0 .1, p .1)
 

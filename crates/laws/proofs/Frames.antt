@@ -13,18 +13,14 @@ use lib.Arith.{le→nltb}
 use Rattle.spec.specs.Lists.{Bytes}
 use Rattle.spec.specs.Numbers.{littleEndian}
 use Rattle.spec.specs.Frames.{frame, payloadLength, kindField, payloadOf, behind, cutShort}
+use Rattle.laws.proofs.Tests.{neither-iff}
 use Rattle.laws.proofs.Numbers.{bytes, bytes-take, bytes-drop, field-written, field-behind, littleEndian-field, field-lt}
-
--- neither of two tests holds
-not-or : (a b : Bool) → T (not (a || b)) ↔ (T (not a) × T (not b))
-not-or true b = (λ h. absurd h, λ h. h .0)
-not-or false b = (λ h. (tt, h), λ h. h .1)
 
 -- not cut short: head and payload are there
 pub whole-iff : (s : Bytes) → T (not (cutShort s)) ↔ (4 + payloadLength s ≤ length s)
 unfolding cutShort
 whole-iff s =
-    let both = not-or (ltb (length s) 4) (ltb (length s) (4 + payloadLength s)) in
+    let both = neither-iff (ltb (length s) 4) (ltb (length s) (4 + payloadLength s)) in
     (λ h. nltb→le (length s) (4 + payloadLength s) (both .0 h .1)
     , λ l. both .1 (le→nltb (length s) 4 (omega arith), le→nltb (length s) (4 + payloadLength s) l))
 

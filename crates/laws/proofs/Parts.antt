@@ -30,7 +30,7 @@ pub upTo-suc : (n : ℕ) → upTo (suc n) ≡ upTo n ++ one n
 unfolding upTo count
 upTo-suc n = ap (count 0) (sym (add-one n)) ∙ count-split 0 n 0 ∙ simp zero-add
 
-length-count : (a n : ℕ) → length (count a n) ≡ n
+pub length-count : (a n : ℕ) → length (count a n) ≡ n
 unfolding count
 length-count a zero = refl
 length-count a (suc n) = ap suc (length-count (suc a) n)

@@ -28,6 +28,14 @@ pub or-iff : (a b : Bool) → T (a || b) ↔ (T a ⊎ T b)
 or-iff true b = (λ _. inl tt, λ _. tt)
 or-iff false b = (λ h. inr h, λ h. elim h [ inl x ↦ absurd x | inr x ↦ x ])
 
+pub neither-iff : (a b : Bool) → T (not (a || b)) ↔ (T (not a) × T (not b))
+neither-iff true b = (λ h. absurd h, λ h. h .0)
+neither-iff false b = (λ h. (tt, h), λ h. h .1)
+
+pub not-not-iff : (b : Bool) → T (not (not b)) ↔ T b
+not-not-iff true = (λ h. h, λ h. h)
+not-not-iff false = (λ h. h, λ h. h)
+
 -- a test holds or not
 pub decide {ℓ} : {X : Type ℓ} (b : Bool) → (T b → X) → (T (not b) → X) → X
 decide true f g = f tt

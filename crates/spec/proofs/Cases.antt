@@ -1,5 +1,5 @@
--- Document 01's starred cases, as a table of what is asked and what the document answers, computed by one statement.
--- Each goes through the reader, in a whole book. Assumes nothing.
+-- Document 01's starred cases, and one of its wrong turns, as a table of what is asked and what the document answers,
+-- computed by one statement. Each goes through the reader, in a whole book. Assumes nothing.
 use mathlib.Core.Path.{_≡_, refl}
 use mathlib.Core.Bool.{Bool, true, false, not, _&&_, _||_, cond}
 use Prim.Native.Nat.{ℕ, zero, suc, _+_, _*_, _-_}
@@ -160,6 +160,8 @@ table =
     ∷ record { asked = clauseNumber 19 (bookM 1); answer = clause (pos 6 ∷ pos 7 ∷ []) }
     ∷ record { asked = refuted (bookM 1) (emptyStep (16 ∷ 17 ∷ 19 ∷ [])); answer = yes-accepted }
     ∷ record { asked = refuted (bookM 1) (emptyStep (19 ∷ 16 ∷ 17 ∷ [])); answer = refusal 20 1 }
+    -- "Letting a hint with a true literal pass hides a useless step": 16 stands twice
+    ∷ record { asked = refuted (bookM 1) (emptyStep (16 ∷ 16 ∷ 17 ∷ 19 ∷ [])); answer = refusal 20 1 }
     -- *Window 0 to 0: clause 19 is empty and its lone hint suffices
     ∷ record { asked = clauseNumber 19 (bookM 0); answer = clause [] }
     ∷ record { asked = refuted (bookM 0) (emptyStep (19 ∷ [])); answer = yes-accepted }

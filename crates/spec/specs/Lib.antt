@@ -3,6 +3,7 @@ pub mod Lists
 pub mod Numbers
 pub mod Frames
 pub mod Book
+pub mod BookFile
 pub mod Runs
 pub mod Read
 pub mod Instance

@@ -1,0 +1,54 @@
+-- The file of a book, built from its parts: the frames of "The book", each payload field by field. What a reader must give back
+-- is stated against this, and not against the reader. Assumes nothing.
+use mathlib.Core.Bool.{Bool, _&&_}
+use Prim.Native.Nat.{ℕ, _<_}
+use mathlib.Core.List.{List, [], _++_}
+use lib.ListN.{length}
+use lib.Dec.{T, ltb}
+use Rattle.spec.specs.Lists.{Bytes, all, each}
+use Rattle.spec.specs.Numbers.{littleEndian}
+use Rattle.spec.specs.Frames.{frame, Kind, headKind, nodeKind, segmentKind, joinKind, trainKind, callKind, endKind, kindNumber, timeWidth}
+use Rattle.spec.specs.Book.{Book, Segment, Join, Train, Call}
+
+-- What a frame's payload is, field by field.
+unfoldable pub headPayload : Book → Bytes
+headPayload b = littleEndian 2 (b .segmentMetres) ++ littleEndian 2 (b .intervalSeconds) ++ littleEndian timeWidth (b .intervals)
+
+unfoldable pub nodePayload : ℕ → Bytes
+nodePayload k = littleEndian 1 k
+
+unfoldable pub segmentPayload : Segment → Bytes
+segmentPayload s = littleEndian 1 (s .a) ++ littleEndian 1 (s .b) ++ littleEndian 1 (s .ttd)
+
+unfoldable pub joinPayload : Join → Bytes
+joinPayload j = littleEndian 1 (j .node) ++ littleEndian 1 (j .left) ++ littleEndian 1 (j .right)
+
+unfoldable pub trainPayload : Train → Bytes
+trainPayload t =
+    littleEndian 2 (t .metres) ++ littleEndian 2 (t .speed) ++ littleEndian timeWidth (t .departure)
+    ++ littleEndian 1 (length (t .place)) ++ each (t .place) (littleEndian 1)
+
+unfoldable pub callPayload : Call → Bytes
+callPayload c =
+    littleEndian 1 (c .train) ++ littleEndian 1 (c .segment) ++ littleEndian timeWidth (c .first) ++ littleEndian timeWidth (c .last)
+
+-- the frames of one kind, one behind the other
+unfoldable pub framesOf : {A : Type 0} → Kind → (A → Bytes) → List A → Bytes
+framesOf k payload xs = each xs (λ x. frame (kindNumber k) (payload x))
+
+-- The file of a book: its frames in the order of their kinds.
+unfoldable pub bookFile : Book → Bytes
+bookFile b =
+    frame (kindNumber headKind) (headPayload b)
+    ++ (framesOf nodeKind nodePayload (b .nodes)
+    ++ (framesOf segmentKind segmentPayload (b .segments)
+    ++ (framesOf joinKind joinPayload (b .joins)
+    ++ (framesOf trainKind trainPayload (b .trains)
+    ++ (framesOf callKind callPayload (b .calls)
+    ++ frame (kindNumber endKind) [])))))
+
+-- The numbers of two bytes fit them; those of one byte do so in every well-formed book.
+pub record FitsFields (b : Book) : Type 0 where
+  pub metres : b .segmentMetres < 65536
+  pub seconds : b .intervalSeconds < 65536
+  pub trains : T (all (λ t. ltb (t .metres) 65536 && ltb (t .speed) 65536) (b .trains))
