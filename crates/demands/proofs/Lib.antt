@@ -15,4 +15,5 @@ pub mod Plans
 pub mod Refuting
 pub mod Files
 pub mod Entries
+pub mod Reasons
 pub mod Demands

@@ -20,6 +20,7 @@ use Rattle.spec.specs.Refutation.{Values, makeTrue, makeFalse, refuting, isNo, 
 use Rattle.spec.specs.Refutation.{Hinted, proves, makes, useless, hinted, goThrough, followsRule}
 use Rattle.spec.specs.Refutation.{AllFalse, Forces, Proves, atLast, onward, TakenFalse}
 use Rattle.spec.specs.Refutation.{stepFaults, stepDetail, checkSteps, checkFile}
+use Rattle.demands.proofs.Faults.{passes, first-none, clear-first}
 use Rattle.laws.proofs.Tests.{and-iff, leb-iff, ltb-iff, eqb-iff, any-iff, decide, true-of, false-of, from-true, neither-iff, not-not-iff}
 use Rattle.laws.proofs.Rows.{all-append, all-one}
 use Rattle.laws.proofs.Frames.{length-behind}
@@ -358,14 +359,6 @@ module _ (α : ℕ → Bool) where
 
 -- ---- a file that is accepted
 
--- no fault of a table holds
-firstFault-iff : (fs : List Fault) → firstFault fs ≡ none ↔ T (all (λ f. not (f .holds)) fs)
-unfolding firstFault all
-firstFault-iff [] = (λ e. tt, λ t. refl)
-firstFault-iff (f ∷ fs) = split (f .holds)
-    (λ e. (λ h. let p = rw (e, firstFault) at h in let z : _≡_ {A = ℕ} 0 1 = cc in absurd (omega arith), λ t. absurd (rw e at t)))
-    (λ e. (λ h. rw e (firstFault-iff fs .0 (rw (e, firstFault) at h)), λ t. rw (e, firstFault) (firstFault-iff fs .1 (rw e at t))))
-
 -- the step whose frame starts s, and the clauses with its own behind them
 abbrev pub stepAt : Bytes → ProofStep
 stepAt s = stepIn (payloadOf s)
@@ -385,12 +378,12 @@ pub record Passes (lent : Lent) (vars : ℕ) (cs : List Clause) (s : Bytes) : Ty
 
 passes-iff : (lent : Lent) (vars : ℕ) (cs : List Clause) (s : Bytes)
     → firstFault (stepFaults lent vars cs s) ≡ none ↔ Passes lent vars cs s
-unfolding stepFaults all
+unfolding stepFaults all passes
 passes-iff lent vars cs s =
-    (λ e. let p = simp (and-iff, neither-iff, not-not-iff, eqb-iff) at (firstFault-iff (stepFaults lent vars cs s) .0 e) in record
+    (λ e. let p = simp (and-iff, neither-iff, not-not-iff, eqb-iff) at (first-none (stepFaults lent vars cs s) e) in record
       { whole = p .0 .0 .0; kind = p .0 .0 .1; sized = p .0 .1; literalsGood = p .1 .0; hintsGood = p .1 .1 .0
       ; room = p .1 .1 .1 .0; rule = p .1 .1 .1 .1 .0 }
-    , λ r. firstFault-iff (stepFaults lent vars cs s) .1 (simp (and-iff, neither-iff, not-not-iff, eqb-iff)
+    , λ r. clear-first (stepFaults lent vars cs s) (simp (and-iff, neither-iff, not-not-iff, eqb-iff)
       (((r .whole, r .kind), r .sized), (r .literalsGood, (r .hintsGood, (r .room, (r .rule, tt)))))))
 
 -- The steps of an accepted file, from the clauses that the first of them may name.

@@ -1,0 +1,361 @@
+-- Refusals of the entry points, from arbitrary bytes: each is given only where a condition stated for its number holds and none
+-- that is tried before it, with the detail that document 01 names; and what a call leaves of an output. Assumes nothing.
+use mathlib.Core.Path.{_≡_, refl}
+use mathlib.Core.Logic.{_↔_, _⊎_, inl, inr}
+use mathlib.Core.Bool.{Bool, true, false, not, _||_}
+use mathlib.Core.Option.{Option, none, some}
+use Prim.Native.Nat.{ℕ, zero, suc, _+_, _-_, _≤_, _<_}
+use native.Mathlib.Omega.{arith}
+use mathlib.Core.List.{List, [], _∷_}
+use lib.ListN.{length, getD, drop, length-append, length-drop}
+use lib.Seq.{drop-append-seam}
+use lib.Dec.{T, leb, nleb→lt, T-not, not-T, leb→le}
+use Rattle.laws.proofs.Tests.{neither-iff, and-iff, or-iff, leb-iff, decide, true-of, denied-of}
+use Rattle.laws.proofs.Rows.{all-append}
+use Rattle.laws.proofs.Frames.{length-behind}
+use Rattle.spec.specs.Lists.{Bytes, all, empty, Fault, firstFault, Verdict, accepted, refused, andThen}
+use Rattle.spec.specs.Frames.{Kind, headKind, nodeKind, segmentKind, joinKind, trainKind, callKind, unbreakableKind, endKind, kindField, kindOrder, findKind, payloadOf, behind, cutShort}
+use Rattle.spec.specs.Book.{Book}
+use Rattle.spec.specs.Read.{between, readBook, frameFaults, kindFaults, contentFaults, bookFaults}
+use Rattle.spec.specs.Instance.{Instance, instanceOf}
+use Rattle.spec.specs.Plan.{planFits, planOf, planLength, ruleFaults, brokenRule}
+use Rattle.spec.specs.Formula.{Clause, formula, variables, wordsOf}
+use Rattle.spec.specs.Assignment.{holds, firstFalse, assigned, assignmentFits}
+use Rattle.spec.specs.Refutation.{Lent, clauseAt, stepFaults, stepDetail, checkSteps, checkFile}
+use Rattle.spec.specs.Entry.{demand, findNone, overwrite, written, readInstance, writeFormula, formulaText, judgeAssignment, judgePlan, checkAssignment, checkPlan, checkRefutation, formulaFits}
+use Rattle.demands.proofs.Faults.{passes, FirstHolds, first-none, first-some}
+use Rattle.demands.proofs.Reading.{refusal-has-reason}
+use Rattle.demands.proofs.Refuting.{stepAt, added}
+use Rattle.demands.proofs.Entries.{accepted≢refused, demand-iff, instance-read}
+
+-- ---- the parts of a check
+
+-- a row of checks refuses where its first does, or where that accepts and the rest refuses
+then-refused : {A B : Type 0} {k d : ℕ} (v : Verdict A) (f : A → Verdict B) → andThen v f ≡ refused k d
+    → (v ≡ refused k d) ⊎ ((a : A) × (v ≡ accepted a) × (f a ≡ refused k d))
+unfolding andThen
+then-refused (accepted a) f e = inr (a, refl, e)
+then-refused (refused n d) f e = inl (cc)
+
+-- a test that refuses has its number and detail 0, and does not hold
+demand-refused : {k d : ℕ} (b : Bool) (n : ℕ) → demand b n ≡ refused k d → T (not b) × (k ≡ n) × (d ≡ 0)
+unfolding demand
+demand-refused true n e = accepted≢refused e
+demand-refused false n e = (tt, cc, cc)
+
+-- a search that refuses has its number, and what was found as the detail
+find-refused : {k d : ℕ} (o : Option ℕ) (n : ℕ) → findNone o n ≡ refused k d → (o ≡ some d) × (k ≡ n)
+unfolding findNone
+find-refused none n e = accepted≢refused e
+find-refused (some m) n e = (cc, cc)
+
+-- a refusal has one number and one detail
+same-refusal : {A : Type 0} {m f k d : ℕ} (P : ℕ → ℕ → Type 0) → _≡_ {A = Verdict A} (refused m f) (refused k d) → P m f → P k d
+same-refusal {m = m} {f} {k} {d} P e p = let a : m ≡ k = cc in let b : f ≡ d = cc in rw (← a, ← b) p
+
+-- a slice that is not long enough is shorter
+short-iff : (m n : ℕ) → T (not (leb m n)) ↔ (n < m)
+short-iff m n = (nleb→lt m n, λ h. not-T (leb m n) (λ t. let l = leb→le m n t in omega arith))
+
+-- ---- the order of the entry points
+
+-- "then the book; then 12; then the second input": why an entry point refuses with a number and a detail, where `Short` is that
+-- a lent slice is too short and `Input` says what is wrong with the second input.
+pub data Refusal (book : Bytes) (Short : Instance → Type 0) (Input : Instance → ℕ → ℕ → Type 0) : ℕ → ℕ → Type 0 where
+  ofBook : {k : ℕ} → readBook book ≡ refused k 0 → Refusal book Short Input k 0
+  ofRoom : (b : Book) → readBook book ≡ accepted b → Short (instanceOf b) → Refusal book Short Input 12 0
+  ofInput : {k d : ℕ} (b : Book) → readBook book ≡ accepted b → (Short (instanceOf b) → ⊥) → Input (instanceOf b) k d
+      → Refusal book Short Input k d
+
+module _ (book : Bytes) (Short : Instance → Type 0) (Input : Instance → ℕ → ℕ → Type 0) where
+  -- a refused book, with detail 0
+  instance-refused : {k d : ℕ} → readInstance book ≡ refused k d → Refusal book Short Input k d
+  unfolding readInstance
+  instance-refused {k} {d} e =
+      elim (then-refused (readBook book) _ e)
+      [ inl r ↦ (let z = refusal-has-reason book k d r .0 in rw z (ofBook (rw z at r))) | inr r ↦ accepted≢refused (r .2) ]
+
+  -- the book, the room, and the rest
+  in-order : {A : Type 0} (room : Instance → Bool) (rest : Instance → Verdict A) {k d : ℕ}
+      → ((I : Instance) → T (not (room I)) ↔ Short I) → ((I : Instance) → rest I ≡ refused k d → Input I k d)
+      → (andThen (readInstance book) λ I. andThen (demand (room I) 12) λ _. rest I) ≡ refused k d → Refusal book Short Input k d
+  in-order room rest {k} {d} short input e =
+      elim (then-refused (readInstance book) _ e)
+      [ inl r ↦ instance-refused r
+      | inr r ↦ (let i = instance-read book (r .0) (r .1) in behind-book (i .0) (i .1) (rw (i .2) at (r .2))) ]
+    where
+      behind-book : (b : Book) → readBook book ≡ accepted b
+        → (andThen (demand (room (instanceOf b)) 12) λ _. rest (instanceOf b)) ≡ refused k d → Refusal book Short Input k d
+      behind-book b read e =
+          elim (then-refused (demand (room (instanceOf b)) 12) _ e)
+          [ inl r ↦ (let q = demand-refused (room (instanceOf b)) 12 r in rw (q .1, q .2) (ofRoom b read (short (instanceOf b) .0 (q .0))))
+          | inr r ↦
+              ofInput b read (λ h. T-not (room (instanceOf b)) (short (instanceOf b) .1 h) (demand-iff (room (instanceOf b)) 12 .0 (r .1)))
+                (input (instanceOf b) (r .2)) ]
+
+-- a judgement, and what is then written
+judged-refused : {A : Type 0} {k d : ℕ} (v : Verdict (Unit {0})) (a : A) → (andThen v λ _. accepted a) ≡ refused k d → v ≡ refused k d
+judged-refused v a e = elim (then-refused v (λ _. accepted a) e) [ inl r ↦ r | inr r ↦ accepted≢refused (r .2) ]
+
+-- bytes that do not fit, or something found in them: the two parts of judging an assignment or a plan
+judge-refused : {k d : ℕ} (fits : Bool) (found : Option ℕ) (m n : ℕ)
+    → (andThen (demand fits m) λ _. findNone found n) ≡ refused k d
+    → (T (not fits) × (k ≡ m) × (d ≡ 0)) ⊎ (T fits × (found ≡ some d) × (k ≡ n))
+judge-refused fits found m n e =
+    elim (then-refused (demand fits m) _ e)
+    [ inl r ↦ inl (demand-refused fits m r)
+    | inr r ↦ (let q = find-refused found n (r .2) in inr (demand-iff fits m .0 (r .1), q .0, q .1)) ]
+
+-- ---- writing the formula
+
+-- Refused only by the book, or by 12 where the formula has more words than the slice; the detail is 0.
+pub formula-refusal : (book : Bytes) (n k d : ℕ) → writeFormula book n ≡ refused k d
+    → Refusal book (λ I. n < length (wordsOf (formula I))) (λ I k d. ⊥) k d
+unfolding writeFormula
+formula-refusal book n k d e =
+    in-order book _ _ (λ I. leb (length (wordsOf (formula I))) n) _ (λ I. short-iff (length (wordsOf (formula I))) n)
+      (λ I r. accepted≢refused r) e
+
+-- The formula's text is refused only so too.
+pub text-refusal : (book : Bytes) (n k d : ℕ) → formulaText book n ≡ refused k d
+    → Refusal book (λ I. n < length (wordsOf (formula I))) (λ I k d. ⊥) k d
+unfolding formulaText
+text-refusal book n k d e =
+    elim (then-refused (writeFormula book n) _ e)
+    [ inl r ↦ formula-refusal book n k d r
+    | inr r ↦ elim (then-refused (readInstance book) _ (r .2))
+        [ inl q ↦ instance-refused book _ _ q | inr q ↦ accepted≢refused (q .2) ] ]
+
+-- ---- checking an assignment
+
+-- "the least false clause": number d, from 1, is false and every lower one is true
+pub record LeastFalse (α : ℕ → Bool) (cs : List Clause) (d : ℕ) : Type 0 where
+  pub fromOne : 1 ≤ d
+  pub upToLast : d ≤ length cs
+  pub isFalse : T (not (holds α (clauseAt cs d)))
+  pub lowerTrue : (e : ℕ) → 1 ≤ e → e < d → T (holds α (clauseAt cs e))
+
+-- the clause that is found, by its place from 0
+first-false : (α : ℕ → Bool) (n d : ℕ) (cs : List Clause) → firstFalse α n cs ≡ some d
+    → (i : ℕ) × (d ≡ n + i) × (i < length cs) × T (not (holds α (getD cs i []))) × ((j : ℕ) → j < i → T (holds α (getD cs j [])))
+unfolding firstFalse
+first-false α n d [] e = let z : _≡_ {A = ℕ} 0 1 = cc in absurd (omega arith)
+first-false α n d (c ∷ cs) e = decide (holds α c)
+    (λ h. let r = first-false α (suc n) d cs (rw (true-of (holds α c) h, firstFalse) at e) in
+        (suc (r .0), omega arith, omega arith, r .3, lower h (r .0) (r .4)))
+    (λ h. let q = rw (denied-of (holds α c) h, firstFalse) at e in
+        let s : n ≡ d = cc in
+        (0, omega arith, omega arith, h, λ j l. absurd (omega arith)))
+  where
+    lower : T (holds α c) → (i : ℕ) → ((j : ℕ) → j < i → T (holds α (getD cs j []))) → (j : ℕ) → j < suc i → T (holds α (getD (c ∷ cs) j []))
+    lower h i f zero l = h
+    lower h i f (suc j) l = f j (omega arith)
+
+-- and by its number from 1
+least-false : (α : ℕ → Bool) (cs : List Clause) (d : ℕ) → firstFalse α 1 cs ≡ some d → LeastFalse α cs d
+unfolding clauseAt
+least-false α cs d e =
+    let r = first-false α 1 d cs e in
+    let i : d - 1 ≡ r .0 = omega arith in
+    record { fromOne = omega arith; upToLast = omega arith; isFalse = rw i (r .3); lowerTrue = λ f a b. r .4 (f - 1) (omega arith) }
+
+-- What is wrong with an assignment: 13 "length or byte wrong"; 14 "a clause is false", with the least one as the detail.
+pub data AssignmentFault (I : Instance) (s : Bytes) : ℕ → ℕ → Type 0 where
+  assignmentUnfit : T (not (assignmentFits I s)) → AssignmentFault I s 13 0
+  clauseFalse : {d : ℕ} → T (assignmentFits I s) → LeastFalse (assigned s) (formula I) d → AssignmentFault I s 14 d
+
+-- 13 before 14
+assignment-fault : {k d : ℕ} (I : Instance) (s : Bytes) → judgeAssignment I s ≡ refused k d → AssignmentFault I s k d
+unfolding judgeAssignment
+assignment-fault {d = d} I s e =
+    elim (judge-refused (assignmentFits I s) (firstFalse (assigned s) 1 (formula I)) 13 14 e)
+    [ inl r ↦ rw (r .1, r .2) (assignmentUnfit (r .0)) | inr r ↦ rw (r .2) (clauseFalse (r .0) (least-false (assigned s) (formula I) d (r .1))) ]
+
+-- Refused only by the book, by 12 where the plan is longer than the slice, or for what is wrong with the assignment.
+pub assignment-refusal : (book assignment : Bytes) (n k d : ℕ) → checkAssignment book assignment n ≡ refused k d
+    → Refusal book (λ I. n < planLength I) (λ I. AssignmentFault I assignment) k d
+unfolding checkAssignment
+assignment-refusal book s n k d e =
+    in-order book _ _ (λ I. leb (planLength I) n) _ (λ I. short-iff (planLength I) n)
+      (λ I r. assignment-fault I s (judged-refused (judgeAssignment I s) _ r)) e
+
+-- ---- checking a plan
+
+-- What is wrong with a plan: 15 "length or a value wrong"; 16 "a rule broken", with the least one as the detail.
+pub data PlanFault (I : Instance) (s : Bytes) : ℕ → ℕ → Type 0 where
+  planUnfit : T (not (planFits I s)) → PlanFault I s 15 0
+  ruleBroken : {d : ℕ} → T (planFits I s) → FirstHolds d (ruleFaults I (planOf I s)) → PlanFault I s 16 d
+
+-- 15 before 16
+plan-fault : {k d : ℕ} (I : Instance) (s : Bytes) → judgePlan I s ≡ refused k d → PlanFault I s k d
+unfolding judgePlan brokenRule
+plan-fault {d = d} I s e =
+    elim (judge-refused (planFits I s) (brokenRule I (planOf I s)) 15 16 e)
+    [ inl r ↦ rw (r .1, r .2) (planUnfit (r .0)) | inr r ↦ rw (r .2) (ruleBroken (r .0) (first-some d _ (r .1))) ]
+
+-- Refused only by the book, by 12 where the assignment is longer than the slice, or for what is wrong with the plan.
+pub plan-refusal : (book plan : Bytes) (n k d : ℕ) → checkPlan book plan n ≡ refused k d
+    → Refusal book (λ I. n < variables I) (λ I. PlanFault I plan) k d
+unfolding checkPlan
+plan-refusal book s n k d e =
+    in-order book _ _ (λ I. leb (variables I) n) _ (λ I. short-iff (variables I) n)
+      (λ I r. plan-fault I s (judged-refused (judgePlan I s) _ r)) e
+
+-- ---- checking a refutation
+
+-- The steps that the check comes to: the number of the step at hand, from 1, the clauses that its hints may name, and what is
+-- left of the file. It goes on behind a step of which no condition holds and which has literals.
+pub data StepsTo (lent : Lent) (vars : ℕ) (cs₀ : List Clause) (file : Bytes) : ℕ → List Clause → Bytes → Type 0 where
+  firstStep : StepsTo lent vars cs₀ file 1 cs₀ file
+  nextStep : {step : ℕ} {cs : List Clause} {s : Bytes} → StepsTo lent vars cs₀ file step cs s
+      → T (all passes (stepFaults lent vars cs s)) → T (not (empty (stepAt s .literals)))
+      → StepsTo lent vars cs₀ file (suc step) (added cs s) (behind s)
+
+-- What is wrong with a refutation: the first condition that holds of a step that stands there, with the step as the detail, and
+-- 0 for 12; 21 "no empty step at the file's end, or any byte after an empty step that passed".
+pub data RefutationFault (lent : Lent) (vars : ℕ) (cs₀ : List Clause) (file : Bytes) : ℕ → ℕ → Type 0 where
+  stepFault : {k step : ℕ} {cs : List Clause} {s : Bytes} → StepsTo lent vars cs₀ file step cs s
+      → T (not (empty s)) → FirstHolds k (stepFaults lent vars cs s) → RefutationFault lent vars cs₀ file k (stepDetail k step)
+  noEnding : {step : ℕ} {cs : List Clause} {s : Bytes} → StepsTo lent vars cs₀ file step cs s
+      → T (empty s) → RefutationFault lent vars cs₀ file 21 0
+  bytesAfter : {step : ℕ} {cs : List Clause} {s : Bytes} → StepsTo lent vars cs₀ file step cs s
+      → T (all passes (stepFaults lent vars cs s)) → T (empty (stepAt s .literals)) → T (not (empty (behind s)))
+      → RefutationFault lent vars cs₀ file 21 0
+
+module _ (lent : Lent) (vars : ℕ) (cs₀ : List Clause) (file : Bytes) where
+  abbrev Wrong : ℕ → ℕ → Type 0
+  Wrong = RefutationFault lent vars cs₀ file
+
+  -- a step of which no condition holds is a whole frame
+  step-whole : (cs : List Clause) (s : Bytes) → T (all passes (stepFaults lent vars cs s)) → T (not (cutShort s))
+  unfolding stepFaults all passes
+  step-whole cs s h = let p = simp (and-iff, neither-iff) at h in p .0 .0 .0
+
+  -- the check from any step that it comes to; each frame has four bytes at least, so there is fuel enough
+  steps-fault : {k d : ℕ} (fuel step : ℕ) (cs : List Clause) (s : Bytes) → length s < fuel → StepsTo lent vars cs₀ file step cs s
+      → checkSteps lent vars fuel step cs s ≡ refused k d → Wrong k d
+  unfolding checkSteps
+  steps-fault zero step cs s l c e = absurd (omega arith)
+  steps-fault {k} {d} (suc fuel) step cs s l c e =
+      decide (empty s)
+        (λ h. same-refusal Wrong (rw (true-of (empty s) h, checkSteps) at e) (noEnding c h))
+        (λ h. found h (firstFault (stepFaults lent vars cs s)) refl (steps-fault fuel (suc step) (added cs s) (behind s)))
+    where
+      found : T (not (empty s)) → (o : Option ℕ) → firstFault (stepFaults lent vars cs s) ≡ o
+        → (length (behind s) < fuel → StepsTo lent vars cs₀ file (suc step) (added cs s) (behind s)
+          → checkSteps lent vars fuel (suc step) (added cs s) (behind s) ≡ refused k d → Wrong k d)
+        → Wrong k d
+      found h (some n) q next =
+          same-refusal Wrong (rw (denied-of (empty s) h, checkSteps, q) at e) (stepFault c h (first-some n _ q))
+      found h none q next =
+          let clear = first-none _ q in
+          let w = length-behind s (step-whole cs s clear) in
+          let r = rw (denied-of (empty s) h, checkSteps, q) at e in
+          let isLast = empty (stepAt s .literals) in
+          decide isLast
+            (λ t. decide (empty (behind s))
+              (λ b. accepted≢refused (rw (true-of isLast t, true-of (empty (behind s)) b) at r))
+              (λ b. same-refusal Wrong (rw (true-of isLast t, denied-of (empty (behind s)) b) at r) (bytesAfter c clear t b)))
+            (λ t. next (omega arith) (nextStep c clear t) (rw (denied-of isLast t) at r))
+
+-- Refused only by the book, by 12 where the formula does not fit the slices, or for what is wrong with the refutation.
+pub refutation-refusal : (book refutation : Bytes) (lent : Lent) (k d : ℕ) → checkRefutation book refutation lent ≡ refused k d
+    → Refusal book (λ I. T (not (formulaFits lent I))) (λ I. RefutationFault lent (variables I) (formula I) refutation) k d
+unfolding checkRefutation checkFile
+refutation-refusal book s lent k d e =
+    in-order book _ _ (formulaFits lent) _ (λ I. (λ h. h, λ h. h))
+      (λ I r. steps-fault lent (variables I) (formula I) s (suc (length s)) 1 (formula I) s (omega arith) firstStep r) e
+
+-- ---- the numbers of refusals
+
+-- from low to high
+abbrev pub Within : ℕ → ℕ → ℕ → Type 0
+Within low high k = (low ≤ k) × (k ≤ high)
+
+-- a test that the number of each line passes is passed by the number that is found
+numbered : (p : ℕ → Bool) (n : ℕ) (fs : List Fault) → T (all (λ f. p (f .number)) fs) → FirstHolds n fs → T (p n)
+unfolding all
+numbered p n fs h r =
+    let q = rw (r .split, all-append) at h in
+    and-iff (p n) _ .0 (and-iff (all (λ f. p (f .number)) (r .before)) _ .0 q .1) .0
+
+-- A book is refused by 1 to 11.
+pub read-number : (book : Bytes) (k d : ℕ) → readBook book ≡ refused k d → Within 1 11 k
+unfolding frameFaults kindFaults contentFaults bookFaults between all
+read-number book k d e =
+    let r = refusal-has-reason book k d e .1 in
+    bounds (elim (r .3)
+      [ inl h ↦ numbered (between 1 11) k _ (kinds (r .0 .book) (findKind (kindField (r .1)) kindOrder) (payloadOf (r .1))) h
+      | inr h ↦ numbered (between 1 11) k _ tt (h .2) ])
+  where
+    kinds : (b : Book) (o : Option Kind) (p : Bytes) → T (all (λ f. between 1 11 (f .number)) (kindFaults b o p))
+    kinds b none p = tt
+    kinds b (some headKind) p = tt
+    kinds b (some nodeKind) p = tt
+    kinds b (some segmentKind) p = tt
+    kinds b (some joinKind) p = tt
+    kinds b (some trainKind) p = tt
+    kinds b (some callKind) p = tt
+    kinds b (some unbreakableKind) p = tt
+    kinds b (some endKind) p = tt
+
+    bounds : T (between 1 11 k) → Within 1 11 k
+    bounds t = simp (and-iff, leb-iff) at t
+
+-- by book and room: 1 to 12; the rest is the second input's
+number-of : {book : Bytes} {Short : Instance → Type 0} {Input : Instance → ℕ → ℕ → Type 0} {k d : ℕ} → Refusal book Short Input k d
+    → Within 1 12 k ⊎ ((I : Instance) × Input I k d)
+number-of {book} (ofBook {k} e) = let r = read-number book k 0 e in inl (omega arith, omega arith)
+number-of (ofRoom b read h) = inl (omega arith, omega arith)
+number-of (ofInput b read h f) = inr (instanceOf b, f)
+
+-- Writing the formula is refused by 1 to 12.
+pub formula-number : (book : Bytes) (n k d : ℕ) → writeFormula book n ≡ refused k d → Within 1 12 k
+formula-number book n k d e = elim (number-of (formula-refusal book n k d e)) [ inl w ↦ w | inr f ↦ absurd (f .1) ]
+
+-- An assignment is refused by 1 to 14.
+pub assignment-number : (book assignment : Bytes) (n k d : ℕ) → checkAssignment book assignment n ≡ refused k d → Within 1 14 k
+assignment-number book s n k d e =
+    elim (number-of (assignment-refusal book s n k d e)) [ inl w ↦ (omega arith, omega arith) | inr f ↦ own (f .1) ]
+  where
+    own : {I : Instance} {k d : ℕ} → AssignmentFault I s k d → Within 1 14 k
+    own (assignmentUnfit h) = (omega arith, omega arith)
+    own (clauseFalse h f) = (omega arith, omega arith)
+
+-- A plan is refused by 1 to 12, 15 or 16.
+pub plan-number : (book plan : Bytes) (n k d : ℕ) → checkPlan book plan n ≡ refused k d → Within 1 12 k ⊎ Within 15 16 k
+plan-number book s n k d e = elim (number-of (plan-refusal book s n k d e)) [ inl w ↦ inl w | inr f ↦ inr (own (f .1)) ]
+  where
+    own : {I : Instance} {k d : ℕ} → PlanFault I s k d → Within 15 16 k
+    own (planUnfit h) = (omega arith, omega arith)
+    own (ruleBroken h f) = (omega arith, omega arith)
+
+-- A refutation is refused by 1 to 12 or 17 to 21.
+pub refutation-number : (book refutation : Bytes) (lent : Lent) (k d : ℕ) → checkRefutation book refutation lent ≡ refused k d
+    → Within 1 12 k ⊎ Within 17 21 k
+unfolding stepFaults all between
+refutation-number book s lent k d e = elim (number-of (refutation-refusal book s lent k d e)) [ inl w ↦ inl w | inr f ↦ own (f .1) ]
+  where
+    own : {vars : ℕ} {cs : List Clause} {k d : ℕ} → RefutationFault lent vars cs s k d → Within 1 12 k ⊎ Within 17 21 k
+    own (stepFault {k} c h f) =
+        elim (or-iff (between 1 12 k) (between 17 21 k) .0 (numbered (λ n. between 1 12 n || between 17 21 n) k _ tt f))
+        [ inl t ↦ inl (simp (and-iff, leb-iff) at t) | inr t ↦ inr (simp (and-iff, leb-iff) at t) ]
+    own (noEnding c h) = inr (omega arith, omega arith)
+    own (bytesAfter c h t b) = inr (omega arith, omega arith)
+
+-- ---- what is left of an output
+
+-- "Outputs are unchanged" on a refusal.
+pub untouched : {A : Type 0} (old : List A) (k d : ℕ) → overwrite old (written (refused k d)) ≡ old
+unfolding overwrite written
+untouched old k d = refl
+
+-- "A success changes only the stated length of an output": the slice stays as long as it was …
+pub same-length {ℓ} : {A : Type ℓ} (old new : List A) → length new ≤ length old → length (overwrite old new) ≡ length old
+unfolding overwrite
+same-length old new h = simp (length-append, length-drop) (omega arith)
+
+-- … and keeps what stands behind.
+pub kept-behind {ℓ} : {A : Type ℓ} (old new : List A) → drop (length new) (overwrite old new) ≡ drop (length new) old
+unfolding overwrite
+kept-behind old new = drop-append-seam new (drop (length new) old)
