@@ -241,10 +241,10 @@ def run_table(scratch, names, table):
 def run_tables(asked):
     """Lay the crates out in a scratch folder, check them, and return what differs and what was left undecided."""
     scratch = tempfile.mkdtemp(prefix="compare")
-    spec = os.path.join(scratch, "crates", "spec")
-    shutil.copytree(os.path.join(ROOT, "crates", "spec"), spec)
-    open(os.path.join(scratch, "crates.txt"), "w").write("spec:\nprobe: spec\n")
-    names = names_of_specs(os.path.join(spec, "specs"))
+    for crate in ("model", "spec"):
+        shutil.copytree(os.path.join(ROOT, "crates", crate), os.path.join(scratch, "crates", crate))
+    open(os.path.join(scratch, "crates.txt"), "w").write("model:\nspec: model\nprobe: model spec\n")
+    names = names_of_specs(os.path.join(scratch, "crates", "spec", "specs"))
     wrong, undecided = [], []
     for table in tables(asked):
         result = run_table(scratch, names, table)

@@ -18,7 +18,7 @@ use Rattle.spec.specs.Frames.{frame, kindField, Kind, headKind, nodeKind, segme
 use Rattle.spec.specs.Book.{Book, Segment, Join, Train, Call, noBook, callsOf, segmentAt, greatestNodeKind, joined, startNode, endNode, lengthInSegments, speedInSegments}
 use Rattle.spec.specs.BookFile.{headPayload, nodePayload, segmentPayload, joinPayload, trainPayload, callPayload, framesOf, bookFile, FitsFields}
 use Rattle.spec.specs.Runs.{leadsTo, linked, isPath, runsOf}
-use Rattle.spec.specs.Read.{headOf, segmentIn, joinIn, trainIn, callIn, headFits, segmentFits, joinFits, joinRepeats, trainFits, reachFits, placeFits, callFits, contentFaults, add, Reading, readingStart, isHead, isEnd, unknownKind, outOfOrder, kindFaults, frameFaults, addFound, pastFrame, bookFaults, step, stepAt, more, joinsOnce, readBook, wellFormed, between}
+use Rattle.spec.specs.Read.{headOf, segmentIn, joinIn, trainIn, callIn, headFits, segmentFits, joinFits, joinRepeats, trainFits, reachFits, placeFits, callFits, contentFaults, add, Reading, readingStart, isHead, isEnd, unknownKind, outOfOrder, kindFaults, frameFaults, addFound, pastFrame, bookFaults, readFrame, frameReadAt, more, joinsOnce, readBook, wellFormed, between}
 use Rattle.demands.proofs.Wellformed.{Parts, parts}
 use Rattle.demands.proofs.Faults.{passes, clear-first}
 use Rattle.demands.proofs.Growing.{none-iff, all-weaken, pick-append}
@@ -122,13 +122,13 @@ module _ (r : Reading) (k : Kind) (p rest : Bytes) (l : length p < 256 ^ 2) (o :
 
   -- and, unless it is the End, it is read and added
   reads-written : T (not (isEnd (kindNumber k)))
-    → step r (frame (kindNumber k) p ++ rest) ≡ more (record { last = rank (kindNumber k); book = add (r .book) k p }) rest
-  unfolding step stepAt pastFrame addFound
+    → readFrame r (frame (kindNumber k) p ++ rest) ≡ more (record { last = rank (kindNumber k); book = add (r .book) k p }) rest
+  unfolding readFrame frameReadAt pastFrame addFound
   reads-written e =
       let n = kind-back k in
       let q = kindField-frame (kindNumber k) p rest (n .2) l in
       let d : isEnd (kindField (frame (kindNumber k) p ++ rest)) ≡ false = rw q (denied-of (isEnd (kindNumber k)) e) in
-      rw (clear-first _ written-clear, d, stepAt, q, payloadOf-frame (kindNumber k) p rest (n .2) l
+      rw (clear-first _ written-clear, d, frameReadAt, q, payloadOf-frame (kindNumber k) p rest (n .2) l
         , behind-frame (kindNumber k) p rest (n .2) l, n .0)
 
 -- neither-iff a Head nor the End
@@ -354,7 +354,7 @@ head-clear b h q = rw q (simp (and-iff, Bool·not-not) (simp and-iff at h, tt))
 
 -- the Head frame is read
 head-read : (b : Book) → Parts b → FitsFields b → (rest : Bytes)
-  → step readingStart (frame (kindNumber headKind) (headPayload b) ++ rest) ≡ more (record { last = 1; book = with-rows b [] [] [] [] [] }) rest
+  → readFrame readingStart (frame (kindNumber headKind) (headPayload b) ++ rest) ≡ more (record { last = 1; book = with-rows b [] [] [] [] [] }) rest
 unfolding readingStart misplaced isHead isEnd kindNumber rank rankIn kindOrder lengthFits with-rows headPayload littleEndian timeWidth headFits
   add between
 head-read b w f rest =

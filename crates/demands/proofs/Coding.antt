@@ -13,7 +13,7 @@ use Rattle.laws.proofs.Tests.{and-iff, or-iff, eqb-iff, ltb-iff, upTo-mem, any-
 use Rattle.spec.specs.Lists.{all, any, upTo}
 use Rattle.spec.specs.Instance.{Instance}
 use Rattle.spec.specs.Plan.{Plan, Move, run, absent, gone, isAbsent, isGone, runs, ifRun, isMove}
-use Rattle.spec.specs.Formula.{borderVar, runVar, goneVar, moveVar, familyB, familyC, base}
+use Rattle.spec.specs.Formula.{borderVar, runVar, goneVar, familyB, familyC, base}
 use Rattle.spec.specs.Assignment.{satisfies, firstRun, chosen, decoded}
 use Rattle.demands.proofs.Meaning.{meansB, meansC}
 
@@ -63,12 +63,12 @@ searched f (q ∷ rs) = search-cons f q rs (f q) refl (searched f rs)
 
 -- no two moves of a train in an interval are true
 pub Single : Instance → (ℕ → Bool) → ℕ → ℕ → Type 0
-Single I α i t = (m n : ℕ) → m < I .runs i + 1 → n < I .runs i + 1 → T (α (moveVar I i t m)) → T (α (moveVar I i t n)) → m ≡ n
+Single I α i t = (m n : ℕ) → m < I .runs i + 1 → n < I .runs i + 1 → T (α (runVar I i t m)) → T (α (runVar I i t n)) → m ≡ n
 
 -- before the departure B rules out every move
 no-move : (I : Instance) (α : ℕ → Bool) → T (satisfies α (familyB I)) → (i : ℕ) → i < I .trains → (t : ℕ) → t < I .departure i
-    → (m : ℕ) → m < I .runs i + 1 → T (α (moveVar I i t m)) → ⊥
-unfolding moveVar runVar goneVar
+    → (m : ℕ) → m < I .runs i + 1 → T (α (runVar I i t m)) → ⊥
+unfolding runVar goneVar
 no-move I α hB i l t early m hm a =
     elim (le-or-lt (I .runs i) m)
     [ inl last ↦ (let e : I .runs i ≡ m = omega arith in meansB I α .0 hB i l t early .1 (rw e a))
@@ -83,7 +83,7 @@ single I α hB hC i l t h m n hm hn a b =
     [ inl late ↦ pairs (meansC I α .0 hC i l t late h .1)
     | inr early ↦ absurd (no-move I α hB i l t early m hm a) ]
   where
-    pairs : ((m : ℕ) → m < I .runs i + 1 → (n : ℕ) → m + 1 ≤ n → n < I .runs i + 1 → T (α (moveVar I i t m)) → T (α (moveVar I i t n)) → ⊥)
+    pairs : ((m : ℕ) → m < I .runs i + 1 → (n : ℕ) → m + 1 ≤ n → n < I .runs i + 1 → T (α (runVar I i t m)) → T (α (runVar I i t n)) → ⊥)
         → m ≡ n
     pairs no-two =
         elim (le-or-lt (m + 1) n)
@@ -103,7 +103,7 @@ module _ (I : Instance) (α : ℕ → Bool) (i t : ℕ) (one-move : Single I α 
 
   -- a run was found: it alone is true
   coded-run : (q : ℕ) → T (α (runVar I i t q)) → q < I .runs i → Coded (run q)
-  unfolding Coded isMove runs isGone Single moveVar runVar goneVar
+  unfolding Coded isMove runs isGone Single runVar goneVar
   coded-run q a l =
       ( ltb-iff q (I .runs i) .1 l
       , (λ r k. bool-ext (α (runVar I i t r)) (eqb r q)

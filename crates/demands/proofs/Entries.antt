@@ -1,7 +1,7 @@
 -- What it means that an entry point accepts: each check in its row has passed. Assumes nothing.
 use mathlib.Core.Path.{_≡_, refl, sym, ap, _∙_, subst}
 use mathlib.Core.Logic.{_↔_, _≢_}
-use mathlib.Core.Bool.{Bool, true, false, not, _&&_, _||_, Bool·not-not}
+use mathlib.Core.Bool.{Bool, true, false, not, _&&_, _||_}
 use mathlib.Core.Option.{Option, none, some}
 use Prim.Native.Nat.{ℕ, zero, suc, _+_, _≤_, _<_}
 use native.Mathlib.Omega.{arith}
@@ -18,7 +18,6 @@ use Rattle.spec.specs.Assignment.{satisfies, holds, firstFalse, assigned, assig
 use Rattle.spec.specs.Refutation.{Lent, checkFile}
 use Rattle.spec.specs.Entry.{demand, findNone, readInstance, judgeAssignment, judgePlan, checkAssignment, checkPlan, checkRefutation, formulaFits}
 use Rattle.demands.proofs.Faults.{passes, first-none, clear-first}
-use Rattle.demands.proofs.Moves.{kept, from-kept}
 
 -- ---- the parts of a check
 
@@ -74,13 +73,8 @@ assignment-iff I s =
 
 -- no rule is broken exactly where all six hold
 pub no-broken : (I : Instance) (p : Plan) → (brokenRule I p ≡ none) ↔ T (keepsRules I p)
-unfolding brokenRule ruleFaults passes all
-no-broken I p =
-    ( (λ e. let k = simp (Bool·not-not, and-iff) at (first-none (ruleFaults I p) e) in
-        from-kept I p (record { one = k .0; two = k .1 .0; three = k .1 .1 .0; four = k .1 .1 .1 .0; five = k .1 .1 .1 .1 .0; six = k .1 .1 .1 .1 .1 .0 }))
-    , (λ h. let k = kept I p h in
-        clear-first (ruleFaults I p)
-        (simp (Bool·not-not, and-iff) (k .one, (k .two, (k .three, (k .four, (k .five, (k .six, tt)))))))))
+unfolding brokenRule keepsRules passes
+no-broken I p = (first-none (ruleFaults I p), clear-first (ruleFaults I p))
 
 -- a plan is accepted exactly where its bytes fit and it keeps the rules
 pub plan-iff : (I : Instance) (s : Bytes) → (judgePlan I s ≡ accepted tt) ↔ (T (planFits I s) × T (keepsRules I (planOf I s)))

@@ -13,7 +13,7 @@ use lib.Signed.{mag}
 use lib.Dec.{T, ltb}
 use Rattle.spec.specs.Lists.{Bytes, all, count, upTo, each, one, accepted}
 use Rattle.spec.specs.Numbers.{littleEndian, number, field, signed, unsigned}
-use Rattle.spec.specs.Frames.{frame, stepNumber, stepLengthFits, payloadOf, behind}
+use Rattle.spec.specs.Frames.{frame, stepKind, stepLengthFits, payloadOf, behind}
 use Rattle.spec.specs.Formula.{Clause, wordsOf}
 use Rattle.spec.specs.Refutation.{ProofStep, stepPayload, fileOf, literalCount, hintCount, stepIn, InFields, Lent, clausesFit}
 use Rattle.spec.specs.Refutation.{GoodStep, GoodSteps, ending, going, checkFile}
@@ -202,7 +202,7 @@ fits-prefix lent cs ds h =
 -- ---- one step of a file
 
 abbrev stepFrame : ProofStep → Bytes
-stepFrame st = frame stepNumber (stepPayload st)
+stepFrame st = frame stepKind (stepPayload st)
 
 module _ (lent : Lent) (vars : ℕ) where
   passes-good : {cs : List Clause} {s : Bytes} → Passes lent vars cs s → GoodStep vars cs (stepAt s)
@@ -220,24 +220,24 @@ module _ (lent : Lent) (vars : ℕ) where
 
   -- a good step that fits is read where it is written, and passes
   module _ (st : ProofStep) (f : InFields st) (rest : Bytes) where
-    small : stepNumber < 256 ^ 2
-    unfolding stepNumber
+    small : stepKind < 256 ^ 2
+    unfolding stepKind
     small = omega arith
 
     payload-back : payloadOf (stepFrame st ++ rest) ≡ stepPayload st
-    payload-back = payloadOf-frame stepNumber (stepPayload st) rest small (payload-short st f)
+    payload-back = payloadOf-frame stepKind (stepPayload st) rest small (payload-short st f)
 
     step-back : stepAt (stepFrame st ++ rest) ≡ st
     step-back = rw payload-back (step-written st f)
 
     behind-back : behind (stepFrame st ++ rest) ≡ rest
-    behind-back = behind-frame stepNumber (stepPayload st) rest small (payload-short st f)
+    behind-back = behind-frame stepKind (stepPayload st) rest small (payload-short st f)
 
     passes-written : (cs : List Clause) → GoodStep vars cs st → T (clausesFit lent (cs ++ one (st .literals)))
         → Passes lent vars cs (stepFrame st ++ rest)
     passes-written cs g room = record
-        { whole = whole-frame stepNumber (stepPayload st) rest small (payload-short st f)
-        ; kind = kindField-frame stepNumber (stepPayload st) rest small (payload-short st f)
+        { whole = whole-frame stepKind (stepPayload st) rest small (payload-short st f)
+        ; kind = kindField-frame stepKind (stepPayload st) rest small (payload-short st f)
         ; sized = rw payload-back (payload-sized st f)
         ; literalsGood = rw step-back (g .literalsGood)
         ; hintsGood = rw step-back (g .hintsGood)

@@ -9,7 +9,7 @@ use Rattle.laws.proofs.Tests.{meaning, and-iff, or-iff, all-iff}
 use Rattle.laws.proofs.Rows.{rows, all-append}
 use Rattle.spec.specs.Lists.{all, any, upTo, range, each, only, one}
 use Rattle.spec.specs.Instance.{Instance, inWindow, servedAtDeparture}
-use Rattle.spec.specs.Formula.{Literal, Clause, is, not′, borderVar, runVar, goneVar, claimVar, moveVar, familyA, familyB, familyC, familyD, familyE, familyF, familyG, familyH, familyI, ownVariables, formula}
+use Rattle.spec.specs.Formula.{Literal, Clause, is, not′, borderVar, runVar, goneVar, claimVar, familyA, familyB, familyC, familyD, familyE, familyF, familyG, familyH, familyI, ownVariables, formula}
 use Rattle.spec.specs.Extra.{extraClauses}
 use Rattle.spec.specs.Assignment.{Value, yes′, no′, open′, truth, deny, isYes, valueOf, isTrue, holds, satisfies}
 
@@ -50,7 +50,7 @@ module _ (I : Instance) (α : ℕ → Bool) where
   pub meansC : T (satisfies α (familyC I)) ↔ ((i : ℕ) → i < I .trains → (t : ℕ) → I .departure i ≤ t → t < I .intervals
       → (T (any (λ r. α (runVar I i t r)) (upTo (I .runs i))) ⊎ T (α (goneVar I i t)))
       × ((m : ℕ) → m < I .runs i + 1 → (n : ℕ) → m + 1 ≤ n → n < I .runs i + 1
-          → T (α (moveVar I i t m)) → T (α (moveVar I i t n)) → ⊥))
+          → T (α (runVar I i t m)) → T (α (runVar I i t n)) → ⊥))
   unfolding satisfies holds familyC
   meansC = simp taken (simp or-iff Iff·rfl)
 

@@ -1,16 +1,16 @@
 -- What each plan rule says, and what a valuation that codes a plan says of each move. Assumes nothing.
 use mathlib.Core.Path.{_≡_, refl, sym, ap, _∙_, subst}
 use mathlib.Core.Logic.{_↔_, Iff·rfl, _⊎_, inl, inr}
-use mathlib.Core.Bool.{Bool, true, false, not, _&&_, _||_}
+use mathlib.Core.Bool.{Bool, true, false, not, _&&_, _||_, Bool·not-not}
 use Prim.Native.Nat.{ℕ, zero, suc, _+_, _-_, _≤_, _<_}
 use native.Mathlib.Omega.{arith}
 use mathlib.Core.List.{List, [], _∷_, List·Memᴰ}
 use lib.Dec.{T, eqb, eqb-refl}
-use Rattle.laws.proofs.Tests.{meaning, and-iff, or-iff, all-iff, eqb-iff, ltb-iff}
+use Rattle.laws.proofs.Tests.{meaning, and-iff, or-iff, any-iff, eqb-iff, ltb-iff}
 use Rattle.spec.specs.Lists.{all, any, upTo, range}
 use Rattle.spec.specs.Instance.{Instance, inWindow, servedAtDeparture}
-use Rattle.spec.specs.Sections.{together}
-use Rattle.spec.specs.Plan.{Plan, Move, run, absent, gone, isAbsent, isGone, runs, ifRun, ofRun, isMove, rule1, rule2, rule3, rule4, rule5, rule6, servedBy, keepsRules}
+use Rattle.spec.specs.Sections.{together, shareSection}
+use Rattle.spec.specs.Plan.{Plan, Move, run, absent, gone, isAbsent, isGone, runs, ifRun, ofRun, isMove, rule1, rule2, rule3, rule4, rule5, rule6, servedBy, ruleFaults, keepsRules}
 use Rattle.spec.specs.Formula.{borderVar, runVar, goneVar}
 use Rattle.demands.proofs.Coding.{Codes}
 
@@ -48,10 +48,10 @@ module _ (I : Instance) (p : Plan) where
   means5 = simp meaning (simp or-iff Iff·rfl)
 
   pub means6 : T (rule6 I p) ↔ ((t : ℕ) → t < I .intervals → (i : ℕ) → i < I .trains → (j : ℕ) → i + 1 ≤ j → j < I .trains
-      → (s : ℕ) → List·Memᴰ s (ofRun (p .move i t) (I .path i)) → (u : ℕ) → List·Memᴰ u (ofRun (p .move j t) (I .path j))
-      → T (together I (p .border) s u) → ⊥)
-  unfolding rule6
-  means6 = simp (meaning, all-iff) Iff·rfl
+      → ((s : ℕ) × List·Memᴰ s (ofRun (p .move i t) (I .path i))
+          × ((u : ℕ) × List·Memᴰ u (ofRun (p .move j t) (I .path j)) × T (together I (p .border) s u))) → ⊥)
+  unfolding rule6 shareSection
+  means6 = simp (meaning, any-iff) Iff·rfl
 
   -- the six rules, by name
   pub record Kept : Type 0 where
@@ -63,14 +63,14 @@ module _ (I : Instance) (p : Plan) where
     pub six : T (rule6 I p)
 
   pub kept : T (keepsRules I p) → Kept
-  unfolding keepsRules
+  unfolding keepsRules ruleFaults all
   kept h =
-      let k = simp and-iff at h in
-      record { one = k .0 .0 .0 .0 .0; two = k .0 .0 .0 .0 .1; three = k .0 .0 .0 .1; four = k .0 .0 .1; five = k .0 .1; six = k .1 }
+      let k = simp (Bool·not-not, and-iff) at h in
+      record { one = k .0; two = k .1 .0; three = k .1 .1 .0; four = k .1 .1 .1 .0; five = k .1 .1 .1 .1 .0; six = k .1 .1 .1 .1 .1 .0 }
 
   pub from-kept : Kept → T (keepsRules I p)
-  unfolding keepsRules
-  from-kept k = simp and-iff (((((k .one, k .two), k .three), k .four), k .five), k .six)
+  unfolding keepsRules ruleFaults all
+  from-kept k = simp (Bool·not-not, and-iff) (k .one, (k .two, (k .three, (k .four, (k .five, (k .six, tt))))))
 
 -- ---- moves
 

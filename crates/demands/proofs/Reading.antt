@@ -14,7 +14,7 @@ use lib.Dec.{T, eqb, eqb→eq, T-not}
 use Rattle.spec.specs.Lists.{Bytes, all, any, firstFault, Verdict, accepted, refused}
 use Rattle.spec.specs.Frames.{kindField, behind, cutShort, payloadOf, Kind, headKind, nodeKind, segmentKind, joinKind, trainKind, callKind, unbreakableKind, endKind, kindNumber, kindOrder, findKind, rankIn, rank}
 use Rattle.spec.specs.Book.{Book, noBook}
-use Rattle.spec.specs.Read.{Reading, readingStart, isEnd, frameFaults, bookFaults, pastFrame, refuseOr, Step, stop, more, stepAt, step, unknownKind, isHead, outOfOrder, kindFaults, addFound, contentFaults, add, readFrom, readBook, wellFormed}
+use Rattle.spec.specs.Read.{Reading, readingStart, isEnd, frameFaults, bookFaults, pastFrame, refuseOr, FrameRead, stop, more, frameReadAt, readFrame, unknownKind, isHead, outOfOrder, kindFaults, addFound, contentFaults, add, readFrom, readBook, wellFormed}
 use Rattle.demands.proofs.Growing.{Growing, growing-head, growing-add, growing-whole}
 use Rattle.demands.proofs.Faults.{passes, FirstHolds, first-none, clear-first, first-some, holds-first}
 use Rattle.laws.proofs.Frames.{length-behind}
@@ -25,7 +25,7 @@ use Rattle.laws.proofs.Tests.{and-iff, not-iff, eqb-iff, true-of, denied-of, fr
 -- The readings that the reader comes to from the start of s, and what is then left of it.
 pub data ReadsTo (s : Bytes) : Reading → Bytes → Type 0 where
   start : ReadsTo s readingStart s
-  next : {r r″ : Reading} {s′ s″ : Bytes} → ReadsTo s r s′ → step r s′ ≡ more r″ s″ → ReadsTo s r″ s″
+  next : {r r″ : Reading} {s′ s″ : Bytes} → ReadsTo s r s′ → readFrame r s′ ≡ more r″ s″ → ReadsTo s r″ s″
 
 -- How reading ends at the frame at the start of s, with the verdict v.
 pub data Ends (r : Reading) (s : Bytes) (v : Verdict Book) : Type 0 where
@@ -43,14 +43,14 @@ pub record GoesOn (r : Reading) (s : Bytes) (r′ : Reading) (s′ : Bytes) : Ty
   pub rest : s′ ≡ behind s
 
 module _ (r : Reading) (s : Bytes) where
-  -- what the two ends of a step mean
-  Meaning : Step → Type 0
+  -- what the two ends of a readFrame mean
+  Meaning : FrameRead → Type 0
   Meaning (stop v) = Ends r s v
   Meaning (more r′ s′) = GoesOn r s r′ s′
 
-  -- a step is what it means
-  step-means : Meaning (step r s)
-  unfolding step stepAt Meaning refuseOr
+  -- a readFrame is what it means
+  step-means : Meaning (readFrame r s)
+  unfolding readFrame frameReadAt Meaning refuseOr
   step-means = go (firstFault (frameFaults r s)) refl
     where
       atEnd : (o : Option ℕ) → firstFault (bookFaults (r .book)) ≡ o → T (all passes (frameFaults r s)) → T (isEnd (kindField s))
@@ -63,32 +63,32 @@ module _ (r : Reading) (s : Bytes) where
       clear true e c = atEnd (firstFault (bookFaults (r .book))) refl c (from-true e)
       clear false e c = record { clear = c; notEnd = from-denied e; reading = refl; rest = refl }
 
-      go : (o : Option ℕ) → firstFault (frameFaults r s) ≡ o → Meaning (stepAt o r s)
+      go : (o : Option ℕ) → firstFault (frameFaults r s) ≡ o → Meaning (frameReadAt o r s)
       go (some n) e = frame n (first-some n _ e) refl
       go none e = clear (isEnd (kindField s)) refl (first-none _ e)
 
   -- read at either end
-  ends : (v : Verdict Book) → step r s ≡ stop v → Ends r s v
+  ends : (v : Verdict Book) → readFrame r s ≡ stop v → Ends r s v
   unfolding Meaning
   ends v e = subst Meaning e step-means
 
-  goes-on : (r′ : Reading) (s′ : Bytes) → step r s ≡ more r′ s′ → GoesOn r s r′ s′
+  goes-on : (r′ : Reading) (s′ : Bytes) → readFrame r s ≡ more r′ s′ → GoesOn r s r′ s′
   unfolding Meaning
   goes-on r′ s′ e = subst Meaning e step-means
 
-  -- and back: where reading ends so, the step is that verdict
-  stops : (v : Verdict Book) → Ends r s v → step r s ≡ stop v
-  unfolding step stepAt refuseOr
+  -- and back: where reading ends so, the readFrame is that verdict
+  stops : (v : Verdict Book) → Ends r s v → readFrame r s ≡ stop v
+  unfolding readFrame frameReadAt refuseOr
   stops v (frame n h e) = rw (holds-first n _ h, e)
-  stops v (book n c t h e) = rw (clear-first _ c, true-of (isEnd (kindField s)) t, stepAt, holds-first n _ h, e)
-  stops v (pass c t d e) = rw (clear-first _ c, true-of (isEnd (kindField s)) t, stepAt, clear-first _ d, e)
+  stops v (book n c t h e) = rw (clear-first _ c, true-of (isEnd (kindField s)) t, frameReadAt, holds-first n _ h, e)
+  stops v (pass c t d e) = rw (clear-first _ c, true-of (isEnd (kindField s)) t, frameReadAt, clear-first _ d, e)
 
-  -- and the step goes on exactly where the frame has no fault and is not the End
-  pub goes-iff : (r′ : Reading) (s′ : Bytes) → (step r s ≡ more r′ s′) ↔ GoesOn r s r′ s′
-  unfolding step stepAt
+  -- and the readFrame goes on exactly where the frame has no fault and is not the End
+  pub goes-iff : (r′ : Reading) (s′ : Bytes) → (readFrame r s ≡ more r′ s′) ↔ GoesOn r s r′ s′
+  unfolding readFrame frameReadAt
   goes-iff r′ s′ =
       ( goes-on r′ s′
-      , λ g. rw (clear-first _ (g .clear), denied-of (isEnd (kindField s)) (g .notEnd), stepAt, g .reading, g .rest) )
+      , λ g. rw (clear-first _ (g .clear), denied-of (isEnd (kindField s)) (g .notEnd), frameReadAt, g .reading, g .rest) )
 
 -- What a frame without a fault is.
 record Fine (r : Reading) (s : Bytes) : Type 0 where
@@ -103,17 +103,17 @@ unfolding frameFaults all passes
 fine r s c = let p = simp and-iff at c in record { whole = p .0; known = p .1 .0; inOrder = p .1 .1 .0; content = p .1 .1 .1 }
 
 -- what is left behind a frame is shorter
-less-left : (r r′ : Reading) (s s′ : Bytes) → step r s ≡ more r′ s′ → length s′ < length s
+less-left : (r r′ : Reading) (s s′ : Bytes) → readFrame r s ≡ more r′ s′ → length s′ < length s
 less-left r r′ s s′ e = let g = goes-on r s r′ s′ e in rw (g .rest) (omega (arith, length-behind s (fine r s (g .clear) .whole)))
 
 -- ---- the whole file
 
--- reading with fuel left stops, or goes on, where the step does
-stops-reading : (f : ℕ) (r : Reading) (s : Bytes) (v : Verdict Book) → step r s ≡ stop v → readFrom (suc f) r s ≡ v
+-- reading with fuel left stops, or goes on, where the readFrame does
+stops-reading : (f : ℕ) (r : Reading) (s : Bytes) (v : Verdict Book) → readFrame r s ≡ stop v → readFrom (suc f) r s ≡ v
 unfolding readFrom
 stops-reading f r s v e = rw (e, readFrom)
 
-reads-on : (f : ℕ) (r r′ : Reading) (s s′ : Bytes) → step r s ≡ more r′ s′ → readFrom (suc f) r s ≡ readFrom f r′ s′
+reads-on : (f : ℕ) (r r′ : Reading) (s s′ : Bytes) → readFrame r s ≡ more r′ s′ → readFrom (suc f) r s ≡ readFrom f r′ s′
 unfolding readFrom
 reads-on f r r′ s s′ e = rw (e, readFrom)
 
@@ -121,9 +121,9 @@ reads-on f r r′ s s′ e = rw (e, readFrom)
 enough : (f g : ℕ) (r : Reading) (s : Bytes) → length s < f → length s < g → readFrom f r s ≡ readFrom g r s
 enough zero g r s h k = absurd (not-suc-le-zero h)
 enough (suc f) zero r s h k = absurd (not-suc-le-zero k)
-enough (suc f) (suc g) r s h k = go (step r s) refl (enough f g)
+enough (suc f) (suc g) r s h k = go (readFrame r s) refl (enough f g)
   where
-    go : (o : Step) → step r s ≡ o → ((r : Reading) (s : Bytes) → length s < f → length s < g → readFrom f r s ≡ readFrom g r s)
+    go : (o : FrameRead) → readFrame r s ≡ o → ((r : Reading) (s : Bytes) → length s < f → length s < g → readFrom f r s ≡ readFrom g r s)
       → readFrom (suc f) r s ≡ readFrom (suc g) r s
     go (stop v) e rest = stops-reading f r s v e ∙ sym (stops-reading g r s v e)
     go (more r′ s′) e rest =
@@ -142,9 +142,9 @@ along s s″ r″ (next {r = r} {s′ = s′} c e) =
 finds : (f : ℕ) (s s′ : Bytes) (r : Reading) → length s′ < f → ReadsTo s r s′
   → (r″ : Reading) × (s″ : Bytes) × ReadsTo s r″ s″ × Ends r″ s″ (readFrom f r s′)
 finds zero s s′ r h c = absurd (not-suc-le-zero h)
-finds (suc f) s s′ r h c = go (step r s′) refl (finds f s)
+finds (suc f) s s′ r h c = go (readFrame r s′) refl (finds f s)
   where
-    go : (o : Step) → step r s′ ≡ o
+    go : (o : FrameRead) → readFrame r s′ ≡ o
       → ((s″ : Bytes) (r : Reading) → length s″ < f → ReadsTo s r s″
         → (r‴ : Reading) × (s‴ : Bytes) × ReadsTo s r‴ s‴ × Ends r‴ s‴ (readFrom f r s″))
       → (r″ : Reading) × (s″ : Bytes) × ReadsTo s r″ s″ × Ends r″ s″ (readFrom (suc f) r s′)

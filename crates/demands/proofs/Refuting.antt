@@ -12,7 +12,7 @@ use lib.ListN.{length, getD}
 use lib.IntN.{pos, negsuc}
 use lib.Dec.{T, leb, ltb, eqb, eqb→eq, eqb-refl, T-not, not-T}
 use Rattle.spec.specs.Lists.{Bytes, any, all, one, only, pick, empty, Fault, firstFault, Verdict, accepted, refused}
-use Rattle.spec.specs.Frames.{stepNumber, stepLengthFits, kindField, payloadOf, behind, cutShort}
+use Rattle.spec.specs.Frames.{stepKind, stepLengthFits, kindField, payloadOf, behind, cutShort}
 use Rattle.spec.specs.Formula.{Literal, Clause}
 use Rattle.spec.specs.Assignment.{Value, open′, yes′, no′, deny, truth, isYes, valueOf, isTrue, holds, satisfies}
 use Rattle.spec.specs.Refutation.{ProofStep, stepIn, variableOf, risesFrom, literalsFit, hintsFit, Lent, clausesFit}
@@ -369,7 +369,7 @@ added cs s = cs ++ one (stepAt s .literals)
 -- What a step that passes has: its frame is whole and of its kind, and no fault holds.
 pub record Passes (lent : Lent) (vars : ℕ) (cs : List Clause) (s : Bytes) : Type 0 where
   pub whole : T (not (cutShort s))
-  pub kind : kindField s ≡ stepNumber
+  pub kind : kindField s ≡ stepKind
   pub sized : T (stepLengthFits (payloadOf s))
   pub literalsGood : T (literalsFit vars (stepAt s .literals))
   pub hintsGood : T (hintsFit (length cs + 1) (stepAt s .hints))

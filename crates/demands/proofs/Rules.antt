@@ -173,7 +173,9 @@ module _ (I : Instance) (α : ℕ → Bool) (p : Plan) (code : Codes I α p) (fa
     in-book i l t h gone e s m = absurd (List·Memᴰ·not-nil m)
 
     keeps6 : T (rule6 I p)
-    keeps6 = means6 I p .1 λ t h i l j k l′ s ms u mu together-su.
+    keeps6 = means6 I p .1 λ t h i l j k l′ both.
+        let (s, ms, rest) = both in
+        let (u, mu, together-su) = rest in
         let hs = in-book i l t h (p .move i t) refl s ms in
         let hu = in-book j l′ t h (p .move j t) refl u mu in
         let chain = together-chain I (p .border) s u hs hu .0 together-su in

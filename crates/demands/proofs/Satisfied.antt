@@ -12,7 +12,7 @@ use Rattle.spec.specs.Lists.{all, any, upTo, range}
 use Rattle.spec.specs.Instance.{Instance, inWindow, servedAtDeparture}
 use Rattle.spec.specs.Sections.{together}
 use Rattle.spec.specs.Plan.{Plan, Move, run, absent, gone, isAbsent, isGone, runs, ifRun, ofRun, servedBy, keepsRules}
-use Rattle.spec.specs.Formula.{borderVar, runVar, goneVar, claimVar, moveVar, ownVariables, formula, familyA, familyB, familyC, familyD, familyE, familyF, familyG, familyH, familyI}
+use Rattle.spec.specs.Formula.{borderVar, runVar, goneVar, claimVar, ownVariables, formula, familyA, familyB, familyC, familyD, familyE, familyF, familyG, familyH, familyI}
 use Rattle.spec.specs.Extra.{extraClauses}
 use Rattle.spec.specs.Assignment.{satisfies, claims}
 use Rattle.demands.proofs.Sections.{neighbours-iff, together-refl, together-sym, together-trans, together-step}
@@ -57,8 +57,8 @@ module _ (I : Instance) (α : ℕ → Bool) (p : Plan) (code : Codes I α p) (ru
 
   -- a lower move is a run, and rules a higher one out
   no-two : (i : ℕ) → i < I .trains → (t : ℕ) → t < I .intervals → (m : ℕ) → m < I .runs i + 1 → (n : ℕ) → m + 1 ≤ n → n < I .runs i + 1
-      → T (α (moveVar I i t m)) → T (α (moveVar I i t n)) → ⊥
-  unfolding moveVar runVar goneVar
+      → T (α (runVar I i t m)) → T (α (runVar I i t n)) → ⊥
+  unfolding runVar goneVar
   no-two i l t h m hm n mn hn a b =
       let first = run-true I α p code i l t h m (omega arith) a in
       elim (le-or-lt (I .runs i) n)
@@ -149,8 +149,8 @@ module _ (I : Instance) (α : ℕ → Bool) (p : Plan) (code : Codes I α p) (ru
     satisfiesI = meansI I α .1 λ t h i l j k l′ s hs a b.
         let v = touched i l t h s hs a in
         let w = touched j l′ t h s hs b in
-        means6 I p .0 (rules .six) t h i l j k l′ (v .0) (v .1) (w .0) (w .1)
-            (together-trans I (p .border) (v .0) s (w .0) hs (v .2) (together-sym I (p .border) meets (w .0) s (w .2)))
+        means6 I p .0 (rules .six) t h i l j k l′ (v .0, v .1, (w .0, w .1,
+            together-trans I (p .border) (v .0) s (w .0) hs (v .2) (together-sym I (p .border) meets (w .0) s (w .2))))
 
     pub kept-satisfies : T (satisfies α (extraClauses I (ownVariables I))) → T (satisfies α (formula I))
     kept-satisfies extra =

@@ -10,14 +10,14 @@ use lib.IntN.{ℤ, pos, negsuc}
 use lib.Dec.{eqb}
 use Rattle.spec.specs.Lists.{Bytes, Verdict, accepted, refused, andThen, pick, upTo, one, each, count, range, only, all, any, empty, lastOr, same, has, different, sumTo, firstFault}
 use Rattle.spec.specs.Numbers.{littleEndian, number, field, signed, unsigned, digits, decimal, decimalZ}
-use Rattle.spec.specs.Frames.{frame, payloadLength, kindField, payloadOf, behind, cutShort, kindNumber, stepNumber, kindOrder, findKind, rankIn, rank, timeWidth, trainCountAt, lengthFits, stepLengthFits}
+use Rattle.spec.specs.Frames.{frame, payloadLength, kindField, payloadOf, behind, cutShort, kindNumber, stepKind, kindOrder, findKind, rankIn, rank, timeWidth, trainCountAt, lengthFits, stepLengthFits}
 use Rattle.spec.specs.Book.{Book, noBook, nodeKindAt, segmentAt, trainAt, callsOf, noCall, goalOf, deniesBorder, forcesBorder, greatestNodeKind, touches, shareNode, segmentOf, startNode, endNode, joinIs, joined, lengthInSegments, speedInSegments}
 use Rattle.spec.specs.Runs.{leadsTo, linked, isPath, directed, goesOn, extend, pathsOf, runsOf, startPlace, endPlace, contains}
-use Rattle.spec.specs.Read.{readBook, headOf, segmentIn, joinIn, trainIn, callIn, between, headFits, segmentFits, joinFits, trainFits, reachFits, placeFits, callFits, joinRepeats, someHas, mayDivide, contentFaults, add, readingStart, isHead, isEnd, unknownKind, outOfOrder, kindFaults, frameFaults, addFound, pastFrame, bookFaults, refuseOr, stepAt, step, readFrom}
+use Rattle.spec.specs.Read.{readBook, headOf, segmentIn, joinIn, trainIn, callIn, between, headFits, segmentFits, joinFits, trainFits, reachFits, placeFits, callFits, joinRepeats, someHas, mayDivide, contentFaults, add, readingStart, isHead, isEnd, unknownKind, outOfOrder, kindFaults, frameFaults, addFound, pastFrame, bookFaults, refuseOr, frameReadAt, readFrame, readFrom}
 use Rattle.spec.specs.Instance.{Instance, placeServes, mayLeave, trainLength, runAt, callAt, compile, runLists, instanceOf, inWindow, servedAtDeparture}
 use Rattle.spec.specs.Sections.{neighbours, togetherBelow, together}
 use Rattle.spec.specs.Extra.{extraVariables, extraClauses}
-use Rattle.spec.specs.Formula.{width, base, borderVar, runVar, goneVar, claimVar, moveVar, ownVariables, variables, familyA, familyB, familyC, familyD, familyE, familyF, familyG, familyH, familyI, formula, wordsOf, dimacsOpening, dimacsLine, dimacsText}
+use Rattle.spec.specs.Formula.{width, base, borderVar, runVar, goneVar, claimVar, ownVariables, variables, familyA, familyB, familyC, familyD, familyE, familyF, familyG, familyH, familyI, formula, wordsOf, dimacsOpening, dimacsLine, dimacsText}
 use Rattle.spec.specs.Assignment.{deny, truth}
 use Rattle.spec.specs.Refutation.{ProofStep, stepPayload, fileOf, literalCount, hintCount, stepIn, variableOf, risesFrom, literalsFit, hintsFit, makeTrue, makeFalse, refuting, isNo, isOpen, clauseAt, notFalse, hinted, goThrough, followsRule, Lent, clausesFit, stepFaults, stepDetail, checkSteps, checkFile}
 use Rattle.spec.specs.Entry.{demand, findNone, readInstance, formulaWritten, writeFormula, formulaText, formulaFits, checkRefutation}
@@ -172,13 +172,13 @@ unfolding
     table answered bookL headFrame nodeFrame segmentFrame trainFrame callFrame endFrame pairBook joinFrame bookM tripleBook reach runList sections printed clauseNumber emptyStep refuted
     andThen pick upTo each count range only all any empty lastOr same has different sumTo firstFault
     littleEndian number field signed unsigned digits decimal decimalZ
-    frame payloadLength kindField payloadOf behind cutShort kindNumber stepNumber kindOrder findKind rankIn rank timeWidth trainCountAt lengthFits stepLengthFits
+    frame payloadLength kindField payloadOf behind cutShort kindNumber stepKind kindOrder findKind rankIn rank timeWidth trainCountAt lengthFits stepLengthFits
     noBook nodeKindAt segmentAt trainAt callsOf noCall goalOf deniesBorder forcesBorder greatestNodeKind touches shareNode segmentOf startNode endNode joinIs joined lengthInSegments speedInSegments
     leadsTo linked isPath directed goesOn extend pathsOf runsOf startPlace endPlace contains
-    readBook headOf segmentIn joinIn trainIn callIn between headFits segmentFits joinFits trainFits reachFits placeFits callFits joinRepeats someHas mayDivide contentFaults add readingStart isHead isEnd unknownKind outOfOrder kindFaults frameFaults addFound pastFrame bookFaults refuseOr stepAt step readFrom
+    readBook headOf segmentIn joinIn trainIn callIn between headFits segmentFits joinFits trainFits reachFits placeFits callFits joinRepeats someHas mayDivide contentFaults add readingStart isHead isEnd unknownKind outOfOrder kindFaults frameFaults addFound pastFrame bookFaults refuseOr frameReadAt readFrame readFrom
     placeServes mayLeave trainLength runAt callAt compile runLists instanceOf inWindow servedAtDeparture
     neighbours togetherBelow together
-    extraVariables extraClauses width base borderVar runVar goneVar claimVar moveVar ownVariables variables familyA familyB familyC familyD familyE familyF familyG familyH familyI formula wordsOf dimacsOpening dimacsLine dimacsText
+    extraVariables extraClauses width base borderVar runVar goneVar claimVar ownVariables variables familyA familyB familyC familyD familyE familyF familyG familyH familyI formula wordsOf dimacsOpening dimacsLine dimacsText
     deny truth stepPayload fileOf literalCount hintCount stepIn variableOf risesFrom literalsFit hintsFit makeTrue makeFalse refuting isNo isOpen clauseAt notFalse hinted goThrough followsRule clausesFit stepFaults stepDetail checkSteps checkFile
     demand findNone readInstance formulaWritten writeFormula formulaText formulaFits checkRefutation
 cases = refl

@@ -5,18 +5,10 @@ use mathlib.Core.List.{List, [], _∷_, _++_}
 use lib.ListN.{length, getD}
 use lib.Dec.{leb, ltb, eqb}
 use Rattle.spec.specs.Lists.{any, all, pick, upTo, lastOr}
-
--- "3 Segment: node a, node b, TTD"
-pub record Segment : Type 0 where
-  pub a : ℕ
-  pub b : ℕ
-  pub ttd : ℕ
-
--- "4 Join: node, two different segments touching it"
-pub record Join : Type 0 where
-  pub node : ℕ
-  pub left : ℕ
-  pub right : ℕ
+-- "3 Segment: node a, node b, TTD"; "4 Join: node, two different segments touching it"; "6 Call: train, segment, first, last"
+pub use Rattle.model.specs.declared.Segment.{Segment}
+pub use Rattle.model.specs.declared.Join.{Join}
+pub use Rattle.model.specs.declared.Call.{Call}
 
 -- "5 Train": `place` is the row of directed segments that it is given
 pub record Train : Type 0 where
@@ -24,13 +16,6 @@ pub record Train : Type 0 where
   pub speed : ℕ
   pub departure : ℕ
   pub place : List ℕ
-
--- "6 Call: train, segment, first, last"
-pub record Call : Type 0 where
-  pub train : ℕ
-  pub segment : ℕ
-  pub first : ℕ
-  pub last : ℕ
 
 -- A book (document 01's term): what its frames say, in file order. Unbreakable TTDs have no effect but refusal 9, so none
 -- is kept.

@@ -67,15 +67,11 @@ module _ (I : Instance) where
   familyB = each (upTo (I .trains)) λ i. each (upTo (I .departure i)) λ t.
       map (λ r. one (not′ (runVar i t r))) (upTo (I .runs i)) ++ one (one (not′ (goneVar i t)))
 
-  -- the runs, then gone
-  unfoldable pub moveVar : ℕ → ℕ → ℕ → ℕ
-  moveVar i t m = base i t + m
-
-  -- "C. from d on: some run or gone; then no two (pairs in order)." Gone is the move behind the runs.
+  -- "C. from d on: some run or gone; then no two (pairs in order)." Gone's variable is the one behind the runs'.
   unfoldable pub familyC : List Clause
   familyC = each (upTo (I .trains)) λ i. each (range (I .departure i) (I .intervals)) λ t.
       one (map (λ r. is (runVar i t r)) (upTo (I .runs i)) ++ one (is (goneVar i t)))
-      ++ each (upTo (I .runs i + 1)) λ m. map (λ n. not′ (moveVar i t m) ∷ one (not′ (moveVar i t n))) (range (m + 1) (I .runs i + 1))
+      ++ each (upTo (I .runs i + 1)) λ m. map (λ n. not′ (runVar i t m) ∷ one (not′ (runVar i t n))) (range (m + 1) (I .runs i + 1))
 
   -- "D. interval d: not a run that starts elsewhere; not gone."
   unfoldable pub familyD : List Clause

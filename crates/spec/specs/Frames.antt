@@ -46,8 +46,8 @@ kindNumber unbreakableKind = 7
 kindNumber endKind = 8
 
 -- "of kind 20": a refutation's step
-unfoldable pub stepNumber : ℕ
-stepNumber = 20
+unfoldable pub stepKind : ℕ
+stepKind = 20
 
 -- "Kinds never go down through the file": the order in which the kinds come
 unfoldable pub kindOrder : List Kind

@@ -9,7 +9,7 @@ use lib.Dec.{T, leb, ltb, eqb}
 use Rattle.spec.specs.Lists.{Bytes, any, all, upTo, range, each, one, Fault, _when_, firstFault}
 use Rattle.spec.specs.Numbers.{littleEndian, field}
 use Rattle.spec.specs.Instance.{Instance, inWindow, servedAtDeparture}
-use Rattle.spec.specs.Sections.{Borders, together}
+use Rattle.spec.specs.Sections.{Borders, shareSection}
 
 -- What a train does in an interval: "a run's number in the train's list, from 0, 65534 absent or 65535 gone".
 pub data Move : Type 0 where
@@ -153,8 +153,7 @@ module _ (I : Instance) (p : Plan) where
   unfoldable pub rule6 : Bool
   rule6 =
       all (λ t. all (λ i. all (λ j.
-          all (λ s. all (λ u. not (together I (p .border) s u)) (ofRun (p .move j t) (λ r. I .path j r)))
-              (ofRun (p .move i t) (λ r. I .path i r)))
+          not (shareSection I (p .border) (ofRun (p .move i t) (λ r. I .path i r)) (ofRun (p .move j t) (λ r. I .path j r))))
           (range (i + 1) (I .trains))) (upTo (I .trains))) (upTo (I .intervals))
 
   -- the plan's rules, in their order
@@ -168,4 +167,4 @@ module _ (I : Instance) (p : Plan) where
 
   -- the plan keeps the six rules
   unfoldable pub keepsRules : Bool
-  keepsRules = rule1 && rule2 && rule3 && rule4 && rule5 && rule6
+  keepsRules = all (λ f. not (f .holds)) ruleFaults

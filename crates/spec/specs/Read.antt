@@ -207,23 +207,23 @@ refuseOr none a = accepted a
 refuseOr (some n) a = refused n 0
 
 -- One frame: the end of reading with its verdict, or reading on behind it.
-pub data Step : Type 0 where
-  stop : Verdict Book → Step
-  more : Reading → Bytes → Step
+pub data FrameRead : Type 0 where
+  stop : Verdict Book → FrameRead
+  more : Reading → Bytes → FrameRead
 
-unfoldable pub stepAt : Option ℕ → Reading → Bytes → Step
-stepAt (some n) r s = stop (refused n 0)
-stepAt none r s =
+unfoldable pub frameReadAt : Option ℕ → Reading → Bytes → FrameRead
+frameReadAt (some n) r s = stop (refused n 0)
+frameReadAt none r s =
     elim (isEnd (kindField s)) [ true ↦ stop (refuseOr (firstFault (bookFaults (r .book))) (r .book))
     | false ↦ more (pastFrame r s) (behind s) ]
 
-unfoldable pub step : Reading → Bytes → Step
-step r s = stepAt (firstFault (frameFaults r s)) r s
+unfoldable pub readFrame : Reading → Bytes → FrameRead
+readFrame r s = frameReadAt (firstFault (frameFaults r s)) r s
 
 -- "Frames are taken in file order … then the book". A frame has four bytes at least, so `fuel` is never used up.
 unfoldable pub readFrom : ℕ → Reading → Bytes → Verdict Book
 readFrom zero r s = refused 1 0
-readFrom (suc fuel) r s = elim (step r s) [ stop v ↦ v | more r′ s′ ↦ readFrom fuel r′ s′ ]
+readFrom (suc fuel) r s = elim (readFrame r s) [ stop v ↦ v | more r′ s′ ↦ readFrom fuel r′ s′ ]
 
 unfoldable pub readBook : Bytes → Verdict Book
 readBook s = readFrom (suc (length s)) readingStart s

@@ -12,7 +12,7 @@ use lib.Signed.{mag}
 use lib.Dec.{T, leb, ltb, eqb}
 use Rattle.spec.specs.Lists.{Bytes, any, all, upTo, each, one, pick, empty, Fault, _when_, firstFault, Verdict, accepted, refused}
 use Rattle.spec.specs.Numbers.{littleEndian, field, signed, unsigned}
-use Rattle.spec.specs.Frames.{frame, stepNumber, stepLengthFits, kindField, payloadOf, behind, cutShort}
+use Rattle.spec.specs.Frames.{frame, stepKind, stepLengthFits, kindField, payloadOf, behind, cutShort}
 use Rattle.spec.specs.Formula.{Literal, Clause, wordsOf}
 use Rattle.spec.specs.Assignment.{Value, open′, yes′, no′, truth, isYes}
 
@@ -31,7 +31,7 @@ stepPayload s =
 
 -- "Frames as in the book, little-endian, of kind 20"
 unfoldable pub fileOf : List ProofStep → Bytes
-fileOf steps = each steps λ s. frame stepNumber (stepPayload s)
+fileOf steps = each steps λ s. frame stepKind (stepPayload s)
 
 -- ---- reading a step
 
@@ -188,7 +188,7 @@ clausesFit lent cs = leb (length (wordsOf cs)) (lent .words) && leb (length cs) 
 unfoldable pub stepFaults : Lent → ℕ → List Clause → Bytes → List Fault
 stepFaults lent vars cs s =
     let st : ProofStep = stepIn (payloadOf s) in
-    17 when (cutShort s || not (eqb (kindField s) stepNumber) || not (stepLengthFits (payloadOf s)))
+    17 when (cutShort s || not (eqb (kindField s) stepKind) || not (stepLengthFits (payloadOf s)))
     ∷ 18 when not (literalsFit vars (st .literals))
     ∷ 19 when not (hintsFit (length cs + 1) (st .hints))
     ∷ 12 when not (clausesFit lent (cs ++ one (st .literals)))

@@ -2,6 +2,7 @@
 -- equal is a theorem. This is the one place of the section rule. Assumes nothing.
 use mathlib.Core.Bool.{Bool, true, false, not, _&&_, _||_, cond}
 use Prim.Native.Nat.{ℕ, zero, suc, _<_}
+use mathlib.Core.List.{List}
 use lib.Dec.{T, eqb}
 use Rattle.spec.specs.Lists.{any, upTo}
 use Rattle.spec.specs.Instance.{Instance}
@@ -27,3 +28,7 @@ togetherBelow I border (suc k) s t =
 
 unfoldable pub together : Instance → Borders → ℕ → ℕ → Bool
 together I border s t = togetherBelow I border (I .segments) s t
+
+-- some section holds a segment of each of the two rows
+unfoldable pub shareSection : Instance → Borders → List ℕ → List ℕ → Bool
+shareSection I border xs ys = any (λ s. any (together I border s) ys) xs
