@@ -1,29 +1,46 @@
 -- The user's three demands, as theorems about the definitions that the contracts cite. Each goes from arbitrary bytes to an
 -- entry point's result; docs/DEMANDS.md lists them by the demand's sentence. Assumes nothing.
-use mathlib.Core.Path.{_≡_, refl, subst}
+use mathlib.Core.Path.{_≡_, refl, ap, subst}
 use mathlib.Core.Logic.{_↔_}
 use mathlib.Core.Option.{Option, none, some}
 use Prim.Native.Nat.{ℕ, _≤_}
 use mathlib.Core.List.{List, _++_, map, List·Memᴰ}
+use lib.ListN.{length, drop}
+use lib.IntN.{ℤ}
 use lib.Dec.{T}
 use Rattle.laws.proofs.Numbers.{bytes}
-use Rattle.spec.specs.Lists.{Bytes, Verdict, accepted, refused}
+use Rattle.spec.specs.Lists.{Bytes, Verdict, accepted, refused, andThen}
 use Rattle.spec.specs.Book.{Book}
 use Rattle.spec.specs.Read.{readBook}
 use Rattle.spec.specs.Instance.{Instance, instanceOf}
 use Rattle.spec.specs.Plan.{Plan, IsPlan, planFits, planOf, planLength, brokenRule, keepsRules}
-use Rattle.spec.specs.Formula.{formula, variables}
+use Rattle.spec.specs.Formula.{formula, variables, wordsOf}
 use Rattle.spec.specs.Assignment.{satisfies, assigned, assignmentFits, decode, encode}
 use Rattle.spec.specs.Refutation.{ProofStep, Lent, fileOf, InFields, GoodSteps, clausesFit}
-use Rattle.spec.specs.Entry.{checkAssignment, checkPlan, checkRefutation, formulaFits}
+use Rattle.spec.specs.Entry.{overwrite, written, formulaWritten, writeFormula, formulaOutput, checkAssignment, checkPlan, checkRefutation, formulaFits}
 use Rattle.demands.proofs.Encoding.{shape}
 use Rattle.demands.proofs.Extra.{no-condition}
-use Rattle.demands.proofs.Plans.{plan-satisfies, plan-fits, decoded-fits, decoded-keeps, decode-encoded}
-use Rattle.demands.proofs.Entries.{check-assignment, check-plan, check-refutation, assignment-iff, plan-iff, no-broken, read-of}
+use Rattle.demands.proofs.Plans.{plan-satisfies, plan-fits, decoded-fits, decoded-coded, decoded-keeps, decode-encoded}
+use Rattle.demands.proofs.Coding.{Codes}
+use Rattle.demands.proofs.Entries.{write-formula, check-assignment, check-plan, check-refutation, assignment-iff, plan-iff, no-broken, read-of}
 use Rattle.demands.proofs.Refuting.{refuted}
 use Rattle.demands.proofs.Files.{file-iff}
 
 -- ---- Demand 2
+
+-- "The formula is the one document 01 lays down, clause for clause": for a book that passes, with an output as long as its words,
+-- exactly they are written at the output's start, the rest stays, and the totals are the formula's.
+pub formula-written : (book : Bytes) (b : Book) (old : List ℤ) → readBook book ≡ accepted b
+    → length (wordsOf (formula (instanceOf b))) ≤ length old
+    → (writeFormula book (length old) ≡ accepted (record
+        { variableCount = variables (instanceOf b); clauseCount = length (formula (instanceOf b))
+        ; wordCount = length (wordsOf (formula (instanceOf b))); words = wordsOf (formula (instanceOf b)) }))
+      × (formulaOutput book old ≡ wordsOf (formula (instanceOf b)) ++ drop (length (wordsOf (formula (instanceOf b)))) old)
+unfolding formulaOutput overwrite formulaWritten written andThen
+formula-written book b old read room =
+    let w = wordsOf (formula (instanceOf b)) in
+    let e = write-formula book b read (length old) room in
+    (e, ap (λ (xs : List ℤ). xs ++ drop (length xs) old) (ap (λ v. written (andThen v λ r. accepted (r .words))) e))
 
 -- "For a book that passes, with lent memory as long as document 01 names, every assignment that satisfies it is accepted and
 -- decodes to a plan that keeps the six plan rules": the plan check accepts the bytes.
@@ -64,9 +81,10 @@ keeping-plan-accepted book plan b n m read room roomBack isBytes fits keeps =
 
 -- ---- Demand 3
 
--- "an accepted assignment decodes to a plan that keeps the rules"
+-- "an accepted assignment decodes to a plan that keeps the rules": to the plan that the assignment's own variables say (`Codes`)
 pub accepted-assignment-is-plan : (book assignment plan : Bytes) (planSlice : ℕ) → checkAssignment book assignment planSlice ≡ accepted plan
-    → (b : Book) × (readBook book ≡ accepted b) × T (planFits (instanceOf b) plan) × T (keepsRules (instanceOf b) (planOf (instanceOf b) plan))
+    → (b : Book) × (readBook book ≡ accepted b) × T (planFits (instanceOf b) plan)
+      × Codes (instanceOf b) (assigned assignment) (planOf (instanceOf b) plan) × T (keepsRules (instanceOf b) (planOf (instanceOf b) plan))
 unfolding checkAssignment
 accepted-assignment-is-plan book s plan n e =
     let r = read-of book _ plan e in
@@ -76,6 +94,7 @@ accepted-assignment-is-plan book s plan n e =
     let sat = assignment-iff I s .0 (k .1) .1 in
     ( b, r .1
     , subst (λ (x : Bytes). T (planFits I x)) (k .2) (decoded-fits book b (r .1) s sat)
+    , subst (λ (x : Bytes). Codes I (assigned s) (planOf I x)) (k .2) (decoded-coded book b (r .1) s sat)
     , subst (λ (x : Bytes). T (keepsRules I (planOf I x))) (k .2) (decoded-keeps book b (r .1) s sat) )
 
 -- "an accepted refutation means that every plan for that book breaks one, over every allowed set of borders and every
@@ -127,7 +146,7 @@ IsRefutation I file steps =
 pub LongEnough : Instance → Bytes → Lent → Type 0
 LongEnough I file lent =
     T (formulaFits lent I)
-    × ((steps : List ProofStep) → file ≡ fileOf steps → T (clausesFit lent (formula I ++ map (λ st. st .literals) steps)))
+    × ((steps : List ProofStep) → file ≡ fileOf steps → ((st : ProofStep) → List·Memᴰ st steps → InFields st) → T (clausesFit lent (formula I ++ map (λ st. st .literals) steps)))
 
 -- "a refutation exactly when it is in document 01's frames, literals and hints as laid down there, each of its steps follows the
 -- step rule, and exactly one step, the last, is the empty clause"
@@ -140,4 +159,4 @@ refutation-exact book r b lent read isBytes long =
     let exact = file-iff lent (variables I) (formula I) r isBytes in
     ( (λ e. let k = exact .0 (check-refutation book b read r lent .0 e .1) in (k .0, (k .1, k .2, k .3)))
     , (λ h. check-refutation book b read r lent .1
-        (long .0, exact .1 (h .0, h .1 .0, h .1 .1, h .1 .2, long .1 (h .0) (h .1 .0)))) )
+        (long .0, exact .1 (h .0, h .1 .0, h .1 .1, h .1 .2, long .1 (h .0) (h .1 .0) (h .1 .1)))) )

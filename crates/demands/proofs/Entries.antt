@@ -6,6 +6,7 @@ use mathlib.Core.Option.{Option, none, some}
 use Prim.Native.Nat.{ℕ, zero, suc, _+_, _≤_, _<_}
 use native.Mathlib.Omega.{arith}
 use mathlib.Core.List.{List, [], _∷_, _++_}
+use lib.ListN.{length}
 use lib.Dec.{T, leb}
 use Rattle.laws.proofs.Tests.{and-iff, leb-iff, true-of, decide, denied-of, from-true}
 use Rattle.spec.specs.Lists.{Bytes, all, Verdict, accepted, refused, andThen, firstFault, Fault, _when_, one}
@@ -13,10 +14,10 @@ use Rattle.spec.specs.Instance.{Instance, instanceOf}
 use Rattle.spec.specs.Book.{Book}
 use Rattle.spec.specs.Read.{readBook}
 use Rattle.spec.specs.Plan.{Plan, planFits, planOf, planLength, rule1, rule2, rule3, rule4, rule5, rule6, ruleFaults, brokenRule, keepsRules}
-use Rattle.spec.specs.Formula.{Clause, formula, variables}
+use Rattle.spec.specs.Formula.{Clause, formula, variables, wordsOf}
 use Rattle.spec.specs.Assignment.{satisfies, holds, firstFalse, assigned, assignmentFits, decode, encode}
 use Rattle.spec.specs.Refutation.{Lent, checkFile}
-use Rattle.spec.specs.Entry.{demand, findNone, readInstance, judgeAssignment, judgePlan, checkAssignment, checkPlan, checkRefutation, formulaFits}
+use Rattle.spec.specs.Entry.{demand, findNone, readInstance, formulaWritten, writeFormula, judgeAssignment, judgePlan, checkAssignment, checkPlan, checkRefutation, formulaFits}
 use Rattle.demands.proofs.Faults.{passes, first-none, clear-first}
 
 -- ---- the parts of a check
@@ -107,6 +108,11 @@ module _ (book : Bytes) (b : Book) (read : readBook book ≡ accepted b) where
   pub read-instance : readInstance book ≡ accepted (instanceOf b)
   unfolding readInstance
   read-instance = then-goes _ read
+
+  pub write-formula : (n : ℕ) → length (wordsOf (formula (instanceOf b))) ≤ n → writeFormula book n ≡ accepted (formulaWritten (instanceOf b))
+  unfolding writeFormula
+  write-formula n room =
+      then-goes _ read-instance ∙ then-goes _ (demand-iff _ 12 .1 (leb-iff (length (wordsOf (formula (instanceOf b)))) n .1 room))
 
   pub check-assignment : (s : Bytes) (n : ℕ) (plan : Bytes) → (checkAssignment book s n ≡ accepted plan)
       ↔ ((planLength (instanceOf b) ≤ n) × (judgeAssignment (instanceOf b) s ≡ accepted tt) × (decode (instanceOf b) s ≡ plan))

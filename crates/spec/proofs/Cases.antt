@@ -8,19 +8,20 @@ use mathlib.Core.Option.{Option, none, some}
 use lib.ListN.{length, getD}
 use lib.IntN.{ℤ, pos, negsuc}
 use lib.Dec.{eqb}
-use Rattle.spec.specs.Lists.{Bytes, Verdict, accepted, refused, andThen, pick, upTo, one, each, count, range, only, all, any, empty, lastOr, same, has, different, sumTo, firstFault}
+use Rattle.spec.specs.Lists.{Bytes, Verdict, accepted, refused, one, count, upTo, range, each, only, all, any, pick, empty, lastOr, same, has, different, sumTo, firstFault, andThen}
 use Rattle.spec.specs.Numbers.{littleEndian, number, field, signed, unsigned, digits, decimal, decimalZ}
 use Rattle.spec.specs.Frames.{frame, payloadLength, kindField, payloadOf, behind, cutShort, kindNumber, stepKind, kindOrder, findKind, rankIn, rank, timeWidth, trainCountAt, lengthFits, stepLengthFits}
 use Rattle.spec.specs.Book.{Book, noBook, nodeKindAt, segmentAt, trainAt, callsOf, noCall, goalOf, deniesBorder, forcesBorder, greatestNodeKind, touches, shareNode, segmentOf, startNode, endNode, joinIs, joined, lengthInSegments, speedInSegments}
 use Rattle.spec.specs.Runs.{leadsTo, linked, isPath, directed, goesOn, extend, pathsOf, runsOf, startPlace, endPlace, contains}
-use Rattle.spec.specs.Read.{readBook, headOf, segmentIn, joinIn, trainIn, callIn, between, headFits, segmentFits, joinFits, trainFits, reachFits, placeFits, callFits, joinRepeats, someHas, mayDivide, contentFaults, add, readingStart, isHead, isEnd, unknownKind, outOfOrder, kindFaults, frameFaults, addFound, pastFrame, bookFaults, refuseOr, frameReadAt, readFrame, readFrom}
+use Rattle.spec.specs.Read.{headOf, segmentIn, joinIn, trainIn, callIn, between, headFits, segmentFits, joinFits, joinRepeats, trainFits, reachFits, placeFits, callFits, someHas, mayDivide, contentFaults, add, readingStart, isHead, isEnd, unknownKind, outOfOrder, kindFaults, frameFaults, addFound, pastFrame, bookFaults, refuseOr, frameReadAt, readFrame, readFrom, readBook}
 use Rattle.spec.specs.Instance.{Instance, placeServes, mayLeave, trainLength, runAt, callAt, compile, runLists, instanceOf, inWindow, servedAtDeparture}
-use Rattle.spec.specs.Sections.{neighbours, togetherBelow, together}
-use Rattle.spec.specs.Extra.{extraVariables, extraClauses}
+use Rattle.spec.specs.Sections.{neighbours, togetherBelow, together, shareSection}
+use Rattle.spec.specs.Plan.{isAbsent, isGone, runs, ifRun, ofRun, moveCode, moveOf, bit, planBytes, planLength, moveAt, planOf, isBit, isMove, planFits, rule1, rule2, rule3, rule4, servedBy, rule5, rule6, ruleFaults, brokenRule, keepsRules}
+use Rattle.spec.specs.Extra.{extraVariables, extraClauses, extraCondition, extraValues}
 use Rattle.spec.specs.Formula.{width, base, borderVar, runVar, goneVar, claimVar, ownVariables, variables, familyA, familyB, familyC, familyD, familyE, familyF, familyG, familyH, familyI, formula, wordsOf, dimacsOpening, dimacsLine, dimacsText}
-use Rattle.spec.specs.Assignment.{deny, truth}
-use Rattle.spec.specs.Refutation.{ProofStep, stepPayload, fileOf, literalCount, hintCount, stepIn, variableOf, risesFrom, literalsFit, hintsFit, makeTrue, makeFalse, refuting, isNo, isOpen, clauseAt, notFalse, hinted, goThrough, followsRule, Lent, clausesFit, stepFaults, stepDetail, checkSteps, checkFile}
-use Rattle.spec.specs.Entry.{demand, findNone, readInstance, formulaWritten, writeFormula, formulaText, formulaFits, checkRefutation}
+use Rattle.spec.specs.Assignment.{deny, truth, isYes, valueOf, isTrue, holds, satisfies, firstFalse, assigned, assignmentFits, firstRun, chosen, decoded, decode, claims, encode}
+use Rattle.spec.specs.Refutation.{ProofStep, Lent, stepPayload, fileOf, literalCount, hintCount, stepIn, variableOf, risesFrom, literalsFit, hintsFit, makeTrue, makeFalse, refuting, isNo, isOpen, clauseAt, notFalse, hinted, goThrough, followsRule, clausesFit, stepFaults, stepDetail, checkSteps, checkFile}
+use Rattle.spec.specs.Entry.{demand, findNone, readInstance, formulaWritten, writeFormula, formulaText, judgeAssignment, checkAssignment, judgePlan, checkPlan, formulaFits, checkRefutation}
 
 -- An answer: rows of numbers, a text or a clause, or a refusal's number and detail.
 pub data Answer : Type 0 where
@@ -47,9 +48,12 @@ bookL =
     ∷ 0x03 ∷ 0x00 ∷ 0x03 ∷ 0x00 ∷ 0x00 ∷ 0x01 ∷ 0x00 ∷ 0x07 ∷ 0x00 ∷ 0x05 ∷ 0x00 ∷ 0x50 ∷ 0x00 ∷ 0x24 ∷ 0x00 ∷ 0x00 ∷ 0x01 ∷ 0x00
     ∷ 0x04 ∷ 0x00 ∷ 0x06 ∷ 0x00 ∷ 0x00 ∷ 0x00 ∷ 0x00 ∷ 0x01 ∷ 0x00 ∷ 0x00 ∷ 0x08 ∷ 0x00 ∷ []
 
--- rs 100, rt 10, T 1
+-- rs 100, rt 10
+headWith : ℕ → Bytes
+headWith T = frame 1 (100 ∷ 0 ∷ 10 ∷ 0 ∷ T ∷ [])
+
 headFrame : Bytes
-headFrame = frame 1 (100 ∷ 0 ∷ 10 ∷ 0 ∷ 1 ∷ [])
+headFrame = headWith 1
 
 nodeFrame : ℕ → Bytes
 nodeFrame kind = frame 2 (kind ∷ [])
@@ -57,13 +61,20 @@ nodeFrame kind = frame 2 (kind ∷ [])
 segmentFrame : ℕ → ℕ → Bytes
 segmentFrame a b = frame 3 (a ∷ b ∷ 0 ∷ [])
 
--- a train below 256 m and 512 km/h that departs in interval 0
-trainFrame : ℕ → ℕ → List ℕ → Bytes
-trainFrame metres speed place =
-    frame 5 (littleEndian 2 metres ++ littleEndian 2 speed ++ (0 ∷ length place ∷ []) ++ place)
+trainFrom : ℕ → ℕ → ℕ → List ℕ → Bytes
+trainFrom departure metres speed place =
+    frame 5 (littleEndian 2 metres ++ littleEndian 2 speed ++ (departure ∷ length place ∷ []) ++ place)
 
+-- a train that departs in interval 0
+trainFrame : ℕ → ℕ → List ℕ → Bytes
+trainFrame = trainFrom 0
+
+callOf : ℕ → ℕ → ℕ → ℕ → Bytes
+callOf train segment first last = frame 6 (train ∷ segment ∷ first ∷ last ∷ [])
+
+-- a call of train 0
 callFrame : ℕ → ℕ → ℕ → Bytes
-callFrame segment first last = frame 6 (0 ∷ segment ∷ first ∷ last ∷ [])
+callFrame = callOf 0
 
 endFrame : Bytes
 endFrame = frame 8 []
@@ -89,6 +100,38 @@ tripleBook lastNode =
     headFrame ++ nodeFrame 1 ++ nodeFrame 1 ++ nodeFrame 1 ++ nodeFrame 1
     ++ segmentFrame 0 1 ++ segmentFrame 1 2 ++ segmentFrame 2 lastNode
     ++ trainFrame 80 36 (0 ∷ []) ++ callFrame 0 0 1 ++ endFrame
+
+-- Two trains that must pass over two joined segments of one TTD, with three intervals: train 1 stands on segment 1 and leaves,
+-- train 0 departs in interval 1 from segment 0 and calls on segment 1, in N at time 1 or 2.
+passingBook : ℕ → ℕ → Bytes
+passingBook first last =
+    headWith 3 ++ nodeFrame 0 ++ nodeFrame 1 ++ nodeFrame 0 ++ segmentFrame 0 1 ++ segmentFrame 1 2 ++ joinFrame
+    ++ trainFrom 1 80 36 (0 ∷ []) ++ trainFrame 80 36 (2 ∷ []) ++ callOf 0 1 first last ++ callOf 1 1 0 0 ++ endFrame
+
+bookN : Bytes
+bookN = passingBook 1 2
+
+-- absent, then over both segments, then standing; standing, then gone
+planN : Bytes
+planN = 0 ∷ 1 ∷ 0 ∷ 254 ∷ 255 ∷ 4 ∷ 0 ∷ 2 ∷ 0 ∷ 2 ∷ 0 ∷ 255 ∷ 255 ∷ 255 ∷ 255 ∷ []
+
+-- the borders; then by train and interval six runs, gone and two claims
+assignmentN : Bytes
+assignmentN =
+    0 ∷ 1 ∷ 0
+    ∷ 0 ∷ 0 ∷ 0 ∷ 0 ∷ 0 ∷ 0 ∷ 0 ∷ 0 ∷ 0
+    ∷ 0 ∷ 0 ∷ 0 ∷ 0 ∷ 1 ∷ 0 ∷ 0 ∷ 1 ∷ 1
+    ∷ 0 ∷ 0 ∷ 1 ∷ 0 ∷ 0 ∷ 0 ∷ 0 ∷ 0 ∷ 1
+    ∷ 0 ∷ 0 ∷ 1 ∷ 0 ∷ 0 ∷ 0 ∷ 0 ∷ 0 ∷ 1
+    ∷ 0 ∷ 0 ∷ 0 ∷ 0 ∷ 0 ∷ 0 ∷ 1 ∷ 0 ∷ 0
+    ∷ 0 ∷ 0 ∷ 0 ∷ 0 ∷ 0 ∷ 0 ∷ 1 ∷ 0 ∷ 0 ∷ []
+
+-- Five parallel segments, joined pairwise at both nodes, and a speed of 3: more than 256 runs
+crowdedBook : Bytes
+crowdedBook =
+    headFrame ++ nodeFrame 1 ++ nodeFrame 1 ++ each (upTo 5) (λ s. segmentFrame 0 1)
+    ++ each (upTo 2) (λ n. each (upTo 5) λ s. each (range (s + 1) 5) λ t. frame 4 (n ∷ s ∷ t ∷ []))
+    ++ trainFrame 80 108 (0 ∷ []) ++ callFrame 0 0 1 ++ endFrame
 
 -- ---- what is asked
 
@@ -117,10 +160,19 @@ emptyStep hints = fileOf (one (record { literals = []; hints = hints }))
 refuted : Bytes → Bytes → Answer
 refuted s r = answered (checkRefutation s r (record { words = 16384; clauses = 8192; values = 65536; trail = 8192 })) λ _. yes-accepted
 
+totalsOf : Bytes → ℕ → Answer
+totalsOf s n = answered (writeFormula s n) λ w. rows ((w .variableCount ∷ w .clauseCount ∷ w .wordCount ∷ length (w .words) ∷ []) ∷ [])
+
+decodes : Bytes → Bytes → ℕ → Answer
+decodes s a n = answered (checkAssignment s a n) text
+
+encodes : Bytes → Bytes → ℕ → Answer
+encodes s p n = answered (checkPlan s p n) text
+
 -- ---- the table
 
-pub table : List Case
-table =
+pub starred : List Case
+starred =
     -- *36 km/h gives 1; *100 m gives 1
     record { asked = reach (pairBook joinFrame 100 36 (0 ∷ [])); answer = rows ((1 ∷ 1 ∷ []) ∷ []) }
     -- *35 is refused by 7
@@ -167,18 +219,104 @@ table =
     ∷ record { asked = refuted (bookM 0) (emptyStep (19 ∷ [])); answer = yes-accepted }
     ∷ []
 
+-- Not starred: each refusal number once, and a book in which trains move, so that no family is empty. The answers are those of
+-- the reference.
+pub further : List Case
+further =
+    -- 1 to 11
+    record { asked = reach []; answer = refusal 1 0 }
+    ∷ record { asked = reach (headFrame ++ frame 9 []); answer = refusal 2 0 }
+    ∷ record { asked = reach (nodeFrame 0 ++ headFrame); answer = refusal 3 0 }
+    ∷ record { asked = reach (frame 1 (100 ∷ 0 ∷ 10 ∷ 0 ∷ [])); answer = refusal 4 0 }
+    ∷ record { asked = reach (headFrame ++ each (upTo 97) λ _. nodeFrame 0); answer = refusal 5 0 }
+    ∷ record { asked = reach (headFrame ++ nodeFrame 3); answer = refusal 6 0 }
+    ∷ record { asked = reach (pairBook joinFrame 100 324 (0 ∷ [])); answer = refusal 7 0 }
+    ∷ record { asked = reach (pairBook joinFrame 100 36 []); answer = refusal 8 0 }
+    ∷ record { asked = reach (headFrame ++ nodeFrame 1 ++ nodeFrame 1 ++ nodeFrame 1 ++ segmentFrame 0 1 ++ segmentFrame 1 2 ++ frame 7 (0 ∷ [])); answer = refusal 9 0 }
+    ∷ record { asked = reach (headFrame ++ endFrame); answer = refusal 10 0 }
+    ∷ record { asked = reach crowdedBook; answer = refusal 11 0 }
+    -- an unbreakable TTD passes where its nodes can have no border
+    ∷ record
+      { asked = reach (headFrame ++ nodeFrame 0 ++ nodeFrame 0 ++ segmentFrame 0 1 ++ trainFrame 80 36 (0 ∷ []) ++ callFrame 0 0 1 ++ frame 7 (0 ∷ []) ++ endFrame)
+      ; answer = rows ((1 ∷ 1 ∷ []) ∷ []) }
+    -- 12: L has 27 words
+    ∷ record { asked = totalsOf bookL 26; answer = refusal 12 0 }
+    ∷ record { asked = totalsOf bookL 27; answer = rows ((6 ∷ 10 ∷ 27 ∷ 27 ∷ []) ∷ []) }
+    -- 13, 14, and L's assignment
+    ∷ record { asked = decodes bookL [] 4; answer = refusal 13 0 }
+    ∷ record { asked = decodes bookL (0 ∷ 0 ∷ 0 ∷ 0 ∷ 0 ∷ 0 ∷ []) 4; answer = refusal 14 3 }
+    ∷ record { asked = decodes bookL (0 ∷ 0 ∷ 1 ∷ 0 ∷ 0 ∷ 1 ∷ []) 3; answer = refusal 12 0 }
+    ∷ record { asked = decodes bookL (0 ∷ 0 ∷ 1 ∷ 0 ∷ 0 ∷ 1 ∷ []) 4; answer = text (0 ∷ 0 ∷ 0 ∷ 0 ∷ []) }
+    -- 17 to 21, the second step's detail
+    ∷ record { asked = refuted (bookM 1) (1 ∷ []); answer = refusal 17 1 }
+    ∷ record { asked = refuted (bookM 1) (fileOf (one (record { literals = pos 0 ∷ []; hints = [] }))); answer = refusal 18 1 }
+    ∷ record { asked = refuted (bookM 1) (emptyStep (0 ∷ [])); answer = refusal 19 1 }
+    ∷ record
+      { asked = refuted (bookM 1) (fileOf (record { literals = negsuc 5 ∷ []; hints = 16 ∷ [] } ∷ one (record { literals = []; hints = 17 ∷ 19 ∷ [] })))
+      ; answer = refusal 20 2 }
+    ∷ record
+      { asked = refuted (bookM 1) (fileOf (record { literals = negsuc 5 ∷ []; hints = 16 ∷ [] } ∷ one (record { literals = []; hints = 26 ∷ 17 ∷ 19 ∷ [] })))
+      ; answer = yes-accepted }
+    ∷ record { asked = refuted (bookM 1) []; answer = refusal 21 0 }
+    -- N: the totals, and a clause of each family
+    ∷ record { asked = totalsOf bookN 1000; answer = rows ((57 ∷ 218 ∷ 687 ∷ 687 ∷ []) ∷ []) }
+    ∷ record { asked = clauseNumber 2 bookN; answer = clause (negsuc 2 ∷ []) }
+    ∷ record { asked = clauseNumber 9 bookN; answer = clause (negsuc 9 ∷ []) }
+    ∷ record { asked = clauseNumber 10 bookN; answer = clause (pos 13 ∷ pos 14 ∷ pos 15 ∷ pos 16 ∷ pos 17 ∷ pos 18 ∷ pos 19 ∷ []) }
+    ∷ record { asked = clauseNumber 120 bookN; answer = clause (negsuc 13 ∷ []) }
+    ∷ record { asked = clauseNumber 131 bookN; answer = clause (negsuc 12 ∷ pos 22 ∷ pos 26 ∷ []) }
+    ∷ record { asked = clauseNumber 133 bookN; answer = clause (negsuc 14 ∷ pos 24 ∷ pos 28 ∷ []) }
+    ∷ record { asked = clauseNumber 151 bookN; answer = clause (negsuc 45 ∷ pos 55 ∷ []) }
+    ∷ record { asked = clauseNumber 152 bookN; answer = clause (pos 15 ∷ pos 16 ∷ pos 17 ∷ []) }
+    ∷ record { asked = clauseNumber 155 bookN; answer = clause (negsuc 5 ∷ pos 12 ∷ []) }
+    ∷ record { asked = clauseNumber 202 bookN; answer = clause (negsuc 11 ∷ pos 2 ∷ pos 11 ∷ []) }
+    ∷ record { asked = clauseNumber 218 bookN; answer = clause (negsuc 29 ∷ negsuc 56 ∷ []) }
+    -- a window from 3 to 3: only the runs of interval 2
+    ∷ record { asked = clauseNumber 152 (passingBook 3 3); answer = clause (pos 24 ∷ pos 25 ∷ pos 26 ∷ []) }
+    -- N's plan with a border at node 1, its assignment, and the way back
+    ∷ record { asked = encodes bookN planN 57; answer = text assignmentN }
+    ∷ record { asked = decodes bookN assignmentN 15; answer = text planN }
+    -- without the border each train claims the whole section
+    ∷ record
+      { asked = encodes bookN (0 ∷ 0 ∷ 0 ∷ 254 ∷ 255 ∷ 4 ∷ 0 ∷ 2 ∷ 0 ∷ 2 ∷ 0 ∷ 255 ∷ 255 ∷ 255 ∷ 255 ∷ []) 57
+      ; answer = text
+        (0 ∷ 0 ∷ 0
+        ∷ 0 ∷ 0 ∷ 0 ∷ 0 ∷ 0 ∷ 0 ∷ 0 ∷ 0 ∷ 0
+        ∷ 0 ∷ 0 ∷ 0 ∷ 0 ∷ 1 ∷ 0 ∷ 0 ∷ 1 ∷ 1
+        ∷ 0 ∷ 0 ∷ 1 ∷ 0 ∷ 0 ∷ 0 ∷ 0 ∷ 1 ∷ 1
+        ∷ 0 ∷ 0 ∷ 1 ∷ 0 ∷ 0 ∷ 0 ∷ 0 ∷ 1 ∷ 1
+        ∷ 0 ∷ 0 ∷ 0 ∷ 0 ∷ 0 ∷ 0 ∷ 1 ∷ 0 ∷ 0
+        ∷ 0 ∷ 0 ∷ 0 ∷ 0 ∷ 0 ∷ 0 ∷ 1 ∷ 0 ∷ 0 ∷ []) }
+    -- 15, and each rule broken: a border that kind 0 denies, a run before the departure, gone away from the goal, a run from
+    -- elsewhere, a call missed, and two trains in a section while one passes to where the other stands
+    ∷ record { asked = encodes bookN (0 ∷ 1 ∷ 0 ∷ 254 ∷ 255 ∷ 6 ∷ 0 ∷ 2 ∷ 0 ∷ 2 ∷ 0 ∷ 255 ∷ 255 ∷ 255 ∷ 255 ∷ []) 57; answer = refusal 15 0 }
+    ∷ record { asked = encodes bookN (1 ∷ 1 ∷ 0 ∷ 254 ∷ 255 ∷ 4 ∷ 0 ∷ 2 ∷ 0 ∷ 2 ∷ 0 ∷ 255 ∷ 255 ∷ 255 ∷ 255 ∷ []) 57; answer = refusal 16 1 }
+    ∷ record { asked = encodes bookN (0 ∷ 1 ∷ 0 ∷ 0 ∷ 0 ∷ 4 ∷ 0 ∷ 2 ∷ 0 ∷ 2 ∷ 0 ∷ 255 ∷ 255 ∷ 255 ∷ 255 ∷ []) 57; answer = refusal 16 2 }
+    ∷ record { asked = encodes bookN (0 ∷ 1 ∷ 0 ∷ 254 ∷ 255 ∷ 0 ∷ 0 ∷ 255 ∷ 255 ∷ 2 ∷ 0 ∷ 255 ∷ 255 ∷ 255 ∷ 255 ∷ []) 57; answer = refusal 16 3 }
+    ∷ record { asked = encodes bookN (0 ∷ 1 ∷ 0 ∷ 254 ∷ 255 ∷ 0 ∷ 0 ∷ 2 ∷ 0 ∷ 2 ∷ 0 ∷ 255 ∷ 255 ∷ 255 ∷ 255 ∷ []) 57; answer = refusal 16 4 }
+    ∷ record { asked = encodes bookN (0 ∷ 1 ∷ 0 ∷ 254 ∷ 255 ∷ 0 ∷ 0 ∷ 0 ∷ 0 ∷ 2 ∷ 0 ∷ 255 ∷ 255 ∷ 255 ∷ 255 ∷ []) 57; answer = refusal 16 5 }
+    ∷ record { asked = encodes bookN (0 ∷ 0 ∷ 0 ∷ 254 ∷ 255 ∷ 4 ∷ 0 ∷ 2 ∷ 0 ∷ 2 ∷ 0 ∷ 2 ∷ 0 ∷ 255 ∷ 255 ∷ []) 57; answer = refusal 16 6 }
+    ∷ []
+
+-- both tables
+pub table : List Case
+table = starred ++ further
+
 pub cases : map (λ c. c .asked) table ≡ map (λ c. c .answer) table
 unfolding
-    table answered bookL headFrame nodeFrame segmentFrame trainFrame callFrame endFrame pairBook joinFrame bookM tripleBook reach runList sections printed clauseNumber emptyStep refuted
-    andThen pick upTo each count range only all any empty lastOr same has different sumTo firstFault
+    table starred further answered bookL headWith headFrame trainFrom callOf passingBook bookN planN assignmentN crowdedBook totalsOf decodes encodes nodeFrame segmentFrame trainFrame callFrame endFrame pairBook joinFrame bookM tripleBook reach runList sections printed clauseNumber emptyStep refuted
+    count upTo range each only all any pick empty lastOr same has different sumTo firstFault andThen
     littleEndian number field signed unsigned digits decimal decimalZ
     frame payloadLength kindField payloadOf behind cutShort kindNumber stepKind kindOrder findKind rankIn rank timeWidth trainCountAt lengthFits stepLengthFits
     noBook nodeKindAt segmentAt trainAt callsOf noCall goalOf deniesBorder forcesBorder greatestNodeKind touches shareNode segmentOf startNode endNode joinIs joined lengthInSegments speedInSegments
     leadsTo linked isPath directed goesOn extend pathsOf runsOf startPlace endPlace contains
-    readBook headOf segmentIn joinIn trainIn callIn between headFits segmentFits joinFits trainFits reachFits placeFits callFits joinRepeats someHas mayDivide contentFaults add readingStart isHead isEnd unknownKind outOfOrder kindFaults frameFaults addFound pastFrame bookFaults refuseOr frameReadAt readFrame readFrom
+    headOf segmentIn joinIn trainIn callIn between headFits segmentFits joinFits joinRepeats trainFits reachFits placeFits callFits someHas mayDivide contentFaults add readingStart isHead isEnd unknownKind outOfOrder kindFaults frameFaults addFound pastFrame bookFaults refuseOr frameReadAt readFrame readFrom readBook
     placeServes mayLeave trainLength runAt callAt compile runLists instanceOf inWindow servedAtDeparture
-    neighbours togetherBelow together
-    extraVariables extraClauses width base borderVar runVar goneVar claimVar ownVariables variables familyA familyB familyC familyD familyE familyF familyG familyH familyI formula wordsOf dimacsOpening dimacsLine dimacsText
-    deny truth stepPayload fileOf literalCount hintCount stepIn variableOf risesFrom literalsFit hintsFit makeTrue makeFalse refuting isNo isOpen clauseAt notFalse hinted goThrough followsRule clausesFit stepFaults stepDetail checkSteps checkFile
-    demand findNone readInstance formulaWritten writeFormula formulaText formulaFits checkRefutation
+    neighbours togetherBelow together shareSection
+    isAbsent isGone runs ifRun ofRun moveCode moveOf bit planBytes planLength moveAt planOf isBit isMove planFits rule1 rule2 rule3 rule4 servedBy rule5 rule6 ruleFaults brokenRule keepsRules
+    extraVariables extraClauses extraCondition extraValues
+    width base borderVar runVar goneVar claimVar ownVariables variables familyA familyB familyC familyD familyE familyF familyG familyH familyI formula wordsOf dimacsOpening dimacsLine dimacsText
+    deny truth isYes valueOf isTrue holds satisfies firstFalse assigned assignmentFits firstRun chosen decoded decode claims encode
+    stepPayload fileOf literalCount hintCount stepIn variableOf risesFrom literalsFit hintsFit makeTrue makeFalse refuting isNo isOpen clauseAt notFalse hinted goThrough followsRule clausesFit stepFaults stepDetail checkSteps checkFile
+    demand findNone readInstance formulaWritten writeFormula formulaText judgeAssignment checkAssignment judgePlan checkPlan formulaFits checkRefutation
 cases = refl

@@ -1,11 +1,10 @@
--- The entry points, each as ONE definition: what it returns and what each output holds, from the book's bytes, the second
--- input's bytes and the lengths of the lent slices, and from nothing else. An output slice `old` holds after the call
--- `overwrite old (written …)`, and each working slice of length n holds n zeros. Assumes nothing.
+-- The entry points, each as ONE definition: what it returns, from the book's bytes, the second input's bytes and the lengths of
+-- the lent slices, and from nothing else; and beside it what each lent slice holds after the call. Assumes nothing.
 use mathlib.Core.Bool.{Bool, true, false, not, _&&_, _||_, cond}
 use Prim.Native.Nat.{ℕ, zero, suc, _+_}
 use mathlib.Core.List.{List, [], _∷_, _++_, map}
 use mathlib.Core.Option.{Option, none, some}
-use lib.ListN.{length, getD, drop}
+use lib.ListN.{length, getD, drop, replicate}
 use lib.IntN.{ℤ}
 use lib.Dec.{leb, ltb, eqb}
 use Rattle.spec.specs.Lists.{Bytes, Verdict, accepted, refused, andThen}
@@ -35,6 +34,10 @@ unfoldable pub written : {A : Type 0} → Verdict (List A) → List A
 written (accepted xs) = xs
 written (refused n d) = []
 
+-- "working slices are zero after each call": what a working slice of n entries holds then
+unfoldable pub zeroed {ℓ} : {A : Type ℓ} → A → ℕ → List A
+zeroed z n = replicate n z
+
 -- ---- reading a book; it is lent nothing. `readBook` is what it returns; the other entry points go on from its instance.
 
 unfoldable pub readInstance : Bytes → Verdict Instance
@@ -62,6 +65,10 @@ writeFormula book outLength =
     andThen (demand (leb (length (wordsOf (formula I))) outLength) 12) λ _.
     accepted (formulaWritten I)
 
+-- what the output holds after the call
+unfoldable pub formulaOutput : Bytes → List ℤ → List ℤ
+formulaOutput book old = overwrite old (written (andThen (writeFormula book (length old)) λ w. accepted (w .words)))
+
 -- the text that the formula program prints
 unfoldable pub formulaText : Bytes → ℕ → Verdict Bytes
 formulaText book outLength =
@@ -83,6 +90,10 @@ checkAssignment book assignment outLength =
     andThen (judgeAssignment I assignment) λ _.
     accepted (decode I assignment)
 
+-- what the output holds after the call
+unfoldable pub planOutput : Bytes → Bytes → Bytes → Bytes
+planOutput book assignment old = overwrite old (written (checkAssignment book assignment (length old)))
+
 -- ---- checking a plan and writing it as an assignment; lent: an output of the assignment's bytes
 
 -- 15, then 16 with the least broken rule; no output
@@ -96,7 +107,11 @@ checkPlan book plan outLength =
     andThen (judgePlan I plan) λ _.
     accepted (encode I (planOf I plan))
 
--- ---- checking a refutation; lent: words, clauses, values and trail, all of them working slices
+-- what the output holds after the call
+unfoldable pub assignmentOutput : Bytes → Bytes → Bytes → Bytes
+assignmentOutput book plan old = overwrite old (written (checkPlan book plan (length old)))
+
+-- ---- checking a refutation; lent: words, clauses, values and trail, all of them working slices, `zeroed` after the call
 
 -- 12: what the formula alone needs
 unfoldable pub formulaFits : Lent → Instance → Bool

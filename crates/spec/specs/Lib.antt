@@ -15,3 +15,4 @@ pub mod Formula
 pub mod Assignment
 pub mod Refutation
 pub mod Entry
+pub mod Programs

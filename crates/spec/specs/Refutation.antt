@@ -46,6 +46,10 @@ stepIn p = record
   { literals = map (λ i. signed 4 (field p (2 + 4 * i) 4)) (upTo (literalCount p))
   ; hints = map (λ i. field p (2 + 4 * literalCount p + 4 * i) 4) (upTo (hintCount p)) }
 
+-- "The hints of a step are handed on as that stretch of the file itself": behind the literals, to the payload's end
+unfoldable pub hintBytes : Bytes → Bytes
+hintBytes p = drop (2 + 4 * literalCount p) p
+
 -- the variable of a literal, from 1; 0 has none
 unfoldable pub variableOf : Literal → ℕ
 variableOf (pos n) = n
@@ -115,7 +119,8 @@ hinted known [] = proves
 hinted known (l ∷ []) = elim (isOpen (truth known l)) [ true ↦ makes l | false ↦ useless ]
 hinted known (l ∷ m ∷ ls) = useless
 
--- "go through the hints": a proving hint "must be the last"; "a step whose hints run out unproved is refused too"
+-- The step rule is reverse unit propagation with hints in order, as in proofs of the LRAT kind, but stricter: a hint that
+-- is neither unit nor false is refused. "go through the hints": a proving hint "must be the last"; "a step whose hints run out unproved is refused too"
 unfoldable pub goThrough : List Clause → Values → List ℕ → Bool
 goThrough cs known [] = false
 goThrough cs known (h ∷ hs) =

@@ -1,0 +1,56 @@
+-- The programs over the entry points: "they lend at most 64 KiB a slice, refuse longer input by 12 first, and on a refusal print
+-- its number, a blank and its detail". What is printed here is what a program hands to the output. Assumes nothing.
+use mathlib.Core.Bool.{Bool, true, false, _||_}
+use Prim.Native.Nat.{ℕ, _/_}
+use mathlib.Core.List.{List, [], _∷_, _++_}
+use lib.ListN.{length}
+use lib.Dec.{ltb}
+use Rattle.spec.specs.Lists.{Bytes, Verdict, accepted, refused}
+use Rattle.spec.specs.Numbers.{decimal}
+use Rattle.spec.specs.Refutation.{Lent}
+use Rattle.spec.specs.Entry.{formulaText, checkAssignment, checkPlan, checkRefutation}
+
+-- "at most 64 KiB a slice", in bytes; how many entries of so many bytes a slice then has
+unfoldable pub sliceBytes : ℕ
+sliceBytes = 65536
+
+unfoldable pub sliceOf : ℕ → ℕ
+sliceOf width = sliceBytes / width
+
+-- a word has four bytes, an entry a clause and an entry of the trail eight, a value one
+unfoldable pub programLent : Lent
+programLent = record { words = sliceOf 4; clauses = sliceOf 8; values = sliceOf 1; trail = sliceOf 8 }
+
+-- "refuse longer input by 12 first"
+unfoldable pub unlessLong : {A : Type 0} → Bool → Verdict A → Verdict A
+unlessLong true v = refused 12 0
+unlessLong false v = v
+
+unfoldable pub isLong : Bytes → Bool
+isLong s = ltb sliceBytes (length s)
+
+-- "the word accepted on a line", or what is printed instead
+unfoldable pub acceptedLine : Bytes
+acceptedLine = 97 ∷ 99 ∷ 99 ∷ 101 ∷ 112 ∷ 116 ∷ 101 ∷ 100 ∷ 10 ∷ []
+
+-- "its number, a blank and its detail", on a line
+unfoldable pub refusalLine : ℕ → ℕ → Bytes
+refusalLine n d = decimal n ++ (32 ∷ (decimal d ++ (10 ∷ [])))
+
+unfoldable pub printed : {A : Type 0} → (A → Bytes) → Verdict A → Bytes
+printed show (accepted a) = show a
+printed show (refused n d) = refusalLine n d
+
+-- print_formula, with the book on standard input
+unfoldable pub printFormula : Bytes → Bytes
+printFormula book = printed (λ t. t) (unlessLong (isLong book) (formulaText book (sliceOf 4)))
+
+-- check_assignment, check_plan and check_refutation, with the book and the second input; either may be too long
+unfoldable pub printAssignment : Bytes → Bytes → Bytes
+printAssignment book s = printed (λ _. acceptedLine) (unlessLong (isLong book || isLong s) (checkAssignment book s (sliceOf 1)))
+
+unfoldable pub printPlan : Bytes → Bytes → Bytes
+printPlan book s = printed (λ _. acceptedLine) (unlessLong (isLong book || isLong s) (checkPlan book s (sliceOf 1)))
+
+unfoldable pub printRefutation : Bytes → Bytes → Bytes
+printRefutation book s = printed (λ _. acceptedLine) (unlessLong (isLong book || isLong s) (checkRefutation book s programLent))
