@@ -1,5 +1,5 @@
--- The file that is built from a book's parts is read as that book (`read-built`): so for every well-formed book whose numbers
--- fit their fields there is a file that is accepted. Assumes nothing.
+-- The file that is built from a book's parts is read as that book, with frames for unbreakable TTDs or without (`read-built`):
+-- so for every well-formed book whose numbers fit their fields there is a file that is accepted. Assumes nothing.
 use mathlib.Core.Path.{_≡_, refl, sym, ap, _∙_}
 use mathlib.Core.Logic.{_≢_}
 use mathlib.Core.Bool.{Bool, true, false, not, _&&_, _||_, Bool·not-not}
@@ -16,14 +16,14 @@ use Rattle.spec.specs.Lists.{Bytes, all, any, each, one, only, pick, empty, upT
 use Rattle.spec.specs.Numbers.{littleEndian, number, field}
 use Rattle.spec.specs.Frames.{frame, kindField, Kind, headKind, nodeKind, segmentKind, joinKind, trainKind, callKind, unbreakableKind, endKind, kindNumber, kindOrder, findKind, rankIn, rank, timeWidth, trainCountAt, lengthFits}
 use Rattle.spec.specs.Book.{Book, Segment, Join, Train, Call, noBook, callsOf, segmentAt, greatestNodeKind, joined, startNode, endNode, lengthInSegments, speedInSegments}
-use Rattle.spec.specs.BookFile.{headPayload, nodePayload, segmentPayload, joinPayload, trainPayload, callPayload, framesOf, bookFile, FitsFields}
+use Rattle.spec.specs.BookFile.{headPayload, nodePayload, segmentPayload, joinPayload, trainPayload, callPayload, unbreakablePayload, framesOf, bookFile, FitsFields}
 use Rattle.spec.specs.Runs.{leadsTo, linked, isPath, runsOf}
-use Rattle.spec.specs.Read.{headOf, segmentIn, joinIn, trainIn, callIn, headFits, segmentFits, joinFits, joinRepeats, trainFits, reachFits, placeFits, callFits, contentFaults, add, Reading, readingStart, isHead, isEnd, unknownKind, outOfOrder, kindFaults, frameFaults, addFound, pastFrame, bookFaults, readFrame, frameReadAt, more, joinsOnce, readBook, wellFormed, between}
+use Rattle.spec.specs.Read.{headOf, segmentIn, joinIn, trainIn, callIn, headFits, segmentFits, joinFits, joinRepeats, trainFits, reachFits, placeFits, callFits, someHas, mayDivide, contentFaults, add, Reading, readingStart, isHead, isEnd, unknownKind, outOfOrder, kindFaults, frameFaults, addFound, pastFrame, bookFaults, readFrame, frameReadAt, more, joinsOnce, readBook, wellFormed, between}
 use Rattle.demands.proofs.Wellformed.{Parts, parts}
 use Rattle.demands.proofs.Faults.{passes, clear-first}
 use Rattle.demands.proofs.Growing.{none-iff, all-weaken, pick-append}
 use Rattle.demands.proofs.Reading.{ReadsTo, start, next, pass, read-iff, rank-not-zero}
-use Rattle.laws.proofs.Tests.{and-iff, not-iff, eqb-iff, ltb-iff, leb-iff, all-iff, all-upTo, true-of, denied-of, neither-iff}
+use Rattle.laws.proofs.Tests.{and-iff, not-iff, eqb-iff, ltb-iff, leb-iff, all-iff, any-iff, all-upTo, true-of, denied-of, neither-iff}
 use Rattle.laws.proofs.Rows.{all-append, all-cons}
 use Rattle.laws.proofs.Frames.{payloadOf-frame, kindField-frame, behind-frame, whole-frame}
 
@@ -55,7 +55,7 @@ unfolding joinIn joinPayload field number littleEndian
 join-back j h k l = λ i. record { node = byte-back (j .node) h i; left = byte-back (j .left) k i; right = byte-back (j .right) l i }
 
 -- a row of bytes
-row-back : (ds : List ℕ) → ((d : ℕ) → List·Memᴰ d ds → d < 256) → each ds (littleEndian 1) ≡ ds
+pub row-back : (ds : List ℕ) → ((d : ℕ) → List·Memᴰ d ds → d < 256) → each ds (littleEndian 1) ≡ ds
 unfolding each littleEndian
 row-back [] h = refl
 row-back (d ∷ ds) h =
@@ -131,8 +131,8 @@ module _ (r : Reading) (k : Kind) (p rest : Bytes) (l : length p < 256 ^ 2) (o :
       rw (clear-first _ written-clear, d, frameReadAt, q, payloadOf-frame (kindNumber k) p rest (n .2) l
         , behind-frame (kindNumber k) p rest (n .2) l, n .0)
 
--- neither-iff a Head nor the End
-middle : Kind → Bool
+-- neither a Head nor the End
+unfoldable pub middle : Kind → Bool
 middle k = not (isHead (kindNumber k)) && not (isEnd (kindNumber k))
 
 -- two tests do not both hold where one does not
@@ -328,6 +328,25 @@ module _ (b : Book) (w : Parts b) where
       ; clear = rw q (simp (and-iff, Bool·not-not) (room 8 (b .trains) ys x zs e (w .fewTrains), train-same ys x (f .0 .0 .0) (f .0 .0 .1) (f .0 .1)))
       ; adds = ap (λ t. with-rows b (b .nodes) (b .segments) (b .joins) (ys ++ one t) []) q }
 
+  -- a TTD that some segment has fits a byte
+  ttd-small : (u : ℕ) → T (someHas b u) → u < 256
+  unfolding someHas segmentFits
+  ttd-small u h =
+      let s = any-iff _ (b .segments) .0 h in
+      let e = eqb→eq (s .0 .ttd) u (s .2) in
+      let l = simp (and-iff, leb-iff) at (all-iff _ (b .segments) .0 (w .segments) (s .0) (s .1)) in
+      omega arith
+
+  -- the frame of an unbreakable TTD that never divides is without a fault, and adds nothing
+  ttd-adds : (us : List ℕ) → T (all (λ u. someHas b u && not (mayDivide b u)) us)
+    → (ys : List ℕ) (x : ℕ) (zs : List ℕ) → us ≡ ys ++ x ∷ zs → Adds unbreakableKind unbreakablePayload (λ _. b) ys x
+  unfolding unbreakablePayload littleEndian field number lengthFits contentFaults add all passes
+  ttd-adds us g ys x zs e =
+      let p = simp and-iff at (all-part _ us ys x zs e g) in
+      record
+      { short = omega arith; fits = tt
+      ; clear = rw (byte-back x (ttd-small x (p .0))) (simp (and-iff, Bool·not-not) (p .0, (p .1, tt))); adds = refl }
+
 -- ---- the whole file
 
 -- a row with one at least is not empty
@@ -364,19 +383,21 @@ head-read b w f rest =
     ∙ ap (λ c. more (record { last = 1; book = c }) rest) q
 
 -- at the End frame a well-formed book is accepted
-end-read : (s : Bytes) (b : Book) → Parts b → Comes s 6 b (frame (kindNumber endKind) []) → readBook s ≡ accepted b
+end-read : (s : Bytes) (b : Book) → Parts b → Comes s 7 b (frame (kindNumber endKind) []) → readBook s ≡ accepted b
 unfolding frame littleEndian kindNumber kindField isEnd isHead empty field number rank rankIn kindOrder lengthFits contentFaults all
 end-read s b w c =
     let r : Reading = record { last = c .last; book = b } in
     let o = placed (c .last) endKind [] tt tt (c .some) (omega (arith, c .low)) in
     read-iff s (accepted b) .1 (r, _, c .chain, pass (written-clear r endKind [] [] (omega arith) o tt tt) tt (book-clear b w) refl)
 
--- A well-formed book whose numbers fit their fields is read back from its file.
-pub read-built : (b : Book) → T (wellFormed b) → FitsFields b → readBook (bookFile b) ≡ accepted b
+-- A well-formed book whose numbers fit their fields is read back from its file, with a frame for each of some unbreakable TTDs
+-- that segments of the book have and that never divide.
+pub read-built : (b : Book) (ttds : List ℕ) → T (wellFormed b) → FitsFields b
+  → T (all (λ u. someHas b u && not (mayDivide b u)) ttds) → readBook (bookFile b ttds) ≡ accepted b
 unfolding bookFile with-rows rank rankIn kindOrder kindNumber middle isHead isEnd
-read-built b h f =
+read-built b ttds h f u =
     let w = parts b h in
-    let c₀ : Comes (bookFile b) 1 (with-rows b [] [] [] [] []) _ =
+    let c₀ : Comes (bookFile b ttds) 1 (with-rows b [] [] [] [] []) _ =
           record { last = 1; some = omega arith; low = omega arith; chain = next start (head-read b w f _) } in
     let c₁ = reads-row nodeKind nodePayload (λ ns. with-rows b ns [] [] [] []) _ [] (b .nodes) 1 tt (lit≤ tt) (node-adds b w) c₀ in
     let c₂ = reads-row segmentKind segmentPayload (λ ss. with-rows b (b .nodes) ss [] [] []) _ [] (b .segments) 2 tt (lit≤ tt)
@@ -387,4 +408,5 @@ read-built b h f =
           (lit≤ tt) (train-adds b w (f .trains)) c₃ in
     let c₅ = reads-row callKind callPayload (λ cs. with-rows b (b .nodes) (b .segments) (b .joins) (b .trains) cs) _ [] (b .calls) 5
           tt (lit≤ tt) (call-adds b w) c₄ in
-    end-read (bookFile b) b w c₅
+    let c₆ = reads-row unbreakableKind unbreakablePayload (λ _. b) _ [] ttds 6 tt (lit≤ tt) (ttd-adds b w ttds u) c₅ in
+    end-read (bookFile b ttds) b w c₆

@@ -1,8 +1,12 @@
+-- Reading: what a refusal means, what a book that was read is, and the file that it is read from
 pub mod Faults
 pub mod Wellformed
 pub mod Growing
 pub mod Reading
 pub mod Building
+pub mod Exact
+pub mod RunLists
+-- The formula and the plan rules say the same
 pub mod Sections
 pub mod Meaning
 pub mod Coding
@@ -12,8 +16,10 @@ pub mod Satisfied
 pub mod Encoding
 pub mod Extra
 pub mod Plans
+-- Refutations
 pub mod Refuting
 pub mod Files
+-- The entry points, and the demands
 pub mod Entries
 pub mod Reasons
 pub mod Demands

@@ -91,14 +91,14 @@ module _ (r : Reading) (s : Bytes) where
       , λ g. rw (clear-first _ (g .clear), denied-of (isEnd (kindField s)) (g .notEnd), frameReadAt, g .reading, g .rest) )
 
 -- What a frame without a fault is.
-record Fine (r : Reading) (s : Bytes) : Type 0 where
-  whole : T (not (cutShort s))
-  known : T (not (unknownKind (kindField s)))
-  inOrder : T (not (outOfOrder (r .last) s))
-  content : T (all passes (kindFaults (r .book) (findKind (kindField s) kindOrder) (payloadOf s)))
+pub record Fine (r : Reading) (s : Bytes) : Type 0 where
+  pub whole : T (not (cutShort s))
+  pub known : T (not (unknownKind (kindField s)))
+  pub inOrder : T (not (outOfOrder (r .last) s))
+  pub content : T (all passes (kindFaults (r .book) (findKind (kindField s) kindOrder) (payloadOf s)))
 
 -- by the table's lines
-fine : (r : Reading) (s : Bytes) → T (all passes (frameFaults r s)) → Fine r s
+pub fine : (r : Reading) (s : Bytes) → T (all passes (frameFaults r s)) → Fine r s
 unfolding frameFaults all passes
 fine r s c = let p = simp and-iff at c in record { whole = p .0; known = p .1 .0; inOrder = p .1 .1 .0; content = p .1 .1 .1 }
 
@@ -207,12 +207,12 @@ rank-not-zero n (k ∷ ks) = go (eqb n (kindNumber k))
     go false = omega arith
 
 -- the kind that is found for a number has that number; where none is found there is none
-Found : ℕ → List Kind → Option Kind → Type 0
+unfoldable pub Found : ℕ → List Kind → Option Kind → Type 0
 Found n ks none = T (not (any (λ k. eqb n (kindNumber k)) ks))
 Found n ks (some k) = n ≡ kindNumber k
 
 -- that is what is found
-finds-kind : (n : ℕ) (ks : List Kind) → Found n ks (findKind n ks)
+pub finds-kind : (n : ℕ) (ks : List Kind) → Found n ks (findKind n ks)
 unfolding findKind Found any
 finds-kind n [] = tt
 finds-kind n (k ∷ ks) = go (eqb n (kindNumber k)) refl (findKind n ks) (finds-kind n ks)
@@ -231,7 +231,7 @@ not-both true b h k = h
 not-both false b h k = absurd k
 
 -- the first frame is a Head
-head-first : (r : Reading) (s : Bytes) → T (not (outOfOrder (r .last) s)) → r .last ≡ 0 → kindField s ≡ 1
+pub head-first : (r : Reading) (s : Bytes) → T (not (outOfOrder (r .last) s)) → r .last ≡ 0 → kindField s ≡ 1
 unfolding outOfOrder isHead kindNumber
 head-first r s h e =
     let p = simp neither-iff at h in
@@ -239,7 +239,7 @@ head-first r s h e =
     eqb→eq (kindField s) 1 (rw Bool·not-not at q)
 
 -- no later frame is one
-head-once : (r : Reading) (s : Bytes) → T (not (outOfOrder (r .last) s)) → r .last ≢ 0 → kindField s ≢ 1
+pub head-once : (r : Reading) (s : Bytes) → T (not (outOfOrder (r .last) s)) → r .last ≢ 0 → kindField s ≢ 1
 unfolding outOfOrder isHead kindNumber
 head-once r s h l e =
     let p = simp neither-iff at h in
@@ -248,7 +248,7 @@ head-once r s h l e =
     T-not (eqb (kindField s) 1) q (eqb-iff (kindField s) 1 .1 e)
 
 -- only a Head has the number 1
-head-number : (k : Kind) → kindNumber k ≡ 1 → k ≡ headKind
+pub head-number : (k : Kind) → kindNumber k ≡ 1 → k ≡ headKind
 unfolding kindNumber
 head-number headKind e = refl
 head-number nodeKind e = absurd (omega arith)

@@ -7,7 +7,7 @@ use lib.ListN.{length}
 use lib.Dec.{T, ltb}
 use Rattle.spec.specs.Lists.{Bytes, all, each}
 use Rattle.spec.specs.Numbers.{littleEndian}
-use Rattle.spec.specs.Frames.{frame, Kind, headKind, nodeKind, segmentKind, joinKind, trainKind, callKind, endKind, kindNumber, timeWidth}
+use Rattle.spec.specs.Frames.{frame, Kind, headKind, nodeKind, segmentKind, joinKind, trainKind, callKind, unbreakableKind, endKind, kindNumber, timeWidth}
 use Rattle.spec.specs.Book.{Book, Segment, Join, Train, Call}
 
 -- What a frame's payload is, field by field.
@@ -32,20 +32,26 @@ unfoldable pub callPayload : Call → Bytes
 callPayload c =
     littleEndian 1 (c .train) ++ littleEndian 1 (c .segment) ++ littleEndian timeWidth (c .first) ++ littleEndian timeWidth (c .last)
 
+-- "7 Unbreakable TTD: a TTD that some segment has. A repeat is allowed."
+unfoldable pub unbreakablePayload : ℕ → Bytes
+unbreakablePayload ttd = littleEndian 1 ttd
+
 -- the frames of one kind, one behind the other
 unfoldable pub framesOf : {A : Type 0} → Kind → (A → Bytes) → List A → Bytes
 framesOf k payload xs = each xs (λ x. frame (kindNumber k) (payload x))
 
--- The file of a book: its frames in the order of their kinds.
-unfoldable pub bookFile : Book → Bytes
-bookFile b =
+-- The file of a book, with these TTDs in its frames of kind Unbreakable TTD (a book keeps none of them): the frames in the
+-- order of their kinds.
+unfoldable pub bookFile : Book → List ℕ → Bytes
+bookFile b ttds =
     frame (kindNumber headKind) (headPayload b)
     ++ (framesOf nodeKind nodePayload (b .nodes)
     ++ (framesOf segmentKind segmentPayload (b .segments)
     ++ (framesOf joinKind joinPayload (b .joins)
     ++ (framesOf trainKind trainPayload (b .trains)
     ++ (framesOf callKind callPayload (b .calls)
-    ++ frame (kindNumber endKind) [])))))
+    ++ (framesOf unbreakableKind unbreakablePayload ttds
+    ++ frame (kindNumber endKind) []))))))
 
 -- The numbers of two bytes fit them; those of one byte do so in every well-formed book.
 pub record FitsFields (b : Book) : Type 0 where

@@ -1,0 +1,158 @@
+// The track of a book: what touches a node, where a directed segment begins and ends, which directed
+// segments lead to which, lengths and speeds in segments, and whether a row is a path. One function
+// for each rule; reader, run lists and plan check all use these. Assumes nothing.
+use model::Book;
+use model::Join;
+use model::Segment;
+use model::Train;
+ghost use mathlib.Core.Path.{_≡_};
+ghost use Prim.Native.Nat.{_+_, _*_, _/_, _<_, _≤_};
+ghost use lib.ListN.{take};
+ghost use mathlib.Core.List.{map};
+ghost use lib.Dec.{T, ltb};
+ghost use Rattle.spec.specs.Lists as lists;
+ghost use Rattle.spec.specs.Book as book;
+ghost use Rattle.spec.specs.Runs as runs;
+ghost use Rattle.spec.specs.Held.{held, heldTrain, CountsFit, NumbersFit};
+
+// A byte as a number.
+pub fn wide(x: u8) -> usize
+    ensures { λ r. ⌜ (r ≡ x) × (r < 256) ⌝ }
+{
+    x as usize
+}
+
+// Whether the segment touches the node.
+pub fn touches(s: Segment, node: usize) -> bool
+    ensures { λ r. ⌜ r ≡ book.touches s node ⌝ }
+{
+    wide(s.a) == node || wide(s.b) == node
+}
+
+// The node where a directed segment begins.
+pub fn start_node(b: Book, d: usize) -> usize
+    requires { ⌜ CountsFit b × (d < 2 * b .«segment_count») ⌝ }
+    ensures { λ r. ⌜ (r ≡ book.startNode (held b) d) × (r < 256) ⌝ }
+{
+    let s = d / 2;
+    if d % 2 == 0 {
+        wide(b.segments[s].a)
+    } else {
+        wide(b.segments[s].b)
+    }
+}
+
+// The node where a directed segment ends.
+pub fn end_node(b: Book, d: usize) -> usize
+    requires { ⌜ CountsFit b × (d < 2 * b .«segment_count») ⌝ }
+    ensures { λ r. ⌜ (r ≡ book.endNode (held b) d) × (r < 256) ⌝ }
+{
+    let s = d / 2;
+    if d % 2 == 0 {
+        wide(b.segments[s].b)
+    } else {
+        wide(b.segments[s].a)
+    }
+}
+
+// Whether the join is of these two segments at this node, in either order.
+pub fn join_is(node: usize, s: usize, t: usize, j: Join) -> bool
+    ensures { λ r. ⌜ r ≡ book.joinIs node s t j ⌝ }
+{
+    let left = wide(j.left);
+    let right = wide(j.right);
+    wide(j.node) == node && (left == s && right == t || left == t && right == s)
+}
+
+// Whether some join is of these two segments at this node.
+pub fn joined(b: Book, node: usize, s: usize, t: usize) -> bool
+    requires { ⌜ CountsFit b ⌝ }
+    ensures { λ r. ⌜ r ≡ book.joined (held b) node s t ⌝ }
+{
+    let n = b.join_count;
+    let mut i = 0;
+    while i < n {
+        if join_is(node, s, t, b.joins[i]) {
+            return true;
+        }
+        i += 1;
+    }
+    false
+}
+
+// Whether directed segment d ends where e begins, with a join of the two there.
+pub fn leads_to(b: Book, d: usize, e: usize) -> bool
+    requires { ⌜ CountsFit b × (d < 2 * b .«segment_count») × (e < 2 * b .«segment_count») ⌝ }
+    ensures { λ r. ⌜ r ≡ runs.leadsTo (held b) d e ⌝ }
+{
+    let node = end_node(b, d);
+    node == start_node(b, e) && joined(b, node, d / 2, e / 2)
+}
+
+// Whether two different segments of one TTD both touch the node.
+pub fn share_node(b: Book, node: usize, s: usize, t: usize) -> bool
+    requires { ⌜ CountsFit b × (s < b .«segment_count») × (t < b .«segment_count») ⌝ }
+    ensures { λ r. ⌜ r ≡ book.shareNode (held b) node s t ⌝ }
+{
+    let first = b.segments[s];
+    let second = b.segments[t];
+    s != t && first.ttd == second.ttd && touches(first, node) && touches(second, node)
+}
+
+// A train's length in segments, rounded up.
+pub fn length_in_segments(b: Book, t: Train) -> usize
+    requires { ⌜ NumbersFit b × (1 ≤ b .«segment_metres») × (t .metres < 65536) ⌝ }
+    ensures { λ r. ⌜ r ≡ book.lengthInSegments (held b) (heldTrain t) ⌝ }
+{
+    (t.metres + (b.segment_metres - 1)) / b.segment_metres
+}
+
+// A train's speed in segments an interval, rounded down.
+pub fn speed_in_segments(b: Book, t: Train) -> usize
+    requires { ⌜ NumbersFit b × (1 ≤ b .«segment_metres») × (t .speed < 65536) ⌝ }
+    ensures { λ r. ⌜ r ≡ book.speedInSegments (held b) (heldTrain t) ⌝ }
+{
+    t.speed * b.interval_seconds * 5 / (18 * b.segment_metres)
+}
+
+// Whether the first n directed segments of the row are on different segments.
+pub fn all_different(row: [u8; 8], n: usize) -> bool
+    requires { ⌜ n ≤ 8 ⌝ }
+    ensures { λ r. ⌜ r ≡ lists.different (map book.segmentOf (take n row)) ⌝ }
+{
+    let mut i = 0;
+    while i < n {
+        let mut j = i + 1;
+        while j < n {
+            if row[i] / 2 == row[j] / 2 {
+                return false;
+            }
+            j += 1;
+        }
+        i += 1;
+    }
+    true
+}
+
+// Whether each of the first n directed segments of the row leads to the next.
+pub fn all_linked(b: Book, row: [u8; 8], n: usize) -> bool
+    requires { ⌜ CountsFit b × (n ≤ 8) × T (lists.all (λ d. ltb d (2 * b .«segment_count»)) (take n row)) ⌝ }
+    ensures { λ r. ⌜ r ≡ runs.linked (held b) (take n row) ⌝ }
+{
+    let mut i = 1;
+    while i < n {
+        if !leads_to(b, wide(row[i - 1]), wide(row[i])) {
+            return false;
+        }
+        i += 1;
+    }
+    true
+}
+
+// Whether the first n directed segments of the row are a path.
+pub fn is_path(b: Book, row: [u8; 8], n: usize) -> bool
+    requires { ⌜ CountsFit b × (n ≤ 8) × T (lists.all (λ d. ltb d (2 * b .«segment_count»)) (take n row)) ⌝ }
+    ensures { λ r. ⌜ r ≡ runs.isPath (held b) (take n row) ⌝ }
+{
+    all_different(row, n) && all_linked(b, row, n)
+}
