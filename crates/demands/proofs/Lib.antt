@@ -21,5 +21,6 @@ pub mod Refuting
 pub mod Files
 -- The entry points, and the demands
 pub mod Entries
+pub mod Words
 pub mod Reasons
 pub mod Demands
