@@ -192,7 +192,7 @@ read-accepted-reason s b e = let h = read-iff s (accepted b) .0 e in go (h .0) (
 -- ---- a book that is read is well formed
 
 -- The reader is at the start, or in a growing book.
-data Reached (r : Reading) : Type 0 where
+pub data Reached (r : Reading) : Type 0 where
   nothing : r .last ≡ 0 → r .book ≡ noBook → Reached r
   growing : r .last ≢ 0 → Growing (r .book) → Reached r
 
@@ -267,7 +267,7 @@ reads-head b k p e q c =
     rw (e, q) (growing-head p ((simp (and-iff, Bool·not-not) at d) .0))
 
 -- a frame without a fault leads on in a growing book
-reached-on : (r : Reading) (s : Bytes) → Fine r s → Reached r → Reached (pastFrame r s)
+pub reached-on : (r : Reading) (s : Bytes) → Fine r s → Reached r → Reached (pastFrame r s)
 unfolding pastFrame rank addFound kindFaults all unknownKind Found kindNumber
 reached-on r s f w =
     growing (rank-not-zero (kindField s) kindOrder)
@@ -282,7 +282,7 @@ reached-on r s f w =
         growing-add (r .book) k (payloadOf s) (λ q. head-once r s (f .inOrder) l (h ∙ ap kindNumber q)) ((simp and-iff at c) .1) w
 
 -- so wherever the reader comes, it is at the start or in a growing book
-reached : {s s′ : Bytes} {r : Reading} → ReadsTo s r s′ → Reached r
+pub reached : {s s′ : Bytes} {r : Reading} → ReadsTo s r s′ → Reached r
 unfolding readingStart
 reached start = nothing refl refl
 reached (next {r = r} {r″ = r″} {s′ = s′} {s″ = s″} c e) =

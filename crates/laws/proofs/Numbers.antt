@@ -1,13 +1,14 @@
 -- Little-endian numbers of any width: writing and reading undo one another, a field is read where it was written, and the
 -- same for two's complement. Assumes nothing.
-use mathlib.Core.Path.{_≡_, refl, ap, _∙_, subst}
+use mathlib.Core.Path.{_≡_, refl, sym, ap, _∙_, subst}
 use mathlib.Core.Bool.{Bool}
 use Prim.Native.Nat.{ℕ, zero, suc, _+_, _*_, _-_, _/_, _%_, _^_, _≤_, _<_}
 use native.Mathlib.Nat.{pow-succ'}
 use native.Mathlib.Omega.{arith}
+use native.Mathlib.Numerals.{add-one}
 use mathlib.Core.List.{[], _∷_, _++_}
-use lib.ListN.{length, take, drop, length-drop}
-use lib.Seq.{take-at, drop-append-add, length-take-le}
+use lib.ListN.{length, getD, take, drop, length-drop}
+use lib.Seq.{take-at, drop-append-add, length-take-le, drop-cons, drop-drop}
 use lib.IntN.{ℤ, pos, negsuc}
 use lib.Signed.{mag}
 use lib.Dec.{T, ltb, ltb→lt, lt→ltb, nltb→le}
@@ -148,3 +149,27 @@ module _ (w n : ℕ) (l : n < 256 ^ w) where
       decide (ltb (n * 2) (256 ^ w))
         (λ t. rw (signed-low w n (ltb→lt (n * 2) (256 ^ w) t)))
         (λ t. rw (signed-high w n (nltb→le (n * 2) (256 ^ w) t)) (omega arith))
+
+-- ---- a field, byte by byte
+
+pub field-none : (s : Bytes) (at : ℕ) → field s at 0 ≡ 0
+unfolding field number
+field-none s at = refl
+
+pub field-next : (s : Bytes) (at w : ℕ) → at < length s → field s at (suc w) ≡ getD s at 0 + 256 * field s (suc at) w
+unfolding field number
+field-next s at w h = rw (drop-cons s at 0 h) refl
+
+-- a field of what stands behind a place
+pub field-drop : (s : Bytes) (n at w : ℕ) → field (drop n s) at w ≡ field s (n + at) w
+unfolding field
+field-drop s n at w = ap (λ (l : Bytes). number (take w l)) (drop-drop at n s)
+
+-- one byte, and two
+pub field-one : (s : Bytes) (at : ℕ) → at < length s → field s at 1 ≡ getD s at 0
+field-one s at h = omega (arith, field-next s at 0 h, field-none s (suc at))
+
+pub field-two : (s : Bytes) (at : ℕ) → at + 1 < length s → field s at 2 ≡ getD s at 0 + 256 * getD s (at + 1) 0
+field-two s at h =
+    field-next s at 1 (omega arith)
+    ∙ ap (λ (x : ℕ). getD s at 0 + 256 * x) (ap (λ (n : ℕ). field s n 1) (sym (add-one at)) ∙ field-one s (at + 1) h)

@@ -1,0 +1,52 @@
+-- The order of kinds: the rank of a number that is no kind's, and what is left of the test for order once a Head stands where it
+-- should. Assumes nothing.
+use mathlib.Core.Path.{_≡_, refl, ap}
+use mathlib.Core.Logic.{_≢_, _⊎_, inl, inr}
+use mathlib.Core.Bool.{Bool, true, false, not, _&&_, _||_}
+use Prim.Native.Nat.{ℕ, suc}
+use mathlib.Core.List.{List, [], _∷_}
+use lib.ListN.{length}
+use lib.Dec.{T, ltb, eqb}
+use Rattle.laws.proofs.Tests.{false-of, true-of, denied-of, eqb-iff, and-iff, not-iff}
+use Rattle.spec.specs.Lists.{all}
+use Rattle.spec.specs.Frames.{Kind, rank, rankIn, kindOrder, kindNumber}
+use Rattle.spec.specs.Read.{isHead, isEnd}
+use Rattle.frames.specs.Framed.{outOfOrderBy}
+
+-- two numbers that differ, or not, as a test
+pub differs : (n k : ℕ) → n ≢ k → eqb n k ≡ false
+differs n k h = false-of (eqb n k) (λ t. h (eqb-iff n k .0 t))
+
+pub agrees : (n k : ℕ) → n ≡ k → eqb n k ≡ true
+agrees n k e = true-of (eqb n k) (eqb-iff n k .1 e)
+
+-- a number that is no kind's stands behind all kinds
+rank-none : (n : ℕ) (ks : List Kind) → T (all (λ k. not (eqb n (kindNumber k))) ks) → rankIn n ks ≡ suc (length ks)
+unfolding rankIn all
+rank-none n [] h = refl
+rank-none n (k ∷ ks) h =
+    let p = and-iff (not (eqb n (kindNumber k))) (all (λ k. not (eqb n (kindNumber k))) ks) .0 h in
+    rw (denied-of (eqb n (kindNumber k)) (p .0), rankIn) (ap suc (rank-none n ks (p .1)))
+
+pub rank-other : (n : ℕ) → n ≢ 1 → n ≢ 2 → n ≢ 3 → n ≢ 4 → n ≢ 5 → n ≢ 6 → n ≢ 7 → n ≢ 8 → rank n ≡ 9
+unfolding rank kindOrder kindNumber all
+rank-other n a b c d e f g h =
+    rank-none n kindOrder (simp (and-iff, not-iff, eqb-iff) (a, (b, (c, (d, (e, (f, (g, (h, tt)))))))))
+
+-- the Head stands first, and nowhere else
+abbrev pub HeadFirst : ℕ → ℕ → Type 0
+HeadFirst last kind = ((last ≡ 0) × (kind ≡ 1)) ⊎ ((last ≢ 0) × (kind ≢ 1))
+
+pub not-first : (last kind left : ℕ) → last ≡ 0 → kind ≢ 1 → true ≡ outOfOrderBy last kind left
+unfolding outOfOrderBy isHead kindNumber
+not-first last kind left e h = simp (agrees last 0 e, differs kind 1 h)
+
+pub second-head : (last kind left : ℕ) → last ≢ 0 → kind ≡ 1 → true ≡ outOfOrderBy last kind left
+unfolding outOfOrderBy isHead kindNumber
+second-head last kind left h e = simp (differs last 0 h, agrees kind 1 e)
+
+pub order-rest : (last kind left : ℕ) → HeadFirst last kind
+    → outOfOrderBy last kind left ≡ (ltb (rank kind) last || isEnd kind && not (eqb left 0))
+unfolding outOfOrderBy isHead kindNumber
+order-rest last kind left (inl h) = simp (agrees last 0 (h .0), agrees kind 1 (h .1))
+order-rest last kind left (inr h) = simp (differs last 0 (h .0), differs kind 1 (h .1))

@@ -1,0 +1,270 @@
+// Frames: the number and the payload length of each kind, the numbers in a file, and the frame at a
+// place of a file. Each kind is a type whose associated constants are its number and the length of its
+// payload; its constructor `cursor` gives the stretch of a file that the payload's fixed part takes.
+// Assumes nothing.
+ghost use mathlib.Core.Path.{_≡_};
+ghost use Prim.Native.Nat.{_+_, _≤_, _<_};
+ghost use lib.ListN.{length, drop};
+ghost use Rattle.spec.specs.Frames as frames;
+ghost use Rattle.spec.specs.Numbers.{field};
+ghost use Rattle.frames.specs.Framed.{framedAt, outOfOrderBy};
+
+// The stretch of a file from `at` up to `end`.
+pub struct Cursor {
+    pub at: usize,
+    pub end: usize,
+}
+
+pub struct HeadFrame {}
+
+impl HeadFrame {
+    pub const KIND: usize = 1;
+    pub const LEN: usize = 5;
+
+    // The payload's stretch, from its place on.
+    pub fn cursor(at: usize) -> Cursor
+        requires { ⌜ at + 5 < 0x1_0000_0000_0000_0000 ⌝ }
+        ensures { λ r. do ⌜ (r .at ≡ at) × (r .end ≡ at + (← ⟦HeadFrame::LEN⟧ .entry)) ⌝ }
+    {
+        Cursor {
+            at,
+            end: at + Self::LEN,
+        }
+    }
+}
+
+pub struct NodeFrame {}
+
+impl NodeFrame {
+    pub const KIND: usize = 2;
+    pub const LEN: usize = 1;
+
+    // The payload's stretch, from its place on.
+    pub fn cursor(at: usize) -> Cursor
+        requires { ⌜ at + 1 < 0x1_0000_0000_0000_0000 ⌝ }
+        ensures { λ r. do ⌜ (r .at ≡ at) × (r .end ≡ at + (← ⟦NodeFrame::LEN⟧ .entry)) ⌝ }
+    {
+        Cursor {
+            at,
+            end: at + Self::LEN,
+        }
+    }
+}
+
+pub struct SegmentFrame {}
+
+impl SegmentFrame {
+    pub const KIND: usize = 3;
+    pub const LEN: usize = 3;
+
+    // The payload's stretch, from its place on.
+    pub fn cursor(at: usize) -> Cursor
+        requires { ⌜ at + 3 < 0x1_0000_0000_0000_0000 ⌝ }
+        ensures { λ r. do ⌜ (r .at ≡ at) × (r .end ≡ at + (← ⟦SegmentFrame::LEN⟧ .entry)) ⌝ }
+    {
+        Cursor {
+            at,
+            end: at + Self::LEN,
+        }
+    }
+}
+
+pub struct JoinFrame {}
+
+impl JoinFrame {
+    pub const KIND: usize = 4;
+    pub const LEN: usize = 3;
+
+    // The payload's stretch, from its place on.
+    pub fn cursor(at: usize) -> Cursor
+        requires { ⌜ at + 3 < 0x1_0000_0000_0000_0000 ⌝ }
+        ensures { λ r. do ⌜ (r .at ≡ at) × (r .end ≡ at + (← ⟦JoinFrame::LEN⟧ .entry)) ⌝ }
+    {
+        Cursor {
+            at,
+            end: at + Self::LEN,
+        }
+    }
+}
+
+// LEN is the fixed part; n directed segments stand behind it.
+pub struct TrainFrame {}
+
+impl TrainFrame {
+    pub const KIND: usize = 5;
+    pub const LEN: usize = 6;
+
+    // The payload's stretch, from its place on.
+    pub fn cursor(at: usize) -> Cursor
+        requires { ⌜ at + 6 < 0x1_0000_0000_0000_0000 ⌝ }
+        ensures { λ r. do ⌜ (r .at ≡ at) × (r .end ≡ at + (← ⟦TrainFrame::LEN⟧ .entry)) ⌝ }
+    {
+        Cursor {
+            at,
+            end: at + Self::LEN,
+        }
+    }
+}
+
+pub struct CallFrame {}
+
+impl CallFrame {
+    pub const KIND: usize = 6;
+    pub const LEN: usize = 4;
+
+    // The payload's stretch, from its place on.
+    pub fn cursor(at: usize) -> Cursor
+        requires { ⌜ at + 4 < 0x1_0000_0000_0000_0000 ⌝ }
+        ensures { λ r. do ⌜ (r .at ≡ at) × (r .end ≡ at + (← ⟦CallFrame::LEN⟧ .entry)) ⌝ }
+    {
+        Cursor {
+            at,
+            end: at + Self::LEN,
+        }
+    }
+}
+
+pub struct UnbreakableFrame {}
+
+impl UnbreakableFrame {
+    pub const KIND: usize = 7;
+    pub const LEN: usize = 1;
+
+    // The payload's stretch, from its place on.
+    pub fn cursor(at: usize) -> Cursor
+        requires { ⌜ at + 1 < 0x1_0000_0000_0000_0000 ⌝ }
+        ensures { λ r. do ⌜ (r .at ≡ at) × (r .end ≡ at + (← ⟦UnbreakableFrame::LEN⟧ .entry)) ⌝ }
+    {
+        Cursor {
+            at,
+            end: at + Self::LEN,
+        }
+    }
+}
+
+pub struct EndFrame {}
+
+impl EndFrame {
+    pub const KIND: usize = 8;
+    pub const LEN: usize = 0;
+
+    // The payload's stretch, from its place on.
+    pub fn cursor(at: usize) -> Cursor
+        requires { ⌜ at + 0 < 0x1_0000_0000_0000_0000 ⌝ }
+        ensures { λ r. do ⌜ (r .at ≡ at) × (r .end ≡ at + (← ⟦EndFrame::LEN⟧ .entry)) ⌝ }
+    {
+        Cursor {
+            at,
+            end: at + Self::LEN,
+        }
+    }
+}
+
+// A step of a refutation. LEN is the fixed part; the literals and the hints stand behind it.
+pub struct StepFrame {}
+
+impl StepFrame {
+    pub const KIND: usize = 20;
+    pub const LEN: usize = 2;
+
+    // The payload's stretch, from its place on.
+    pub fn cursor(at: usize) -> Cursor
+        requires { ⌜ at + 2 < 0x1_0000_0000_0000_0000 ⌝ }
+        ensures { λ r. do ⌜ (r .at ≡ at) × (r .end ≡ at + (← ⟦StepFrame::LEN⟧ .entry)) ⌝ }
+    {
+        Cursor {
+            at,
+            end: at + Self::LEN,
+        }
+    }
+}
+
+// The number in the two bytes from `at` on.
+pub fn pair(s: &[u8], at: usize) -> usize
+    requires { ⌜ at + 2 ≤ length (now s) ⌝ }
+    ensures { λ r. ⌜ (r ≡ field (now (s .entry)) at 2) × (r < 65536) ⌝ }
+{
+    let low = s[at] as usize;
+    let high = s[at + 1] as usize;
+    low + 256 * high
+}
+
+// The number in the byte at `at`.
+pub fn single(s: &[u8], at: usize) -> usize
+    requires { ⌜ at + 1 ≤ length (now s) ⌝ }
+    ensures { λ r. ⌜ (r ≡ field (now (s .entry)) at 1) × (r < 256) ⌝ }
+{
+    s[at] as usize
+}
+
+// What stands at a place of a file: a whole frame, with its kind and its payload's length, or no
+// whole one.
+pub enum Framed {
+    Whole { kind: usize, len: usize },
+    Cut,
+}
+
+pub fn frame_at(s: &[u8], at: usize) -> Framed
+    requires { ⌜ at ≤ length (now s) ⌝ }
+    ensures { λ r. ⌜ r ≡ framedAt (drop at (now (s .entry))) ⌝ }
+{
+    if s.len() - at < 4 {
+        return Framed::Cut;
+    }
+    let len = pair(s, at);
+    let kind = pair(s, at + 2);
+    if s.len() - at - 4 < len {
+        Framed::Cut
+    } else {
+        Framed::Whole { kind, len }
+    }
+}
+
+// The place of a kind in the order of kinds, from 1; 9 for a number that is no kind's.
+pub fn rank(kind: usize) -> usize
+    ensures { λ r. ⌜ r ≡ frames.rank kind ⌝ }
+{
+    if kind == HeadFrame::KIND {
+        return 1;
+    }
+    if kind == NodeFrame::KIND {
+        return 2;
+    }
+    if kind == SegmentFrame::KIND {
+        return 3;
+    }
+    if kind == JoinFrame::KIND {
+        return 4;
+    }
+    if kind == TrainFrame::KIND {
+        return 5;
+    }
+    if kind == CallFrame::KIND {
+        return 6;
+    }
+    if kind == UnbreakableFrame::KIND {
+        return 7;
+    }
+    if kind == EndFrame::KIND {
+        return 8;
+    }
+    9
+}
+
+// 3: whether a frame is out of order, after a kind's rank (0 before the first frame) and with so many
+// bytes behind it: the first frame is no Head, a Head stands later, the kind has gone down, or bytes
+// stand after End.
+pub fn out_of_order(last: usize, kind: usize, left: usize) -> bool
+    ensures { λ r. ⌜ r ≡ outOfOrderBy last kind left ⌝ }
+{
+    if last == 0 {
+        if kind != HeadFrame::KIND {
+            return true;
+        }
+    } else {
+        if kind == HeadFrame::KIND {
+            return true;
+        }
+    }
+    rank(kind) < last || kind == EndFrame::KIND && left != 0
+}
