@@ -54,8 +54,8 @@ grouped s borders = answered (readInstance s) λ I.
 words : Bytes → ℕ → List ℕ
 words s n = answered (writeFormula s n) λ w. w .variableCount ∷ w .clauseCount ∷ w .wordCount ∷ map code (w .words)
 
-printed : Bytes → List ℕ
-printed s = answered (formulaText s 1000000) λ t. t
+textOf : Bytes → List ℕ
+textOf s = answered (formulaText s 1000000) λ t. t
 
 decoding : Bytes → Bytes → ℕ → List ℕ
 decoding s a n = answered (checkAssignment s a n) λ p. p
@@ -74,7 +74,7 @@ failing : ℕ → List Case → List ℕ
 failing n [] = []
 failing n (c ∷ cs) = only (mathlib.Core.Bool.not (same (c .asked) (c .answer))) (n ∷ []) ++ failing (suc n) cs
 """
-HELPERS = "answered code rows lists grouped words printed decoding encoding refuting′ failing"
+HELPERS = "answered code rows lists grouped words textOf decoding encoding refuting′ failing"
 
 
 def names_of_specs(specs):
@@ -142,7 +142,7 @@ def book_questions(rng, data):
         yield "words", "words %s %d" % (row(data), 10 ** 6), written(data, 10 ** 6)
         yield "short", "words %s %d" % (row(data), result[3] - 1), written(data, result[3] - 1)
         book = reference.read_book(data)
-        yield "text", "printed %s" % row(data), [0] + list(reference.dimacs(book))
+        yield "text", "textOf %s" % row(data), [0] + list(reference.dimacs(book))
         for _ in range(2):
             borders = [n for n in range(len(book.nodes)) if rng.random() < 0.4]
             yield "sections", "grouped %s %s" % (row(data), row(borders)), grouped(data, borders)

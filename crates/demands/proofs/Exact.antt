@@ -300,6 +300,15 @@ came {s} y (next {r = r} {r″ = r″} {s′ = s′} {s″ = s″} c e) =
     let o = of-kind r s′ f in
     (rw (g .rest) (bytes-behind s′ (h .0)), rw (g .reading, g .rest, o .1 .past) (came-on s r s′ (h .0) f (o .0) (o .1) (g .notEnd) (h .1)))
 
+-- so wherever the reader comes behind the Head, the book's numbers fit their fields
+pub reads-fit : {s s′ : Bytes} {r : Reading} → T (bytes s) → ReadsTo s r s′ → r .last ≢ 0 → FitsFields (r .book)
+reads-fit {s} {s′} {r} y c n = go (came y c .1)
+  where
+    go : Came s r s′ → FitsFields (r .book)
+    go (nothing l e u) = absurd (n l)
+    go (taken l t) = t .fits
+
+
 -- ---- the whole file
 
 -- an empty row
