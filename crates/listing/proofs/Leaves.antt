@@ -1,0 +1,118 @@
+-- What grows by one: a run of stores by a store, the path that a struct holds by a directed segment, and the tables of runs by a
+-- run, where there is room. Assumes nothing.
+use mathlib.Core.Path.{_≡_, refl, sym, ap, ap₂, _∙_}
+use Prim.Native.Nat.{ℕ, suc, _+_, _*_, _-_, _≤_, _<_}
+use native.Mathlib.Nat.{add-zero, add-suc, suc-add}
+use native.Mathlib.Numerals.{add-one}
+use native.Mathlib.Omega.{arith}
+use mathlib.Core.List.{List, [], _∷_, _++_, map, map-append, append-nil}
+use lib.ListN.{length, getD, take, set, replicate, length-append, length-map}
+use lib.Seq.{sets, set-append-seam, append-snoc, take-suc, take-nil, length-take-le}
+use Rattle.spec.specs.Lists.{Bytes, one, each, lastOr, upTo}
+use Rattle.spec.specs.Held.{padded}
+use Rattle.listing.specs.declared.Path.{Path}
+use Rattle.laws.proofs.Parts.{upTo-suc, length-upTo}
+use Rattle.listing.specs.Listed.{packedPath, keptOf, rowsAfter, sizesAfter}
+
+-- ---- a run of stores
+
+module _ {ℓ} {A : Type ℓ} where
+  -- the next store of a run
+  pub sets-next : (vs l : List A) (i : ℕ) (v : A) → set (sets l i vs) (i + length vs) v ≡ sets l i (vs ++ one v)
+  sets-next [] l i v = ap (λ (k : ℕ). set l k v) (add-zero i)
+  sets-next (a ∷ vs) l i v =
+      ap (λ (k : ℕ). set (sets (set l i a) (suc i) vs) k v) (add-suc i (length vs) ∙ sym (suc-add i (length vs)))
+      ∙ sets-next vs (set l i a) (suc i) v
+
+  -- the next of the values of a list, and of a row of values
+  pub sets-take-next : (l vs : List A) (base i : ℕ) (d : A) → i < length vs
+      → set (sets l base (take i vs)) (base + i) (getD vs i d) ≡ sets l base (take (i + 1) vs)
+  sets-take-next l vs base i d h =
+      let size : length (take i vs) ≡ i = length-take-le i vs (omega arith) in
+      ap (λ (k : ℕ). set (sets l base (take i vs)) (base + k) (getD vs i d)) (sym size)
+      ∙ sets-next (take i vs) l base (getD vs i d)
+      ∙ ap (sets l base) (sym (take-suc vs i d h) ∙ ap (λ (k : ℕ). take k vs) (sym (add-one i)))
+
+  pub sets-map-next : (f : ℕ → A) (l : List A) (base i : ℕ)
+      → set (sets l base (map f (upTo i))) (base + i) (f i) ≡ sets l base (map f (upTo (i + 1)))
+  sets-map-next f l base i =
+      let size : length (map f (upTo i)) ≡ i = length-map (upTo i) f ∙ length-upTo i in
+      ap (λ (k : ℕ). set (sets l base (map f (upTo i))) (base + k) (f i)) (sym size)
+      ∙ sets-next (map f (upTo i)) l base (f i)
+      ∙ ap (sets l base) (sym (map-append f (upTo i) (one i)) ∙ ap (map f) (sym (upTo-suc i) ∙ ap upTo (sym (add-one i))))
+
+-- ---- a row in an array
+
+module _ {ℓ} {A : Type ℓ} where
+  -- the element that is stored behind the row is the row's next
+  pub padded-next : (n : ℕ) (z : A) (xs : List A) (x : A) → length xs < n
+      → set (padded n z xs) (length xs) x ≡ padded n z (xs ++ one x)
+  unfolding padded
+  padded-next n z xs x l =
+      let here : n - length xs ≡ suc (n - suc (length xs)) = omega arith in
+      let next : n - suc (length xs) ≡ n - length (xs ++ one x) = rw length-append (omega arith) in
+      ap (λ (k : ℕ). set (xs ++ replicate k z) (length xs) x) here
+      ∙ set-append-seam xs z (replicate (n - suc (length xs)) z) x
+      ∙ sym (append-snoc xs x (replicate (n - suc (length xs)) z))
+      ∙ ap (λ (k : ℕ). (xs ++ one x) ++ replicate k z) next
+
+-- ---- a path by value
+
+-- the last element of a row that has grown, and of the first n of an array
+module _ {ℓ} {A : Type ℓ} where
+  pub last-append : (xs : List A) (z x : A) → lastOr z (xs ++ one x) ≡ x
+  unfolding lastOr
+  last-append [] z x = refl
+  last-append (y ∷ xs) z x = last-append xs y x
+
+  pub last-take : (xs : List A) (n : ℕ) (z d : A) → 1 ≤ n → n ≤ length xs → lastOr z (take n xs) ≡ getD xs (n - 1) d
+  last-take xs n z d some fits =
+      let e : n ≡ suc (n - 1) = omega arith in
+      let l : n - 1 < length xs = omega arith in
+      ap (λ (k : ℕ). lastOr z (take k xs)) e
+      ∙ ap (lastOr z) (take-suc xs (n - 1) d l)
+      ∙ last-append (take (n - 1) xs) z (getD xs (n - 1) d)
+
+-- the path that holds a row, and the path that holds one more
+pub path-next : (p : Path) (ds : List ℕ) (d : ℕ) → p ≡ packedPath ds → p .n < 16
+    → _≡_ {A = Path} (record { at = set (p .at) (p .n) d; n = p .n + 1 }) (packedPath (ds ++ one d))
+unfolding packedPath
+path-next p ds d e l =
+    let size : p .n ≡ length ds = ap (λ (q : Path). q .n) e in
+    let row : p .at ≡ padded 16 0 ds = ap (λ (q : Path). q .at) e in
+    let sized : p .n + 1 ≡ length (ds ++ one d) = rw (size, length-append) in
+    let stored : set (p .at) (p .n) d ≡ padded 16 0 (ds ++ one d) = rw (row, size) (padded-next 16 0 ds d (omega arith)) in
+    ap₂ (λ (a : List ℕ) (k : ℕ). record { at = a; n = k }) stored sized
+
+-- ---- the tables of runs
+
+-- one run behind the first `count`, where there is room for it, and where there is none
+module _ (count : ℕ) (ds : List ℕ) (old : Bytes) where
+  kept-one : count < 256 → keptOf count (one ds) ≡ one ds
+  unfolding keptOf
+  kept-one l =
+      let e : 256 - count ≡ suc (255 - count) = omega arith in
+      ap (λ (n : ℕ). take n (one ds)) e ∙ ap (λ (r : List (List ℕ)). ds ∷ r) (take-nil (255 - count))
+
+  pub rows-kept : count < 256 → rowsAfter count (one ds) old ≡ sets old (count * 16) (padded 16 0 ds)
+  unfolding rowsAfter each
+  rows-kept l =
+      ap (λ (r : List (List ℕ)). sets old (count * 16) (each r (padded 16 0))) (kept-one l)
+      ∙ ap (sets old (count * 16)) (append-nil (padded 16 0 ds))
+
+  pub sizes-kept : count < 256 → sizesAfter count (one ds) old ≡ set old count (length ds)
+  unfolding sizesAfter
+  sizes-kept l = ap (λ (r : List (List ℕ)). sets old count (map length r)) (kept-one l)
+
+module _ (count : ℕ) (runs : List (List ℕ)) (old : Bytes) (full : 256 ≤ count) where
+  kept-none : keptOf count runs ≡ []
+  unfolding keptOf
+  kept-none = let e : 256 - count ≡ 0 = omega arith in ap (λ (n : ℕ). take n runs) e
+
+  pub rows-full : rowsAfter count runs old ≡ old
+  unfolding rowsAfter each
+  rows-full = ap (λ (r : List (List ℕ)). sets old (count * 16) (each r (padded 16 0))) kept-none
+
+  pub sizes-full : sizesAfter count runs old ≡ old
+  unfolding sizesAfter
+  sizes-full = ap (λ (r : List (List ℕ)). sets old count (map length r)) kept-none

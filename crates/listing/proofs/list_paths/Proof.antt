@@ -1,0 +1,124 @@
+-- `listing::list_paths` meets its contract. The loop's invariant: the tables and the count are those after the paths that start
+-- over the directed segments below d. Assumes nothing.
+use borrow.Author.Needs.{needs}
+use borrow.Author.Tests.{ltb-true, ltb-false}
+use Prim.Native.Nat.{ℕ, _≤_, _-_}
+use native.Mathlib.Omega.{arith}
+use mathlib.Core.Path.{refl, _∙_}
+use mathlib.Core.Logic.{_⊎_, inl, inr}
+use mathlib.Core.List.{List}
+use lib.Dec.{T}
+use Rattle.spec.specs.Lists.{upTo, each, one, all}
+use Rattle.spec.specs.Held.{padded}
+use Rattle.listing.specs.Listed.{pathOf, packedPath, extendBy, pathsBy}
+use Rattle.listing.proofs.Lists.{Listed, listed-none, listed-rows, listed-sizes, listed-next, listed-end}
+use Rattle.listing.proofs.Lists.{short, each-nothing, from-short}
+use Rattle.listing.proofs.list_paths.Statement.{statement}
+use Rattle.listing.proofs.list_paths.Tie as tie
+
+abbrev Inv-loop : tie.InvT-loop
+Inv-loop table directed rows₀ sizes₀ count size found₀ d₀ rows sizes found d =
+    (d ≤ directed) × Listed count rows₀ sizes₀ (each (upTo d) (λ i. extendBy table directed (size - 1) (one i))) found rows sizes
+
+abbrev μ-loop : tie.MeasureT-loop
+μ-loop table directed rows₀ sizes₀ count size found₀ d₀ rows sizes found d = directed - d
+
+-- the paths that start over a directed segment
+module _ (s : tie.Start Inv-loop μ-loop) where
+  abbrev from : ℕ → List (List ℕ)
+  from d = extendBy (s .args .table .now) (s .args .directed) (s .args .size - 1) (one d)
+
+  are-short : (d : ℕ) → T (all short (each (upTo d) from))
+  are-short = from-short (s .args .table .now) (s .args .directed) (s .args .size) (omega arith) (omega arith)
+
+-- at the end the tables and the count are what the contract says
+module _ (c : tie.At-loop Inv-loop μ-loop) where
+  abbrev start : tie.Start Inv-loop μ-loop
+  start = c .before .before .before .before
+
+  done : (start .args .directed ≤ c .loop .d) ⊎ (257 ≤ c .loop .found)
+      → Listed (start .args .count) (start .args .rows .now) (start .args .sizes .now)
+      (pathsBy (start .args .table .now) (start .args .directed) (start .args .size)) (c .loop .found) (c .loop .rows) (c .loop .sizes)
+  unfolding pathsBy
+  done h = listed-end (from start) (c .loop .inv .1) (are-short start (c .loop .d)) (start .args .directed) (c .loop .inv .0) h
+
+loop-holds : tie.Need-loop-holds Inv-loop μ-loop
+loop-holds c = (omega arith, rw each-nothing (listed-none _ _ _ (omega arith)))
+
+cast-path : tie.Need-cast-path Inv-loop μ-loop
+cast-path c = omega arith
+
+element-write-path : tie.Need-element-write-path Inv-loop μ-loop
+element-write-path c = search needs
+
+sub-extend : tie.Need-sub-extend Inv-loop μ-loop
+sub-extend c = omega arith
+
+extend-requires : tie.Need-extend-requires Inv-loop μ-loop
+unfolding pathOf packedPath padded
+extend-requires c κs =
+    let l = c .before .before .before .before in
+    let p = start l .pre in
+    (p .0
+    , p .1
+    , listed-rows (l .loop .inv .1) ∙ p .2
+    , listed-sizes (l .loop .inv .1) ∙ p .3
+    , omega (arith, ltb-true)
+    , refl
+    , omega arith
+    , omega arith)
+
+add-d : tie.Need-add-d Inv-loop μ-loop
+add-d c = omega arith
+
+loop-less : tie.Need-loop-less Inv-loop μ-loop
+loop-less c = omega arith
+
+loop-again : tie.Need-loop-again Inv-loop μ-loop
+unfolding pathOf
+loop-again c =
+    let e = c .before .before .before .before .extend .ensures in
+    let l = c .before .before .before .before .before .before .before .before .before in
+    (omega arith
+    , listed-next (from (start l)) (l .loop .inv .1) (are-short (start l) (l .loop .d)) (record { counted = e .0; filled = e .1; sized = e .2 }))
+
+same-length : tie.Need-same-length Inv-loop μ-loop
+same-length c = listed-rows (c .before .before .loop .inv .1)
+
+same-length-2 : tie.Need-same-length-2 Inv-loop μ-loop
+same-length-2 c = listed-sizes (c .before .before .loop .inv .1)
+
+returns : tie.Need-returns Inv-loop μ-loop
+returns c =
+    let l = done (c .before .before) (inr (ltb-false _ _ (c .if1 .left))) in
+    (l .counted, l .filled, l .sized)
+
+same-length-3 : tie.Need-same-length-3 Inv-loop μ-loop
+same-length-3 c = listed-rows (c .before .loop .inv .1)
+
+same-length-4 : tie.Need-same-length-4 Inv-loop μ-loop
+same-length-4 c = listed-sizes (c .before .loop .inv .1)
+
+returns-2 : tie.Need-returns-2 Inv-loop μ-loop
+returns-2 c = let l = done (c .before) (inl (c .loop-test .left)) in (l .counted, l .filled, l .sized)
+
+pub list-paths-spec : {M : Type 1} → statement M
+list-paths-spec =
+    tie.close
+    (tie.spec
+    Inv-loop
+    μ-loop
+    loop-holds
+    cast-path
+    element-write-path
+    sub-extend
+    extend-requires
+    add-d
+    loop-less
+    loop-again
+    same-length
+    same-length-2
+    returns
+    same-length-3
+    same-length-4
+    returns-2)
