@@ -1,0 +1,4 @@
+pub mod Calls
+pub mod Packing
+pub mod Tables
+pub mod Trains

@@ -1,0 +1,6 @@
+pub mod FrameTests
+pub mod Steps
+pub mod ByKind
+pub mod Ends
+pub mod Whole
+pub mod Way

@@ -1,0 +1,281 @@
+// Reading a book: the frames in file order, each through its refusals by rising number, then the
+// book's own. `read_book` is the entry point: it takes any bytes, and answers the book by value or one
+// numbered refusal. Assumes nothing.
+use content::Added;
+use content::Checked;
+use content::add_call;
+use content::add_head;
+use content::add_join;
+use content::add_node;
+use content::add_segment;
+use content::add_train;
+use content::add_unbreakable;
+use frames::CallFrame;
+use frames::EndFrame;
+use frames::Framed;
+use frames::HeadFrame;
+use frames::JoinFrame;
+use frames::NodeFrame;
+use frames::SegmentFrame;
+use frames::TrainFrame;
+use frames::UnbreakableFrame;
+use frames::frame_at;
+use frames::out_of_order;
+use frames::rank;
+use checks::calls_of;
+use listing::list_runs;
+use model::Book;
+use model::Call;
+use model::Join;
+use model::Segment;
+use model::Train;
+ghost use mathlib.Core.Path.{_≡_};
+ghost use mathlib.Core.Logic.{_≢_};
+ghost use mathlib.Core.Bool.{not, _||_};
+ghost use Prim.Native.Nat.{_+_, _≤_, _<_};
+ghost use lib.ListN.{length, drop};
+ghost use lib.Dec.{ltb};
+ghost use Rattle.spec.specs.Lists.{any, upTo, empty, firstFault, refused};
+ghost use Rattle.spec.specs.Frames.{rank, findKind, kindOrder};
+ghost use Rattle.spec.specs.Book.{noBook, callsOf};
+ghost use Rattle.spec.specs.BookFile.{FitsFields};
+ghost use Rattle.spec.specs.Runs.{runsOf};
+ghost use Rattle.spec.specs.Read.{readBook, refuseOr, bookFaults, maxRuns};
+ghost use Rattle.spec.specs.Held.{held, packed, CountsFit};
+ghost use Rattle.content.specs.Added.{Packed};
+ghost use Rattle.frames.specs.Framed.{framedAt};
+ghost use Rattle.demands.proofs.Growing.{Growing};
+ghost use Rattle.demands.proofs.Reading.{Reached};
+ghost use Rattle.reading.specs.BookAnswers.{bookReadOf, addedFound, steppedAt};
+
+// A verdict: accepted, or a refusal's number and detail.
+pub enum Answer {
+    Accepted,
+    Refused(usize, usize),
+}
+
+// A book that was read, or the empty book beside its refusal.
+pub struct BookRead {
+    pub answer: Answer,
+    pub book: Book,
+}
+
+// The book before any frame.
+pub fn empty_book() -> Book
+    ensures { λ r. ⌜ r ≡ packed noBook ⌝ }
+{
+    Book {
+        segment_metres: 0,
+        interval_seconds: 0,
+        intervals: 0,
+        node_count: 0,
+        segment_count: 0,
+        join_count: 0,
+        train_count: 0,
+        call_count: 0,
+        nodes: [0u8; 96],
+        segments: [Segment { a: 0, b: 0, ttd: 0 }; 64],
+        joins: [Join { node: 0, left: 0, right: 0 }; 128],
+        trains: [Train { metres: 0, speed: 0, departure: 0, size: 0, place: [0u8; 8] }; 8],
+        calls: [Call { train: 0, segment: 0, first: 0, last: 0 }; 32],
+    }
+}
+
+// A refusal beside the empty book.
+pub fn refused_book(number: usize) -> BookRead
+    ensures { λ r. ⌜ r ≡ bookReadOf (refused number 0) ⌝ }
+{
+    BookRead {
+        answer: Answer::Refused(number, 0),
+        book: empty_book(),
+    }
+}
+
+// 4 to 9 of a frame, by its kind, and the book after it.
+pub fn add_frame(b: Book, kind: usize, p: &[u8]) -> Added
+    requires { ⌜ Packed b × (rank kind < 9) × (kind ≢ 1 → Growing (held b)) ⌝ }
+    ensures { λ r. ⌜ r ≡ addedFound (held b) (findKind kind kindOrder) (now (p .entry)) ⌝ }
+{
+    if kind == HeadFrame::KIND {
+        return add_head(b, p);
+    }
+    if kind == NodeFrame::KIND {
+        return add_node(b, p);
+    }
+    if kind == SegmentFrame::KIND {
+        return add_segment(b, p);
+    }
+    if kind == JoinFrame::KIND {
+        return add_join(b, p);
+    }
+    if kind == TrainFrame::KIND {
+        return add_train(b, p);
+    }
+    if kind == CallFrame::KIND {
+        return add_call(b, p);
+    }
+    if kind == UnbreakableFrame::KIND {
+        return add_unbreakable(b, p);
+    }
+    if p.len() != EndFrame::LEN {
+        return Added {
+            checked: Checked::Refused(4),
+            book: b,
+        };
+    }
+    Added {
+        checked: Checked::Fine,
+        book: b,
+    }
+}
+
+// How reading goes on after a frame: a refusal, the End, or further at a place, after a kind's rank.
+pub enum Next {
+    Stop(usize),
+    End,
+    More { at: usize, last: usize },
+}
+
+pub struct Stepped {
+    pub next: Next,
+    pub book: Book,
+}
+
+// A refusal beside the book as far as it was read.
+pub fn stopped(b: Book, number: usize) -> Stepped
+    ensures { λ r. ⌜ (r .next ≡ Next.Stop number) × (r .book ≡ b) ⌝ }
+{
+    Stepped {
+        next: Next::Stop(number),
+        book: b,
+    }
+}
+
+// A whole frame at a place: 2 to 9, and how reading goes on.
+pub fn step_whole(b: Book, last: usize, s: &[u8], at: usize, kind: usize, len: usize) -> Stepped
+    requires { ⌜ Packed b × Reached (record { last = last; book = held b }) × (framedAt (drop at (now s)) ≡ Framed.Whole kind len)
+        × (at + (4 + len) ≤ length (now s)) ⌝ }
+    ensures { λ r. ⌜ r ≡ steppedAt (record { last = last; book = held b }) (drop at (now (s .entry))) at ⌝ }
+{
+    let start = at + 4;
+    let end = start + len;
+    let place = rank(kind);
+    if place == 9 {
+        return stopped(b, 2);
+    }
+    if out_of_order(last, kind, s.len() - end) {
+        return stopped(b, 3);
+    }
+    let a = add_frame(b, kind, &s[start..end]);
+    let checked = a.checked;
+    let next = a.book;
+    match checked {
+        Checked::Refused(n) => stopped(b, n),
+        Checked::Fine => {
+            if kind == EndFrame::KIND {
+                Stepped {
+                    next: Next::End,
+                    book: b,
+                }
+            } else {
+                Stepped {
+                    next: Next::More {
+                        at: end,
+                        last: place,
+                    },
+                    book: next,
+                }
+            }
+        }
+    }
+}
+
+// One frame: 1, and then the whole frame.
+pub fn step(b: Book, last: usize, s: &[u8], at: usize) -> Stepped
+    requires { ⌜ Packed b × Reached (record { last = last; book = held b }) × (at ≤ length (now s)) ⌝ }
+    ensures { λ r. ⌜ r ≡ steppedAt (record { last = last; book = held b }) (drop at (now (s .entry))) at ⌝ }
+{
+    match frame_at(s, at) {
+        Framed::Cut => stopped(b, 1),
+        Framed::Whole { kind, len } => step_whole(b, last, s, at, kind, len),
+    }
+}
+
+// 10: there is a train, and each has a call.
+pub fn all_called(b: Book) -> bool
+    requires { ⌜ CountsFit b ⌝ }
+    ensures { λ r. ⌜ r ≡ not (empty (held b .trains) || any (λ i. empty (callsOf (held b) i)) (upTo (length (held b .trains)))) ⌝ }
+{
+    let n = b.train_count;
+    let mut i = 0;
+    while i < n {
+        if calls_of(b, i) == 0 {
+            return false;
+        }
+        i += 1;
+    }
+    n != 0
+}
+
+// 11: no train has over 256 runs.
+pub fn few_runs(b: Book) -> bool
+    requires { ⌜ Packed b × Growing (held b) × FitsFields (held b) ⌝ }
+    ensures { λ r. ⌜ r ≡ not (any (λ t. ltb maxRuns (length (runsOf (held b) t))) (held b .trains)) ⌝ }
+{
+    let n = b.train_count;
+    let mut table = [0u8; 16384];
+    let mut rows = [0u8; 4096];
+    let mut sizes = [0u8; 256];
+    let mut i = 0;
+    while i < n {
+        let t = b.trains[i];
+        if 256 < list_runs(b, t, &mut table, &mut rows, &mut sizes) {
+            return false;
+        }
+        i += 1;
+    }
+    true
+}
+
+// The book's own refusals, 10 and 11, after its End.
+pub fn finish(b: Book) -> BookRead
+    requires { ⌜ Packed b × Growing (held b) × FitsFields (held b) ⌝ }
+    ensures { λ r. ⌜ r ≡ bookReadOf (refuseOr (firstFault (bookFaults (held b))) (held b)) ⌝ }
+{
+    if !all_called(b) {
+        return refused_book(10);
+    }
+    if !few_runs(b) {
+        return refused_book(11);
+    }
+    BookRead {
+        answer: Answer::Accepted,
+        book: b,
+    }
+}
+
+// The entry point: the book that the bytes hold, or one numbered refusal.
+pub fn read_book(s: &[u8]) -> BookRead
+    ensures { λ r. ⌜ r ≡ bookReadOf (readBook (now (s .entry))) ⌝ }
+{
+    let mut book = empty_book();
+    let mut last = 0;
+    let mut at = 0;
+    loop {
+        let st = step(book, last, s, at);
+        let next = st.next;
+        match next {
+            Next::Stop(n) => {
+                return refused_book(n);
+            }
+            Next::End => {
+                return finish(book);
+            }
+            Next::More { at: a, last: l } => {
+                book = st.book;
+                at = a;
+                last = l;
+            }
+        }
+    }
+}
