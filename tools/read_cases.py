@@ -1,0 +1,61 @@
+#!/usr/bin/env python3
+"""Make the cases of crates/read_cases: books cut, damaged, at each limit and one past it, and random ones, with the reference's answers.
+
+    read_cases.py SEED
+"""
+import os
+import random
+import struct
+import sys
+
+import reference
+import samples
+
+CRATE = os.path.join(os.path.dirname(os.path.dirname(os.path.abspath(__file__))), "crates", "read_cases")
+# the program reads at most 64 KiB
+MOST_BYTES = 65536
+
+
+def answer(data):
+    """The line that the program prints: 0 and the counts, or the refusal's number and detail, three digits each."""
+    try:
+        book = reference.read_book(data)
+    except reference.Refused as refusal:
+        return "%03d %03d\n" % (refusal.number, refusal.detail)
+    calls = sum(len(train.calls) for train in book.trains)
+    counts = (0, len(book.nodes), len(book.segments), len(book.joins), len(book.trains), calls)
+    return " ".join("%03d" % count for count in counts) + "\n"
+
+
+def books(rng):
+    """Book L cut at every byte and with every byte damaged, each limit met and passed by one, then random books for ever."""
+    good = samples.BOOK_L
+    for at in range(len(good) + 1):
+        yield good[:at]
+    for at in range(len(good)):
+        for value in (0, 1, 255, (good[at] + 1) % 256):
+            yield good[:at] + bytes([value]) + good[at + 1:]
+    for maker in samples.LIMITS:
+        for over in (0, 1):
+            yield samples.spec_bytes(maker(over))
+    while True:
+        yield samples.damaged_book(rng) if rng.random() < 0.8 else samples.random_book(rng, "tiny")
+
+
+def main(arguments):
+    cases, answers = b"", ""
+    for data in books(random.Random(int(arguments[0]))):
+        case = struct.pack("<H", len(data)) + data
+        if len(cases) + len(case) > MOST_BYTES:
+            break
+        cases += case
+        answers += answer(data)
+    with open(os.path.join(CRATE, "stdin"), "wb") as out:
+        out.write(cases)
+    with open(os.path.join(CRATE, "stdout"), "w") as out:
+        out.write(answers)
+    print("%d cases, %d bytes" % (answers.count("\n"), len(cases)))
+
+
+if __name__ == "__main__":
+    main(sys.argv[1:])
