@@ -39,9 +39,10 @@ sum-less : (f : ℕ → ℕ) (n i : ℕ) → ((i : ℕ) → f i ≤ 4) → i < n
 unfolding sumTo
 sum-less f zero i h l k = let no : ⊥ = omega arith in absurd no
 sum-less f (suc n) i h l k =
-    elim (le-or-lt n i)
-    [ inl m ↦ (let e : i ≡ n = omega arith in let j : f n < 4 = rw e at k in let r = sum-most f n h in omega arith)
-    | inr m ↦ (let r = sum-less f n i h m k in omega (arith, h n)) ]
+    elim (le-or-lt n i) [
+      | inl m ↦ (let e : i ≡ n = omega arith in let j : f n < 4 = rw e at k in let r = sum-most f n h in omega arith)
+      | inr m ↦ (let r = sum-less f n i h m k in omega (arith, h n))
+    ]
 
 -- ---- calls
 
@@ -57,11 +58,11 @@ calls-most n (c ∷ cs) h =
     let q = and-iff (ltb (c .train) n) (all (λ c. ltb (c .train) n) cs) .0 h in
     let rest = calls-most n cs (q .1) in
     let here : length (only (eqb (c .train) (c .train)) (one c)) ≤ sumTo (λ i. length (only (eqb (c .train) i) (one c))) n
-        = sum-part _ n (c .train) (ltb-iff (c .train) n .0 (q .0)) in
+    = sum-part _ n (c .train) (ltb-iff (c .train) n .0 (q .0)) in
     let own : 1 ≤ length (only (eqb (c .train) (c .train)) (one c)) = rw (true-of (eqb (c .train) (c .train)) (eqb-refl (c .train)), only) (omega arith) in
     let e : sumTo (λ i. length (only (eqb (c .train) i) (one c) ++ ofTrain cs i)) n
-        ≡ sumTo (λ i. length (only (eqb (c .train) i) (one c))) n + sumTo (λ i. length (ofTrain cs i)) n
-        = simp length-append (sum-add _ _ n) in
+    ≡ sumTo (λ i. length (only (eqb (c .train) i) (one c))) n + sumTo (λ i. length (ofTrain cs i)) n
+    = simp length-append (sum-add _ _ n) in
     rw e (omega arith)
 
 -- all of them fit

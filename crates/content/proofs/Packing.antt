@@ -66,13 +66,16 @@ held-trains (t ∷ ts) = ap₂ _∷_ (held-train t) (held-trains ts)
 -- a book comes back from its struct
 pub held-packed : (x : Book) → held (packed x) ≡ x
 unfolding held packed padded
-held-packed x = λ i. record
-  { segmentMetres = x .segmentMetres; intervalSeconds = x .intervalSeconds; intervals = x .intervals
-  ; nodes = take-padded maxNodes 0 (x .nodes) i
-  ; segments = take-padded maxSegments zeroSegment (x .segments) i
-  ; joins = take-padded maxJoins zeroJoin (x .joins) i
-  ; trains = rows i
-  ; calls = take-padded (maxTrains * maxCalls) zeroCall (x .calls) i }
+held-packed x = λ i. record {
+  segmentMetres = x .segmentMetres;
+  intervalSeconds = x .intervalSeconds;
+  intervals = x .intervals;
+  nodes = take-padded maxNodes 0 (x .nodes) i;
+  segments = take-padded maxSegments zeroSegment (x .segments) i;
+  joins = take-padded maxJoins zeroJoin (x .joins) i;
+  trains = rows i;
+  calls = take-padded (maxTrains * maxCalls) zeroCall (x .calls) i;
+}
   where
     rows : map heldTrain (take (length (x .trains)) (padded maxTrains zeroTrain (map packedTrain (x .trains)))) ≡ x .trains
     rows =
@@ -133,98 +136,208 @@ module _ (b : BookStruct) (fits : CountsFit b) where
 -- Each: the struct that the code leaves is the one of the book with what the frame adds.
 module _ (b : BookStruct) (w : Packed b) (p : Bytes) where
   pub put-head : (m s t : ℕ) → m ≡ field p 0 2 → s ≡ field p 2 2 → t ≡ field p 4 1
-      → record
-      { «segment_metres» = m; «interval_seconds» = s; intervals = t; «node_count» = b .«node_count»
-      ; «segment_count» = b .«segment_count»; «join_count» = b .«join_count»; «train_count» = b .«train_count»
-      ; «call_count» = b .«call_count»; nodes = b .nodes; segments = b .segments; joins = b .joins; trains = b .trains
-      ; calls = b .calls }
+      → record {
+        «segment_metres» = m;
+        «interval_seconds» = s;
+        intervals = t;
+        «node_count» = b .«node_count»;
+        «segment_count» = b .«segment_count»;
+        «join_count» = b .«join_count»;
+        «train_count» = b .«train_count»;
+        «call_count» = b .«call_count»;
+        nodes = b .nodes;
+        segments = b .segments;
+        joins = b .joins;
+        trains = b .trains;
+        calls = b .calls;
+      }
       ≡ packed (add (held b) headKind p)
   unfolding packed add headOf timeWidth
   put-head m s t e f g =
-      λ i. let o = w .same i in record
-      { «segment_metres» = e i; «interval_seconds» = f i; intervals = g i; «node_count» = o .«node_count»
-      ; «segment_count» = o .«segment_count»; «join_count» = o .«join_count»; «train_count» = o .«train_count»
-      ; «call_count» = o .«call_count»; nodes = o .nodes; segments = o .segments; joins = o .joins; trains = o .trains
-      ; calls = o .calls }
+      λ i. let o = w .same i in record {
+        «segment_metres» = e i;
+        «interval_seconds» = f i;
+        intervals = g i;
+        «node_count» = o .«node_count»;
+        «segment_count» = o .«segment_count»;
+        «join_count» = o .«join_count»;
+        «train_count» = o .«train_count»;
+        «call_count» = o .«call_count»;
+        nodes = o .nodes;
+        segments = o .segments;
+        joins = o .joins;
+        trains = o .trains;
+        calls = o .calls;
+      }
 
   pub put-node : (x : ℕ) → x ≡ field p 0 1 → b .«node_count» < maxNodes
-      → record
-      { «segment_metres» = b .«segment_metres»; «interval_seconds» = b .«interval_seconds»; intervals = b .intervals
-      ; «node_count» = b .«node_count» + 1; «segment_count» = b .«segment_count»; «join_count» = b .«join_count»
-      ; «train_count» = b .«train_count»; «call_count» = b .«call_count»; nodes = set (b .nodes) (b .«node_count») x
-      ; segments = b .segments; joins = b .joins; trains = b .trains; calls = b .calls }
+      → record {
+        «segment_metres» = b .«segment_metres»;
+        «interval_seconds» = b .«interval_seconds»;
+        intervals = b .intervals;
+        «node_count» = b .«node_count» + 1;
+        «segment_count» = b .«segment_count»;
+        «join_count» = b .«join_count»;
+        «train_count» = b .«train_count»;
+        «call_count» = b .«call_count»;
+        nodes = set (b .nodes) (b .«node_count») x;
+        segments = b .segments;
+        joins = b .joins;
+        trains = b .trains;
+        calls = b .calls;
+      }
       ≡ packed (add (held b) nodeKind p)
   unfolding packed add
   put-node x e h =
       let c = count-row (field p 0 1) (held b .nodes) (sym (nodes-counted w)) in
       let r = set-row 0 x (held b .nodes) (sym (nodes-counted w)) (ap {B = List ℕ} (λ o. o .nodes) (w .same)) h
-          ∙ ap (λ (y : ℕ). padded maxNodes 0 (held b .nodes ++ one y)) e in
-      λ i. let o = w .same i in record
-      { «segment_metres» = o .«segment_metres»; «interval_seconds» = o .«interval_seconds»; intervals = o .intervals
-      ; «node_count» = c i; «segment_count» = o .«segment_count»; «join_count» = o .«join_count»
-      ; «train_count» = o .«train_count»; «call_count» = o .«call_count»; nodes = r i; segments = o .segments
-      ; joins = o .joins; trains = o .trains; calls = o .calls }
+      ∙ ap (λ (y : ℕ). padded maxNodes 0 (held b .nodes ++ one y)) e in
+      λ i. let o = w .same i in record {
+        «segment_metres» = o .«segment_metres»;
+        «interval_seconds» = o .«interval_seconds»;
+        intervals = o .intervals;
+        «node_count» = c i;
+        «segment_count» = o .«segment_count»;
+        «join_count» = o .«join_count»;
+        «train_count» = o .«train_count»;
+        «call_count» = o .«call_count»;
+        nodes = r i;
+        segments = o .segments;
+        joins = o .joins;
+        trains = o .trains;
+        calls = o .calls;
+      }
 
   pub put-segment : (x : Segment) → x ≡ segmentIn p → b .«segment_count» < maxSegments
-      → record
-      { «segment_metres» = b .«segment_metres»; «interval_seconds» = b .«interval_seconds»; intervals = b .intervals
-      ; «node_count» = b .«node_count»; «segment_count» = b .«segment_count» + 1; «join_count» = b .«join_count»
-      ; «train_count» = b .«train_count»; «call_count» = b .«call_count»; nodes = b .nodes
-      ; segments = set (b .segments) (b .«segment_count») x; joins = b .joins; trains = b .trains; calls = b .calls }
+      → record {
+        «segment_metres» = b .«segment_metres»;
+        «interval_seconds» = b .«interval_seconds»;
+        intervals = b .intervals;
+        «node_count» = b .«node_count»;
+        «segment_count» = b .«segment_count» + 1;
+        «join_count» = b .«join_count»;
+        «train_count» = b .«train_count»;
+        «call_count» = b .«call_count»;
+        nodes = b .nodes;
+        segments = set (b .segments) (b .«segment_count») x;
+        joins = b .joins;
+        trains = b .trains;
+        calls = b .calls;
+      }
       ≡ packed (add (held b) segmentKind p)
   unfolding packed add
   put-segment x e h =
       let c = count-row (segmentIn p) (held b .segments) (sym (segments-counted w)) in
       let r = set-row zeroSegment x (held b .segments) (sym (segments-counted w)) (ap {B = List Segment} (λ o. o .segments) (w .same)) h
-          ∙ ap (λ (y : Segment). padded maxSegments zeroSegment (held b .segments ++ one y)) e in
-      λ i. let o = w .same i in record
-      { «segment_metres» = o .«segment_metres»; «interval_seconds» = o .«interval_seconds»; intervals = o .intervals
-      ; «node_count» = o .«node_count»; «segment_count» = c i; «join_count» = o .«join_count»
-      ; «train_count» = o .«train_count»; «call_count» = o .«call_count»; nodes = o .nodes; segments = r i; joins = o .joins
-      ; trains = o .trains; calls = o .calls }
+      ∙ ap (λ (y : Segment). padded maxSegments zeroSegment (held b .segments ++ one y)) e in
+      λ i. let o = w .same i in record {
+        «segment_metres» = o .«segment_metres»;
+        «interval_seconds» = o .«interval_seconds»;
+        intervals = o .intervals;
+        «node_count» = o .«node_count»;
+        «segment_count» = c i;
+        «join_count» = o .«join_count»;
+        «train_count» = o .«train_count»;
+        «call_count» = o .«call_count»;
+        nodes = o .nodes;
+        segments = r i;
+        joins = o .joins;
+        trains = o .trains;
+        calls = o .calls;
+      }
 
   pub put-join : (x : Join) → x ≡ joinIn p → b .«join_count» < maxJoins
-      → record
-      { «segment_metres» = b .«segment_metres»; «interval_seconds» = b .«interval_seconds»; intervals = b .intervals
-      ; «node_count» = b .«node_count»; «segment_count» = b .«segment_count»; «join_count» = b .«join_count» + 1
-      ; «train_count» = b .«train_count»; «call_count» = b .«call_count»; nodes = b .nodes; segments = b .segments
-      ; joins = set (b .joins) (b .«join_count») x; trains = b .trains; calls = b .calls }
+      → record {
+        «segment_metres» = b .«segment_metres»;
+        «interval_seconds» = b .«interval_seconds»;
+        intervals = b .intervals;
+        «node_count» = b .«node_count»;
+        «segment_count» = b .«segment_count»;
+        «join_count» = b .«join_count» + 1;
+        «train_count» = b .«train_count»;
+        «call_count» = b .«call_count»;
+        nodes = b .nodes;
+        segments = b .segments;
+        joins = set (b .joins) (b .«join_count») x;
+        trains = b .trains;
+        calls = b .calls;
+      }
       ≡ packed (add (held b) joinKind p)
   unfolding packed add
   put-join x e h =
       let c = count-row (joinIn p) (held b .joins) (sym (joins-counted w)) in
       let r = set-row zeroJoin x (held b .joins) (sym (joins-counted w)) (ap {B = List Join} (λ o. o .joins) (w .same)) h
-          ∙ ap (λ (y : Join). padded maxJoins zeroJoin (held b .joins ++ one y)) e in
-      λ i. let o = w .same i in record
-      { «segment_metres» = o .«segment_metres»; «interval_seconds» = o .«interval_seconds»; intervals = o .intervals
-      ; «node_count» = o .«node_count»; «segment_count» = o .«segment_count»; «join_count» = c i
-      ; «train_count» = o .«train_count»; «call_count» = o .«call_count»; nodes = o .nodes; segments = o .segments
-      ; joins = r i; trains = o .trains; calls = o .calls }
+      ∙ ap (λ (y : Join). padded maxJoins zeroJoin (held b .joins ++ one y)) e in
+      λ i. let o = w .same i in record {
+        «segment_metres» = o .«segment_metres»;
+        «interval_seconds» = o .«interval_seconds»;
+        intervals = o .intervals;
+        «node_count» = o .«node_count»;
+        «segment_count» = o .«segment_count»;
+        «join_count» = c i;
+        «train_count» = o .«train_count»;
+        «call_count» = o .«call_count»;
+        nodes = o .nodes;
+        segments = o .segments;
+        joins = r i;
+        trains = o .trains;
+        calls = o .calls;
+      }
 
   pub put-call : (x : Call) → x ≡ callIn p → b .«call_count» < maxTrains * maxCalls
-      → record
-      { «segment_metres» = b .«segment_metres»; «interval_seconds» = b .«interval_seconds»; intervals = b .intervals
-      ; «node_count» = b .«node_count»; «segment_count» = b .«segment_count»; «join_count» = b .«join_count»
-      ; «train_count» = b .«train_count»; «call_count» = b .«call_count» + 1; nodes = b .nodes; segments = b .segments
-      ; joins = b .joins; trains = b .trains; calls = set (b .calls) (b .«call_count») x }
+      → record {
+        «segment_metres» = b .«segment_metres»;
+        «interval_seconds» = b .«interval_seconds»;
+        intervals = b .intervals;
+        «node_count» = b .«node_count»;
+        «segment_count» = b .«segment_count»;
+        «join_count» = b .«join_count»;
+        «train_count» = b .«train_count»;
+        «call_count» = b .«call_count» + 1;
+        nodes = b .nodes;
+        segments = b .segments;
+        joins = b .joins;
+        trains = b .trains;
+        calls = set (b .calls) (b .«call_count») x;
+      }
       ≡ packed (add (held b) callKind p)
   unfolding packed add
   put-call x e h =
       let c = count-row (callIn p) (held b .calls) (sym (calls-counted w)) in
       let r = set-row zeroCall x (held b .calls) (sym (calls-counted w)) (ap {B = List Call} (λ o. o .calls) (w .same)) h
-          ∙ ap (λ (y : Call). padded (maxTrains * maxCalls) zeroCall (held b .calls ++ one y)) e in
-      λ i. let o = w .same i in record
-      { «segment_metres» = o .«segment_metres»; «interval_seconds» = o .«interval_seconds»; intervals = o .intervals
-      ; «node_count» = o .«node_count»; «segment_count» = o .«segment_count»; «join_count» = o .«join_count»
-      ; «train_count» = o .«train_count»; «call_count» = c i; nodes = o .nodes; segments = o .segments; joins = o .joins
-      ; trains = o .trains; calls = r i }
+      ∙ ap (λ (y : Call). padded (maxTrains * maxCalls) zeroCall (held b .calls ++ one y)) e in
+      λ i. let o = w .same i in record {
+        «segment_metres» = o .«segment_metres»;
+        «interval_seconds» = o .«interval_seconds»;
+        intervals = o .intervals;
+        «node_count» = o .«node_count»;
+        «segment_count» = o .«segment_count»;
+        «join_count» = o .«join_count»;
+        «train_count» = o .«train_count»;
+        «call_count» = c i;
+        nodes = o .nodes;
+        segments = o .segments;
+        joins = o .joins;
+        trains = o .trains;
+        calls = r i;
+      }
 
   pub put-train : (x : TrainStruct) → x ≡ packedTrain (trainIn p) → b .«train_count» < maxTrains
-      → record
-      { «segment_metres» = b .«segment_metres»; «interval_seconds» = b .«interval_seconds»; intervals = b .intervals
-      ; «node_count» = b .«node_count»; «segment_count» = b .«segment_count»; «join_count» = b .«join_count»
-      ; «train_count» = b .«train_count» + 1; «call_count» = b .«call_count»; nodes = b .nodes; segments = b .segments
-      ; joins = b .joins; trains = set (b .trains) (b .«train_count») x; calls = b .calls }
+      → record {
+        «segment_metres» = b .«segment_metres»;
+        «interval_seconds» = b .«interval_seconds»;
+        intervals = b .intervals;
+        «node_count» = b .«node_count»;
+        «segment_count» = b .«segment_count»;
+        «join_count» = b .«join_count»;
+        «train_count» = b .«train_count» + 1;
+        «call_count» = b .«call_count»;
+        nodes = b .nodes;
+        segments = b .segments;
+        joins = b .joins;
+        trains = set (b .trains) (b .«train_count») x;
+        calls = b .calls;
+      }
       ≡ packed (add (held b) trainKind p)
   unfolding packed add
   put-train x e h =
@@ -232,13 +345,23 @@ module _ (b : BookStruct) (w : Packed b) (p : Bytes) where
       let c = count-row (trainIn p) (held b .trains) n in
       let m = n ∙ sym (length-map (held b .trains) packedTrain) in
       let r = set-row zeroTrain x (map packedTrain (held b .trains)) m (ap {B = List TrainStruct} (λ o. o .trains) (w .same)) h
-          ∙ ap (λ (y : TrainStruct). padded maxTrains zeroTrain (map packedTrain (held b .trains) ++ one y)) e
-          ∙ ap (padded maxTrains zeroTrain) (sym (map-snoc packedTrain (held b .trains) (trainIn p))) in
-      λ i. let o = w .same i in record
-      { «segment_metres» = o .«segment_metres»; «interval_seconds» = o .«interval_seconds»; intervals = o .intervals
-      ; «node_count» = o .«node_count»; «segment_count» = o .«segment_count»; «join_count» = o .«join_count»
-      ; «train_count» = c i; «call_count» = o .«call_count»; nodes = o .nodes; segments = o .segments; joins = o .joins
-      ; trains = r i; calls = o .calls }
+      ∙ ap (λ (y : TrainStruct). padded maxTrains zeroTrain (map packedTrain (held b .trains) ++ one y)) e
+      ∙ ap (padded maxTrains zeroTrain) (sym (map-snoc packedTrain (held b .trains) (trainIn p))) in
+      λ i. let o = w .same i in record {
+        «segment_metres» = o .«segment_metres»;
+        «interval_seconds» = o .«interval_seconds»;
+        intervals = o .intervals;
+        «node_count» = o .«node_count»;
+        «segment_count» = o .«segment_count»;
+        «join_count» = o .«join_count»;
+        «train_count» = c i;
+        «call_count» = o .«call_count»;
+        nodes = o .nodes;
+        segments = o .segments;
+        joins = o .joins;
+        trains = r i;
+        calls = o .calls;
+      }
 
   -- an Unbreakable TTD adds nothing
   pub put-nothing : b ≡ packed (add (held b) unbreakableKind p)

@@ -38,13 +38,27 @@ pair-back n h = omega arith
 
 -- each payload is read as what it was written from, where the numbers fit their fields
 head-back : (b : Book) → b .segmentMetres < 65536 → b .intervalSeconds < 65536 → b .intervals < 256
-  → headOf noBook (headPayload b) ≡ record
-    { segmentMetres = b .segmentMetres; intervalSeconds = b .intervalSeconds; intervals = b .intervals
-    ; nodes = []; segments = []; joins = []; trains = []; calls = [] }
+    → headOf noBook (headPayload b) ≡ record {
+      segmentMetres = b .segmentMetres;
+      intervalSeconds = b .intervalSeconds;
+      intervals = b .intervals;
+      nodes = [];
+      segments = [];
+      joins = [];
+      trains = [];
+      calls = [];
+    }
 unfolding headOf noBook headPayload field number littleEndian timeWidth
-head-back b h k l = λ i. record
-  { segmentMetres = pair-back (b .segmentMetres) h i; intervalSeconds = pair-back (b .intervalSeconds) k i
-  ; intervals = byte-back (b .intervals) l i; nodes = []; segments = []; joins = []; trains = []; calls = [] }
+head-back b h k l = λ i. record {
+  segmentMetres = pair-back (b .segmentMetres) h i;
+  intervalSeconds = pair-back (b .intervalSeconds) k i;
+  intervals = byte-back (b .intervals) l i;
+  nodes = [];
+  segments = [];
+  joins = [];
+  trains = [];
+  calls = [];
+}
 
 segment-back : (s : Segment) → s .a < 256 → s .b < 256 → s .ttd < 256 → segmentIn (segmentPayload s) ≡ s
 unfolding segmentIn segmentPayload field number littleEndian
@@ -63,17 +77,23 @@ row-back (d ∷ ds) h =
     λ i. e i ∷ row-back ds (λ x m. h x (List·Memᴰ·tail m)) i
 
 train-back : (t : Train) → t .metres < 65536 → t .speed < 65536 → t .departure < 256 → ((d : ℕ) → List·Memᴰ d (t .place) → d < 256)
-  → trainIn (trainPayload t) ≡ t
+    → trainIn (trainPayload t) ≡ t
 unfolding trainIn trainPayload field number littleEndian timeWidth trainCountAt
-train-back t h k l m = λ i. record
-  { metres = pair-back (t .metres) h i; speed = pair-back (t .speed) k i; departure = byte-back (t .departure) l i
-  ; place = row-back (t .place) m i }
+train-back t h k l m = λ i. record {
+  metres = pair-back (t .metres) h i;
+  speed = pair-back (t .speed) k i;
+  departure = byte-back (t .departure) l i;
+  place = row-back (t .place) m i;
+}
 
 call-back : (c : Call) → c .train < 256 → c .segment < 256 → c .first < 256 → c .last < 256 → callIn (callPayload c) ≡ c
 unfolding callIn callPayload field number littleEndian timeWidth
-call-back c h k l m = λ i. record
-  { train = byte-back (c .train) h i; segment = byte-back (c .segment) k i; first = byte-back (c .first) l i
-  ; last = byte-back (c .last) m i }
+call-back c h k l m = λ i. record {
+  train = byte-back (c .train) h i;
+  segment = byte-back (c .segment) k i;
+  first = byte-back (c .first) l i;
+  last = byte-back (c .last) m i;
+}
 
 -- a row of bytes is as long as the row
 each-length : (ds : List ℕ) → length (each ds (littleEndian 1)) ≡ length ds
@@ -83,7 +103,7 @@ each-length (d ∷ ds) = ap suc (each-length ds)
 
 -- a train's payload is as long as its count says
 train-length : (t : Train) → length (t .place) < 256
-  → (length (trainPayload t) ≡ 6 + length (t .place)) × T (lengthFits trainKind (trainPayload t))
+    → (length (trainPayload t) ≡ 6 + length (t .place)) × T (lengthFits trainKind (trainPayload t))
 unfolding trainPayload field number littleEndian timeWidth trainCountAt lengthFits
 train-length t h =
     let e : length (each (t .place) (littleEndian 1)) ≡ length (t .place) = each-length (t .place) in
@@ -116,20 +136,31 @@ module _ (r : Reading) (k : Kind) (p rest : Bytes) (l : length p < 256 ^ 2) (o :
   unfolding frameFaults outOfOrder kindFaults all passes misplaced
   written-clear =
       let n = kind-back k in
-      rw (kindField-frame (kindNumber k) p rest (n .2) l, payloadOf-frame (kindNumber k) p rest (n .2) l
-        , behind-frame (kindNumber k) p rest (n .2) l, n .0)
+      rw (
+        kindField-frame (kindNumber k) p rest (n .2) l,
+        payloadOf-frame (kindNumber k) p rest (n .2) l,
+        behind-frame (kindNumber k) p rest (n .2) l,
+        n .0,
+      )
       (simp (and-iff, Bool·not-not) (whole-frame (kindNumber k) p rest (n .2) l, (n .1, (o, (f, c)))))
 
   -- and, unless it is the End, it is read and added
   reads-written : T (not (isEnd (kindNumber k)))
-    → readFrame r (frame (kindNumber k) p ++ rest) ≡ more (record { last = rank (kindNumber k); book = add (r .book) k p }) rest
+      → readFrame r (frame (kindNumber k) p ++ rest) ≡ more (record { last = rank (kindNumber k); book = add (r .book) k p }) rest
   unfolding readFrame frameReadAt pastFrame addFound
   reads-written e =
       let n = kind-back k in
       let q = kindField-frame (kindNumber k) p rest (n .2) l in
       let d : isEnd (kindField (frame (kindNumber k) p ++ rest)) ≡ false = rw q (denied-of (isEnd (kindNumber k)) e) in
-      rw (clear-first _ written-clear, d, frameReadAt, q, payloadOf-frame (kindNumber k) p rest (n .2) l
-        , behind-frame (kindNumber k) p rest (n .2) l, n .0)
+      rw (
+        clear-first _ written-clear,
+        d,
+        frameReadAt,
+        q,
+        payloadOf-frame (kindNumber k) p rest (n .2) l,
+        behind-frame (kindNumber k) p rest (n .2) l,
+        n .0,
+      )
 
 -- neither a Head nor the End
 unfoldable pub middle : Kind → Bool
@@ -146,7 +177,7 @@ not-right false b h = tt
 
 -- a frame but a Head is in its place behind one of no higher rank, if the End has nothing behind it
 placed : (last : ℕ) (k : Kind) (rest : Bytes) → T (not (isHead (kindNumber k))) → T (not (isEnd (kindNumber k) && not (empty rest)))
-  → last ≢ 0 → last ≤ rank (kindNumber k) → T (not (misplaced last k rest))
+    → last ≢ 0 → last ≤ rank (kindNumber k) → T (not (misplaced last k rest))
 unfolding misplaced
 placed last k rest m n h l =
     let z : T (not (eqb last 0)) = not-iff (eqb last 0) .1 (λ t. h (eqb→eq last 0 t)) in
@@ -173,8 +204,8 @@ module _ {A : Type 0} (k : Kind) (payload : A → Bytes) (book : List A → Book
 
   -- then the frames of a row are read as that row
   reads-row : {s : Bytes} (rest : Bytes) (before xs : List A) (most : ℕ) → T (middle k) → most ≤ rank (kindNumber k)
-    → ((y : List A) (x : A) (z : List A) → before ++ xs ≡ y ++ x ∷ z → Adds y x)
-    → Comes s most (book before) (framesOf k payload xs ++ rest) → Comes s (rank (kindNumber k)) (book (before ++ xs)) rest
+      → ((y : List A) (x : A) (z : List A) → before ++ xs ≡ y ++ x ∷ z → Adds y x)
+      → Comes s most (book before) (framesOf k payload xs ++ rest) → Comes s (rank (kindNumber k)) (book (before ++ xs)) rest
   unfolding framesOf each middle rank
   reads-row rest before [] most m l g c =
       let r : c .last ≤ rank (kindNumber k) = omega (arith, c .low) in
@@ -188,7 +219,7 @@ module _ {A : Type 0} (k : Kind) (payload : A → Bytes) (book : List A → Book
       let j = append-snoc before x xs in
       rw (← j)
       (reads-row rest (before ++ one x) xs (rank (kindNumber k)) m (omega arith) (λ y x′ z q. g y x′ z (sym j ∙ q))
-        (record { last = rank (kindNumber k); some = rank-not-zero (kindNumber k) kindOrder; low = omega arith; chain = rw (w .adds) at e }))
+      (record { last = rank (kindNumber k); some = rank-not-zero (kindNumber k) kindOrder; low = omega arith; chain = rw (w .adds) at e }))
 
 -- ---- the parts of a well-formed book
 
@@ -210,8 +241,8 @@ repeats-none js ys j zs e h =
 
 -- a train with at most four calls has fewer before each of them
 fewer-before : (cs ys : List Call) (c : Call) (zs : List Call) → cs ≡ ys ++ c ∷ zs
-  → length (pick (λ d. eqb (d .train) (c .train)) cs) ≤ 4
-  → T (not (leb 4 (length (pick (λ d. eqb (d .train) (c .train)) ys))))
+    → length (pick (λ d. eqb (d .train) (c .train)) cs) ≤ 4
+    → T (not (leb 4 (length (pick (λ d. eqb (d .train) (c .train)) ys))))
 unfolding pick only
 fewer-before cs ys c zs e h =
     let k = rw (e, pick-append (λ d. eqb (d .train) (c .train)) ys (c ∷ zs), length-append) at h in
@@ -220,37 +251,49 @@ fewer-before cs ys c zs e h =
 
 -- the book with its Head and these rows
 with-rows : Book → List ℕ → List Segment → List Join → List Train → List Call → Book
-with-rows b ns ss js ts cs = record
-  { segmentMetres = b .segmentMetres; intervalSeconds = b .intervalSeconds; intervals = b .intervals
-  ; nodes = ns; segments = ss; joins = js; trains = ts; calls = cs }
+with-rows b ns ss js ts cs = record {
+  segmentMetres = b .segmentMetres;
+  intervalSeconds = b .intervalSeconds;
+  intervals = b .intervals;
+  nodes = ns;
+  segments = ss;
+  joins = js;
+  trains = ts;
+  calls = cs;
+}
 
 module _ (b : Book) (w : Parts b) where
   -- each part of the book, in its frame, is without a fault and is added behind those before it
   node-adds : (ys : List ℕ) (x : ℕ) (zs : List ℕ) → b .nodes ≡ ys ++ x ∷ zs
-    → Adds nodeKind nodePayload (λ ns. with-rows b ns [] [] [] []) ys x
+      → Adds nodeKind nodePayload (λ ns. with-rows b ns [] [] [] []) ys x
   unfolding nodePayload littleEndian field number lengthFits contentFaults add all passes with-rows greatestNodeKind
   node-adds ys x zs e =
       let l = leb→le x 2 (all-part _ (b .nodes) ys x zs e (w .nodes)) in
       let q = byte-back x (omega arith) in
-      record
-      { short = omega arith; fits = tt; clear = rw q (simp and-iff (room 96 (b .nodes) ys x zs e (w .fewNodes), (le→nltb 2 x l, tt)))
-      ; adds = ap (λ n. with-rows b (ys ++ one n) [] [] [] []) q }
+      record {
+        short = omega arith;
+        fits = tt;
+        clear = rw q (simp and-iff (room 96 (b .nodes) ys x zs e (w .fewNodes), (le→nltb 2 x l, tt)));
+        adds = ap (λ n. with-rows b (ys ++ one n) [] [] [] []) q;
+      }
 
   segment-adds : (ys : List Segment) (x : Segment) (zs : List Segment) → b .segments ≡ ys ++ x ∷ zs
-    → Adds segmentKind segmentPayload (λ ss. with-rows b (b .nodes) ss [] [] []) ys x
+      → Adds segmentKind segmentPayload (λ ss. with-rows b (b .nodes) ss [] [] []) ys x
   unfolding segmentPayload littleEndian lengthFits contentFaults add all passes with-rows segmentFits
   segment-adds ys x zs e =
       let f = all-part _ (b .segments) ys x zs e (w .segments) in
       let p = simp (and-iff, ltb-iff, leb-iff) at f in
       let n = w .fewNodes in
       let q = segment-back x (omega arith) (omega arith) (omega arith) in
-      record
-      { short = omega arith; fits = tt
-      ; clear = rw q (simp (and-iff, Bool·not-not) (room 64 (b .segments) ys x zs e (w .fewSegments), (simp and-iff at f, tt)))
-      ; adds = ap (λ s. with-rows b (b .nodes) (ys ++ one s) [] [] []) q }
+      record {
+        short = omega arith;
+        fits = tt;
+        clear = rw q (simp (and-iff, Bool·not-not) (room 64 (b .segments) ys x zs e (w .fewSegments), (simp and-iff at f, tt)));
+        adds = ap (λ s. with-rows b (b .nodes) (ys ++ one s) [] [] []) q;
+      }
 
   join-adds : (ys : List Join) (x : Join) (zs : List Join) → b .joins ≡ ys ++ x ∷ zs
-    → Adds joinKind joinPayload (λ js. with-rows b (b .nodes) (b .segments) js [] []) ys x
+      → Adds joinKind joinPayload (λ js. with-rows b (b .nodes) (b .segments) js [] []) ys x
   unfolding joinPayload littleEndian lengthFits contentFaults add all passes with-rows joinFits segmentAt
   join-adds ys x zs e =
       let f = all-part _ (b .joins) ys x zs e (w .joins) in
@@ -258,15 +301,18 @@ module _ (b : Book) (w : Parts b) where
       let n = w .fewNodes in
       let m = w .fewSegments in
       let q = join-back x (omega arith) (omega arith) (omega arith) in
-      record
-      { short = omega arith; fits = tt
-      ; clear = rw q (simp (and-iff, neither-iff, Bool·not-not)
-          ( room 128 (b .joins) ys x zs e (w .fewJoins)
-          , ((simp and-iff at f, repeats-none (b .joins) ys x zs e (w .once)), tt) ))
-      ; adds = ap (λ j. with-rows b (b .nodes) (b .segments) (ys ++ one j) [] []) q }
+      record {
+        short = omega arith;
+        fits = tt;
+        clear = rw q (simp (and-iff, neither-iff, Bool·not-not) (
+          room 128 (b .joins) ys x zs e (w .fewJoins),
+          ((simp and-iff at f, repeats-none (b .joins) ys x zs e (w .once)), tt),
+        ));
+        adds = ap (λ j. with-rows b (b .nodes) (b .segments) (ys ++ one j) [] []) q;
+      }
 
   call-adds : (ys : List Call) (x : Call) (zs : List Call) → b .calls ≡ ys ++ x ∷ zs
-    → Adds callKind callPayload (λ cs. with-rows b (b .nodes) (b .segments) (b .joins) (b .trains) cs) ys x
+      → Adds callKind callPayload (λ cs. with-rows b (b .nodes) (b .segments) (b .joins) (b .trains) cs) ys x
   unfolding callPayload littleEndian lengthFits timeWidth contentFaults add all passes with-rows callFits callsOf headFits between
   call-adds ys x zs e =
       let f = all-part _ (b .calls) ys x zs e (w .calls) in
@@ -276,10 +322,12 @@ module _ (b : Book) (w : Parts b) where
       let n = w .fewTrains in
       let m = w .fewSegments in
       let q = call-back x (omega arith) (omega arith) (omega arith) (omega arith) in
-      record
-      { short = omega arith; fits = tt
-      ; clear = rw q (simp (and-iff, Bool·not-not) (fewer-before (b .calls) ys x zs e k, (simp and-iff at f, tt)))
-      ; adds = ap (λ c. with-rows b (b .nodes) (b .segments) (b .joins) (b .trains) (ys ++ one c)) q }
+      record {
+        short = omega arith;
+        fits = tt;
+        clear = rw q (simp (and-iff, Bool·not-not) (fewer-before (b .calls) ys x zs e k, (simp and-iff at f, tt)));
+        adds = ap (λ c. with-rows b (b .nodes) (b .segments) (b .joins) (b .trains) (ys ++ one c)) q;
+      }
 
   -- a path of the book, in the book without its trains
   linked-same : (ts : List Train) (ds : List ℕ) → linked (with-rows b (b .nodes) (b .segments) (b .joins) ts []) ds ≡ linked b ds
@@ -298,7 +346,7 @@ module _ (b : Book) (w : Parts b) where
 
   -- a train that fits the book fits it without its trains
   train-same : (ts : List Train) (x : Train) → T (trainFits b x) → T (reachFits b x) → T (placeFits b x)
-    → let c = with-rows b (b .nodes) (b .segments) (b .joins) ts [] in T (trainFits c x) × (T (reachFits c x) × (T (placeFits c x) × Unit {0}))
+      → let c = with-rows b (b .nodes) (b .segments) (b .joins) ts [] in T (trainFits c x) × (T (reachFits c x) × (T (placeFits c x) × Unit {0}))
   unfolding trainFits reachFits placeFits isPath lengthInSegments speedInSegments with-rows
   train-same ts x f g h = (f, (g, (rw (linked-same ts (x .place)) h, tt)))
 
@@ -314,8 +362,8 @@ module _ (b : Book) (w : Parts b) where
 
   -- so a train, in its frame, is added too
   train-adds : T (all (λ t. ltb (t .metres) 65536 && ltb (t .speed) 65536) (b .trains))
-    → (ys : List Train) (x : Train) (zs : List Train) → b .trains ≡ ys ++ x ∷ zs
-    → Adds trainKind trainPayload (λ ts. with-rows b (b .nodes) (b .segments) (b .joins) ts []) ys x
+      → (ys : List Train) (x : Train) (zs : List Train) → b .trains ≡ ys ++ x ∷ zs
+      → Adds trainKind trainPayload (λ ts. with-rows b (b .nodes) (b .segments) (b .joins) ts []) ys x
   unfolding contentFaults add all passes with-rows
   train-adds u ys x zs e =
       let f = simp and-iff at (all-part _ (b .trains) ys x zs e (w .trains)) in
@@ -323,10 +371,12 @@ module _ (b : Book) (w : Parts b) where
       let z = train-small x (f .0 .0 .0) (f .0 .0 .1) (f .0 .1) in
       let l = train-length x (z .1) in
       let q = train-back x (g .0) (g .1) (z .0) (place-bytes x (f .0 .0 .0)) in
-      record
-      { short = omega arith; fits = l .1
-      ; clear = rw q (simp (and-iff, Bool·not-not) (room 8 (b .trains) ys x zs e (w .fewTrains), train-same ys x (f .0 .0 .0) (f .0 .0 .1) (f .0 .1)))
-      ; adds = ap (λ t. with-rows b (b .nodes) (b .segments) (b .joins) (ys ++ one t) []) q }
+      record {
+        short = omega arith;
+        fits = l .1;
+        clear = rw q (simp (and-iff, Bool·not-not) (room 8 (b .trains) ys x zs e (w .fewTrains), train-same ys x (f .0 .0 .0) (f .0 .0 .1) (f .0 .1)));
+        adds = ap (λ t. with-rows b (b .nodes) (b .segments) (b .joins) (ys ++ one t) []) q;
+      }
 
   -- a TTD that some segment has fits a byte
   ttd-small : (u : ℕ) → T (someHas b u) → u < 256
@@ -339,13 +389,16 @@ module _ (b : Book) (w : Parts b) where
 
   -- the frame of an unbreakable TTD that never divides is without a fault, and adds nothing
   ttd-adds : (us : List ℕ) → T (all (λ u. someHas b u && not (mayDivide b u)) us)
-    → (ys : List ℕ) (x : ℕ) (zs : List ℕ) → us ≡ ys ++ x ∷ zs → Adds unbreakableKind unbreakablePayload (λ _. b) ys x
+      → (ys : List ℕ) (x : ℕ) (zs : List ℕ) → us ≡ ys ++ x ∷ zs → Adds unbreakableKind unbreakablePayload (λ _. b) ys x
   unfolding unbreakablePayload littleEndian field number lengthFits contentFaults add all passes
   ttd-adds us g ys x zs e =
       let p = simp and-iff at (all-part _ us ys x zs e g) in
-      record
-      { short = omega arith; fits = tt
-      ; clear = rw (byte-back x (ttd-small x (p .0))) (simp (and-iff, Bool·not-not) (p .0, (p .1, tt))); adds = refl }
+      record {
+        short = omega arith;
+        fits = tt;
+        clear = rw (byte-back x (ttd-small x (p .0))) (simp (and-iff, Bool·not-not) (p .0, (p .1, tt)));
+        adds = refl;
+      }
 
 -- ---- the whole file
 
@@ -360,22 +413,22 @@ book-clear : (b : Book) → Parts b → T (all passes (bookFaults b))
 unfolding bookFaults all passes between
 book-clear b w =
     let some = none-iff (λ i. empty (callsOf b i)) (upTo (length (b .trains))) .1
-          (all-weaken _ _ (upTo (length (b .trains))) (λ i h. has-one (callsOf b i) ((simp (and-iff, leb-iff) at h) .0)) (w .counts)) in
+    (all-weaken _ _ (upTo (length (b .trains))) (λ i h. has-one (callsOf b i) ((simp (and-iff, leb-iff) at h) .0)) (w .counts)) in
     let few = none-iff (λ t. ltb 256 (length (runsOf b t))) (b .trains) .1
-          (all-weaken _ _ (b .trains) (λ t h. le→nltb 256 (length (runsOf b t)) ((simp (and-iff, leb-iff) at h) .1)) (w .trains)) in
+    (all-weaken _ _ (b .trains) (λ t h. le→nltb 256 (length (runsOf b t)) ((simp (and-iff, leb-iff) at h) .1)) (w .trains)) in
     simp (and-iff, neither-iff) ((w .someTrain, some), (few, tt))
 
 -- the Head fits, as it is read
 head-clear : (b : Book) → T (headFits b) → headOf noBook (headPayload b) ≡ with-rows b [] [] [] [] []
-  → T (all passes (contentFaults noBook headKind (headPayload b)))
+    → T (all passes (contentFaults noBook headKind (headPayload b)))
 unfolding contentFaults all passes headFits with-rows
 head-clear b h q = rw q (simp (and-iff, Bool·not-not) (simp and-iff at h, tt))
 
 -- the Head frame is read
 head-read : (b : Book) → Parts b → FitsFields b → (rest : Bytes)
-  → readFrame readingStart (frame (kindNumber headKind) (headPayload b) ++ rest) ≡ more (record { last = 1; book = with-rows b [] [] [] [] [] }) rest
+    → readFrame readingStart (frame (kindNumber headKind) (headPayload b) ++ rest) ≡ more (record { last = 1; book = with-rows b [] [] [] [] [] }) rest
 unfolding readingStart misplaced isHead isEnd kindNumber rank rankIn kindOrder lengthFits with-rows headPayload littleEndian timeWidth headFits
-  add between
+    add between
 head-read b w f rest =
     let h = simp (and-iff, leb-iff) at (w .head) in
     let q = head-back b (f .metres) (f .seconds) (omega arith) in
@@ -393,20 +446,20 @@ end-read s b w c =
 -- A well-formed book whose numbers fit their fields is read back from its file, with a frame for each of some unbreakable TTDs
 -- that segments of the book have and that never divide.
 pub read-built : (b : Book) (ttds : List ℕ) → T (wellFormed b) → FitsFields b
-  → T (all (λ u. someHas b u && not (mayDivide b u)) ttds) → readBook (bookFile b ttds) ≡ accepted b
+    → T (all (λ u. someHas b u && not (mayDivide b u)) ttds) → readBook (bookFile b ttds) ≡ accepted b
 unfolding bookFile with-rows rank rankIn kindOrder kindNumber middle isHead isEnd
 read-built b ttds h f u =
     let w = parts b h in
     let c₀ : Comes (bookFile b ttds) 1 (with-rows b [] [] [] [] []) _ =
-          record { last = 1; some = omega arith; low = omega arith; chain = next start (head-read b w f _) } in
+    record { last = 1; some = omega arith; low = omega arith; chain = next start (head-read b w f _) } in
     let c₁ = reads-row nodeKind nodePayload (λ ns. with-rows b ns [] [] [] []) _ [] (b .nodes) 1 tt (lit≤ tt) (node-adds b w) c₀ in
     let c₂ = reads-row segmentKind segmentPayload (λ ss. with-rows b (b .nodes) ss [] [] []) _ [] (b .segments) 2 tt (lit≤ tt)
-          (segment-adds b w) c₁ in
+    (segment-adds b w) c₁ in
     let c₃ = reads-row joinKind joinPayload (λ js. with-rows b (b .nodes) (b .segments) js [] []) _ [] (b .joins) 3 tt (lit≤ tt)
-          (join-adds b w) c₂ in
+    (join-adds b w) c₂ in
     let c₄ = reads-row trainKind trainPayload (λ ts. with-rows b (b .nodes) (b .segments) (b .joins) ts []) _ [] (b .trains) 4 tt
-          (lit≤ tt) (train-adds b w (f .trains)) c₃ in
+    (lit≤ tt) (train-adds b w (f .trains)) c₃ in
     let c₅ = reads-row callKind callPayload (λ cs. with-rows b (b .nodes) (b .segments) (b .joins) (b .trains) cs) _ [] (b .calls) 5
-          tt (lit≤ tt) (call-adds b w) c₄ in
+    tt (lit≤ tt) (call-adds b w) c₄ in
     let c₆ = reads-row unbreakableKind unbreakablePayload (λ _. b) _ [] ttds 6 tt (lit≤ tt) (ttd-adds b w ttds u) c₅ in
     end-read (bookFile b ttds) b w c₆

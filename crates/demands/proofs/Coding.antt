@@ -31,11 +31,12 @@ pub record Agree (I : Instance) (p q : Plan) : Type 0 where
   pub moves : (i : ℕ) → i < I .trains → (t : ℕ) → t < I .intervals → p .move i t ≡ q .move i t
 
 pub codes-agree : {I : Instance} {α : ℕ → Bool} {p q : Plan} → Codes I α p → Agree I p q → Codes I α q
-codes-agree {I} {α} {p} {q} k e = record
-  { borders = λ n l. k .borders n l ∙ e .borders n l
-  ; moves = λ i l t h. subst (λ (m : Move). T (isMove I i m)) (e .moves i l t h) (k .moves i l t h)
-  ; runsSame = λ i l t h r b. k .runsSame i l t h r b ∙ ap (λ (m : Move). runs m (eqb r)) (e .moves i l t h)
-  ; goneSame = λ i l t h. k .goneSame i l t h ∙ ap isGone (e .moves i l t h) }
+codes-agree {I} {α} {p} {q} k e = record {
+  borders = λ n l. k .borders n l ∙ e .borders n l;
+  moves = λ i l t h. subst (λ (m : Move). T (isMove I i m)) (e .moves i l t h) (k .moves i l t h);
+  runsSame = λ i l t h r b. k .runsSame i l t h r b ∙ ap (λ (m : Move). runs m (eqb r)) (e .moves i l t h);
+  goneSame = λ i l t h. k .goneSame i l t h ∙ ap isGone (e .moves i l t h);
+}
 
 -- ---- the run that decoding finds
 
@@ -70,26 +71,29 @@ no-move : (I : Instance) (α : ℕ → Bool) → T (satisfies α (familyB I)) �
     → (m : ℕ) → m < I .runs i + 1 → T (α (runVar I i t m)) → ⊥
 unfolding runVar goneVar
 no-move I α hB i l t early m hm a =
-    elim (le-or-lt (I .runs i) m)
-    [ inl last ↦ (let e : I .runs i ≡ m = omega arith in meansB I α .0 hB i l t early .1 (rw e a))
-    | inr isRun ↦ meansB I α .0 hB i l t early .0 m isRun a ]
+    elim (le-or-lt (I .runs i) m) [
+      | inl last ↦ (let e : I .runs i ≡ m = omega arith in meansB I α .0 hB i l t early .1 (rw e a))
+      | inr isRun ↦ meansB I α .0 hB i l t early .0 m isRun a
+    ]
 
 -- from the departure on C rules out two
 single : (I : Instance) (α : ℕ → Bool) → T (satisfies α (familyB I)) → T (satisfies α (familyC I))
     → (i : ℕ) → i < I .trains → (t : ℕ) → t < I .intervals → Single I α i t
 unfolding Single
 single I α hB hC i l t h m n hm hn a b =
-    elim (le-or-lt (I .departure i) t)
-    [ inl late ↦ pairs (meansC I α .0 hC i l t late h .1)
-    | inr early ↦ absurd (no-move I α hB i l t early m hm a) ]
+    elim (le-or-lt (I .departure i) t) [
+      | inl late ↦ pairs (meansC I α .0 hC i l t late h .1)
+      | inr early ↦ absurd (no-move I α hB i l t early m hm a)
+    ]
   where
     pairs : ((m : ℕ) → m < I .runs i + 1 → (n : ℕ) → m + 1 ≤ n → n < I .runs i + 1 → T (α (runVar I i t m)) → T (α (runVar I i t n)) → ⊥)
         → m ≡ n
     pairs no-two =
-        elim (le-or-lt (m + 1) n)
-        [ inl before ↦ absurd (no-two m hm n before hn a b)
-        | inr after ↦ elim (le-or-lt (n + 1) m)
-            [ inl before ↦ absurd (no-two n hn m before hm b a) | inr equal ↦ omega arith ] ]
+        elim (le-or-lt (m + 1) n) [
+          | inl before ↦ absurd (no-two m hm n before hn a b)
+          | inr after ↦ elim (le-or-lt (n + 1) m)
+              [ inl before ↦ absurd (no-two n hn m before hm b a) | inr equal ↦ omega arith ]
+        ]
 
 -- ---- a valuation codes what it decodes to
 
@@ -104,12 +108,13 @@ module _ (I : Instance) (α : ℕ → Bool) (i t : ℕ) (one-move : Single I α 
   -- a run was found: it alone is true
   coded-run : (q : ℕ) → T (α (runVar I i t q)) → q < I .runs i → Coded (run q)
   unfolding Coded isMove runs isGone Single runVar goneVar
-  coded-run q a l =
-      ( ltb-iff q (I .runs i) .1 l
-      , (λ r k. bool-ext (α (runVar I i t r)) (eqb r q)
-          (λ b. eqb-iff r q .1 (one-move r q (omega arith) (omega arith) b a))
-          (λ e. rw (eqb-iff r q .0 e) a))
-      , false-of (α (goneVar I i t)) (λ b. let e = one-move q (I .runs i) (omega arith) (omega arith) a b in omega arith) )
+  coded-run q a l = (
+    ltb-iff q (I .runs i) .1 l,
+    (λ r k. bool-ext (α (runVar I i t r)) (eqb r q)
+        (λ b. eqb-iff r q .1 (one-move r q (omega arith) (omega arith) b a))
+        (λ e. rw (eqb-iff r q .0 e) a)),
+    false-of (α (goneVar I i t)) (λ b. let e = one-move q (I .runs i) (omega arith) (omega arith) a b in omega arith),
+  )
 
   -- none was found: gone decides
   coded-none : ((r : ℕ) → List·Memᴰ r (upTo (I .runs i)) → T (α (runVar I i t r)) → ⊥) → (g : Bool) → α (goneVar I i t) ≡ g
@@ -121,16 +126,18 @@ module _ (I : Instance) (α : ℕ → Bool) (i t : ℕ) (one-move : Single I α 
   coded : Coded theMove
   unfolding decoded Search chosen
   coded =
-      elim (searched (λ r. α (runVar I i t r)) (upTo (I .runs i)))
-      [ inl s ↦ (rw (s .1) (coded-run (s .0) (s .2) (upTo-mem (I .runs i) (s .0) .0 (s .3))))
-      | inr s ↦ (rw (s .0) (coded-none (s .1) (α (goneVar I i t)) refl)) ]
+      elim (searched (λ r. α (runVar I i t r)) (upTo (I .runs i))) [
+        | inl s ↦ (rw (s .1) (coded-run (s .0) (s .2) (upTo-mem (I .runs i) (s .0) .0 (s .3))))
+        | inr s ↦ (rw (s .0) (coded-none (s .1) (α (goneVar I i t)) refl))
+      ]
 
 -- a valuation that satisfies B and C codes the plan that it decodes to
 pub codes-decoded : (I : Instance) (α : ℕ → Bool) → T (satisfies α (familyB I)) → T (satisfies α (familyC I)) → Codes I α (decoded I α)
 unfolding Coded decoded
 codes-decoded I α hB hC =
-    record
-    { borders = λ n l. refl
-    ; moves = λ i l t h. coded I α i t (single I α hB hC i l t h) .0
-    ; runsSame = λ i l t h. coded I α i t (single I α hB hC i l t h) .1
-    ; goneSame = λ i l t h. coded I α i t (single I α hB hC i l t h) .2 }
+    record {
+      borders = λ n l. refl;
+      moves = λ i l t h. coded I α i t (single I α hB hC i l t h) .0;
+      runsSame = λ i l t h. coded I α i t (single I α hB hC i l t h) .1;
+      goneSame = λ i l t h. coded I α i t (single I α hB hC i l t h) .2;
+    }

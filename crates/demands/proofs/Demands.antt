@@ -32,10 +32,13 @@ use Rattle.demands.proofs.Files.{file-iff}
 -- exactly they are written at the output's start, the rest stays, and the totals are the formula's.
 pub formula-written : (book : Bytes) (b : Book) (old : List ℤ) → readBook book ≡ accepted b
     → length (wordsOf (formula (instanceOf b))) ≤ length old
-    → (writeFormula book (length old) ≡ accepted (record
-        { variableCount = variables (instanceOf b); clauseCount = length (formula (instanceOf b))
-        ; wordCount = length (wordsOf (formula (instanceOf b))); words = wordsOf (formula (instanceOf b)) }))
-      × (formulaOutput book old ≡ wordsOf (formula (instanceOf b)) ++ drop (length (wordsOf (formula (instanceOf b)))) old)
+    → (writeFormula book (length old) ≡ accepted (record {
+      variableCount = variables (instanceOf b);
+      clauseCount = length (formula (instanceOf b));
+      wordCount = length (wordsOf (formula (instanceOf b)));
+      words = wordsOf (formula (instanceOf b));
+    }))
+    × (formulaOutput book old ≡ wordsOf (formula (instanceOf b)) ++ drop (length (wordsOf (formula (instanceOf b)))) old)
 unfolding formulaOutput overwrite formulaWritten written andThen
 formula-written book b old read room =
     let w = wordsOf (formula (instanceOf b)) in
@@ -49,16 +52,19 @@ pub satisfying-assignment-accepted : (book assignment : Bytes) (b : Book) (planS
     → planLength (instanceOf b) ≤ planSlice → variables (instanceOf b) ≤ assignmentSlice
     → T (assignmentFits (instanceOf b) assignment) → T (satisfies (assigned assignment) (formula (instanceOf b)))
     → (plan : Bytes) × (checkAssignment book assignment planSlice ≡ accepted plan)
-      × T (keepsRules (instanceOf b) (planOf (instanceOf b) plan))
-      × ((back : Bytes) × (checkPlan book plan assignmentSlice ≡ accepted back))
+    × T (keepsRules (instanceOf b) (planOf (instanceOf b) plan))
+    × ((back : Bytes) × (checkPlan book plan assignmentSlice ≡ accepted back))
 satisfying-assignment-accepted book s b n m read room roomBack fits sat =
     let I = instanceOf b in
-    let keeps = decoded-keeps book b read s sat in
-    ( decode I s
-    , check-assignment book b read s n (decode I s) .1 (room, assignment-iff I s .1 (fits, sat), refl)
-    , keeps
-    , ( encode I (planOf I (decode I s))
-      , check-plan book b read (decode I s) m _ .1 (roomBack, plan-iff I (decode I s) .1 (decoded-fits book b read s sat, keeps), refl) ) )
+    let keeps = decoded-keeps book b read s sat in (
+      decode I s,
+      check-assignment book b read s n (decode I s) .1 (room, assignment-iff I s .1 (fits, sat), refl),
+      keeps,
+      (
+        encode I (planOf I (decode I s)),
+        check-plan book b read (decode I s) m _ .1 (roomBack, plan-iff I (decode I s) .1 (decoded-fits book b read s sat, keeps), refl),
+      ),
+    )
 
 -- "Every plan that keeps them is accepted, and is written as an assignment that decodes to that same plan": the assignment
 -- satisfies the formula, is accepted, and decodes to the plan's very bytes.
@@ -67,48 +73,54 @@ pub keeping-plan-accepted : (book plan : Bytes) (b : Book) (planSlice assignment
     → planLength (instanceOf b) ≤ planSlice → variables (instanceOf b) ≤ assignmentSlice
     → T (bytes plan) → T (planFits (instanceOf b) plan) → T (keepsRules (instanceOf b) (planOf (instanceOf b) plan))
     → (assignment : Bytes) × (checkPlan book plan assignmentSlice ≡ accepted assignment)
-      × T (satisfies (assigned assignment) (formula (instanceOf b)))
-      × (checkAssignment book assignment planSlice ≡ accepted plan)
+    × T (satisfies (assigned assignment) (formula (instanceOf b)))
+    × (checkAssignment book assignment planSlice ≡ accepted plan)
 keeping-plan-accepted book plan b n m read room roomBack isBytes fits keeps =
     let I = instanceOf b in
     let p = planOf I plan in
-    let sat = plan-satisfies book b read p (shape I plan isBytes fits .2) keeps (no-condition I p) in
-    ( encode I p
-    , check-plan book b read plan m _ .1 (roomBack, plan-iff I plan .1 (fits, keeps), refl)
-    , sat
-    , check-assignment book b read (encode I p) n plan .1
-        (room, assignment-iff I (encode I p) .1 (plan-fits book b read p, sat), decode-encoded book b read plan isBytes fits keeps (no-condition I p)) )
+    let sat = plan-satisfies book b read p (shape I plan isBytes fits .2) keeps (no-condition I p) in (
+      encode I p,
+      check-plan book b read plan m _ .1 (roomBack, plan-iff I plan .1 (fits, keeps), refl),
+      sat,
+      check-assignment book b read (encode I p) n plan .1
+          (room, assignment-iff I (encode I p) .1 (plan-fits book b read p, sat), decode-encoded book b read plan isBytes fits keeps (no-condition I p)),
+    )
 
 -- ---- Demand 3
 
 -- "an accepted assignment decodes to a plan that keeps the rules": to the plan that the assignment's own variables say (`Codes`)
 pub accepted-assignment-is-plan : (book assignment plan : Bytes) (planSlice : ℕ) → checkAssignment book assignment planSlice ≡ accepted plan
     → (b : Book) × (readBook book ≡ accepted b) × T (planFits (instanceOf b) plan)
-      × Codes (instanceOf b) (assigned assignment) (planOf (instanceOf b) plan) × T (keepsRules (instanceOf b) (planOf (instanceOf b) plan))
+    × Codes (instanceOf b) (assigned assignment) (planOf (instanceOf b) plan) × T (keepsRules (instanceOf b) (planOf (instanceOf b) plan))
 unfolding checkAssignment
 accepted-assignment-is-plan book s plan n e =
     let r = read-of book _ plan e in
     let b = r .0 in
     let I = instanceOf b in
     let k = check-assignment book b (r .1) s n plan .0 e in
-    let sat = assignment-iff I s .0 (k .1) .1 in
-    ( b, r .1
-    , subst (λ (x : Bytes). T (planFits I x)) (k .2) (decoded-fits book b (r .1) s sat)
-    , subst (λ (x : Bytes). Codes I (assigned s) (planOf I x)) (k .2) (decoded-coded book b (r .1) s sat)
-    , subst (λ (x : Bytes). T (keepsRules I (planOf I x))) (k .2) (decoded-keeps book b (r .1) s sat) )
+    let sat = assignment-iff I s .0 (k .1) .1 in (
+      b,
+      r .1,
+      subst (λ (x : Bytes). T (planFits I x)) (k .2) (decoded-fits book b (r .1) s sat),
+      subst (λ (x : Bytes). Codes I (assigned s) (planOf I x)) (k .2) (decoded-coded book b (r .1) s sat),
+      subst (λ (x : Bytes). T (keepsRules I (planOf I x))) (k .2) (decoded-keeps book b (r .1) s sat),
+    )
 
 -- "an accepted refutation means that every plan for that book breaks one, over every allowed set of borders and every
 -- movement": one claim about the whole file, for every list of steps in it.
 pub accepted-refutation-no-plan : (book refutation : Bytes) (lent : Lent) → checkRefutation book refutation lent ≡ accepted tt
     → (b : Book) × (readBook book ≡ accepted b)
-      × ((p : Plan) → IsPlan (instanceOf b) p → (rule : ℕ) × (brokenRule (instanceOf b) p ≡ some rule))
+    × ((p : Plan) → IsPlan (instanceOf b) p → (rule : ℕ) × (brokenRule (instanceOf b) p ≡ some rule))
 unfolding checkRefutation
 accepted-refutation-no-plan book r lent e =
     let k = read-of book _ tt e in
     let I = instanceOf (k .0) in
-    let file = check-refutation book (k .0) (k .1) r lent .0 e .1 in
-    (k .0, k .1, λ p moves. breaks I p (λ keeps.
-        refuted lent (variables I) (formula I) r file _ (plan-satisfies book (k .0) (k .1) p moves keeps (no-condition I p))))
+    let file = check-refutation book (k .0) (k .1) r lent .0 e .1 in (
+      k .0,
+      k .1,
+      λ p moves. breaks I p (λ keeps.
+          refuted lent (variables I) (formula I) r file _ (plan-satisfies book (k .0) (k .1) p moves keeps (no-condition I p))),
+    )
   where
     breaks : (I : Instance) (p : Plan) → (T (keepsRules I p) → ⊥) → (rule : ℕ) × (brokenRule I p ≡ some rule)
     breaks I p h = go (brokenRule I p) refl
@@ -130,11 +142,12 @@ never-both book s plan r n lent e f =
 -- "an assignment is accepted exactly when it satisfies that document's formula"
 pub assignment-exact : (book assignment : Bytes) (b : Book) (planSlice : ℕ) → readBook book ≡ accepted b → planLength (instanceOf b) ≤ planSlice
     → ((plan : Bytes) × (checkAssignment book assignment planSlice ≡ accepted plan))
-      ↔ (T (assignmentFits (instanceOf b) assignment) × T (satisfies (assigned assignment) (formula (instanceOf b))))
+    ↔ (T (assignmentFits (instanceOf b) assignment) × T (satisfies (assigned assignment) (formula (instanceOf b))))
 assignment-exact book s b n read room =
-    let I = instanceOf b in
-    ( (λ e. assignment-iff I s .0 (check-assignment book b read s n (e .0) .0 (e .1) .1))
-    , (λ h. (decode I s, check-assignment book b read s n (decode I s) .1 (room, assignment-iff I s .1 h, refl))) )
+    let I = instanceOf b in (
+      (λ e. assignment-iff I s .0 (check-assignment book b read s n (e .0) .0 (e .1) .1)),
+      (λ h. (decode I s, check-assignment book b read s n (decode I s) .1 (room, assignment-iff I s .1 h, refl))),
+    )
 
 -- The file is document 01's frames of a list of steps, literals and hints as laid down there; each step follows the step rule;
 -- and exactly one step, the last, is the empty clause.
@@ -156,7 +169,8 @@ pub refutation-exact : (book refutation : Bytes) (b : Book) (lent : Lent) → re
 unfolding IsRefutation LongEnough
 refutation-exact book r b lent read isBytes long =
     let I = instanceOf b in
-    let exact = file-iff lent (variables I) (formula I) r isBytes in
-    ( (λ e. let k = exact .0 (check-refutation book b read r lent .0 e .1) in (k .0, (k .1, k .2, k .3)))
-    , (λ h. check-refutation book b read r lent .1
-        (long .0, exact .1 (h .0, h .1 .0, h .1 .1, h .1 .2, long .1 (h .0) (h .1 .0) (h .1 .1)))) )
+    let exact = file-iff lent (variables I) (formula I) r isBytes in (
+      (λ e. let k = exact .0 (check-refutation book b read r lent .0 e .1) in (k .0, (k .1, k .2, k .3))),
+      (λ h. check-refutation book b read r lent .1
+          (long .0, exact .1 (h .0, h .1 .0, h .1 .1, h .1 .2, long .1 (h .0) (h .1 .0) (h .1 .1)))),
+    )

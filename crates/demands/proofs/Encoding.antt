@@ -69,8 +69,8 @@ module _ (I : Instance) (p : Plan) where
   length-encode extra =
       length-append (map (λ n. bit (p .border n)) (upTo (I .nodes))) _
       ∙ ap₂ _+_ length-borders
-          (length-append (each (upTo (I .trains)) λ i. each (upTo (I .intervals)) (row i)) (extraValues I p)
-          ∙ ap₂ _+_ (length-each (λ i. each (upTo (I .intervals)) (row i)) (λ i. I .intervals * width I i) length-rows (I .trains)) extra)
+      (length-append (each (upTo (I .trains)) λ i. each (upTo (I .intervals)) (row i)) (extraValues I p)
+      ∙ ap₂ _+_ (length-each (λ i. each (upTo (I .intervals)) (row i)) (λ i. I .intervals * width I i) length-rows (I .trains)) extra)
       ∙ sym (add-assoc (I .nodes) _ (extraVariables I))
 
   -- each of them 0 or 1
@@ -106,8 +106,8 @@ module _ (I : Instance) (p : Plan) where
   assigned-run i l t h r k =
       assigned-row i l t h r (omega arith)
       ∙ ap (λ (x : ℕ). eqb x 1)
-          (List·getD-append (map (λ r. bit (runs (p .move i t) (eqb r))) (upTo (I .runs i))) _ 0 r (rw (length-moves i t) k)
-          ∙ map-at (λ r. bit (runs (p .move i t) (eqb r))) (I .runs i) r 0 k)
+      (List·getD-append (map (λ r. bit (runs (p .move i t) (eqb r))) (upTo (I .runs i))) _ 0 r (rw (length-moves i t) k)
+      ∙ map-at (λ r. bit (runs (p .move i t) (eqb r))) (I .runs i) r 0 k)
       ∙ bit-one (runs (p .move i t) (eqb r))
 
   -- behind the runs
@@ -138,14 +138,14 @@ module _ (I : Instance) (p : Plan) where
   unfolding assigned borderVar encode
   assigned-border n h =
       ap (λ (x : ℕ). eqb x 1)
-          (List·getD-append (map (λ n. bit (p .border n)) (upTo (I .nodes))) _ 0 n (rw length-borders h)
-          ∙ map-at (λ n. bit (p .border n)) (I .nodes) n 0 h)
+      (List·getD-append (map (λ n. bit (p .border n)) (upTo (I .nodes))) _ 0 n (rw length-borders h)
+      ∙ map-at (λ n. bit (p .border n)) (I .nodes) n 0 h)
       ∙ bit-one (p .border n)
 
   -- a plan's assignment codes it
   pub codes-encoded : ((i : ℕ) → i < I .trains → (t : ℕ) → t < I .intervals → T (isMove I i (p .move i t))) → Codes I (assigned (encode I p)) p
   codes-encoded moves = record
-    { borders = assigned-border; moves = moves; runsSame = assigned-run; goneSame = assigned-gone }
+      { borders = assigned-border; moves = moves; runsSame = assigned-run; goneSame = assigned-gone }
 
 -- ---- a plan's bytes
 
@@ -177,8 +177,8 @@ unfolding moveOf moveCode
 code-move n = decide (eqb n absentCode)
     (λ a. rw (true-of (eqb n absentCode) a, moveOf) (sym (eqb-iff n absentCode .0 a)))
     (λ a. decide (eqb n goneCode)
-        (λ g. rw (denied-of (eqb n absentCode) a, moveOf) (rw (true-of (eqb n goneCode) g, moveOf) (sym (eqb-iff n goneCode .0 g))))
-        (λ g. rw (denied-of (eqb n absentCode) a, moveOf) (rw (denied-of (eqb n goneCode) g, moveOf) refl)))
+    (λ g. rw (denied-of (eqb n absentCode) a, moveOf) (rw (true-of (eqb n goneCode) g, moveOf) (sym (eqb-iff n goneCode .0 g))))
+    (λ g. rw (denied-of (eqb n absentCode) a, moveOf) (rw (denied-of (eqb n goneCode) g, moveOf) refl)))
 
 module _ (I : Instance) (p : Plan) where
   -- the two bytes of a train's interval
@@ -196,8 +196,8 @@ module _ (I : Instance) (p : Plan) where
   length-plan =
       length-append (map (λ n. bit (p .border n)) (upTo (I .nodes))) _
       ∙ ap₂ _+_ (length-borders I p)
-          (length-each (λ i. each (upTo (I .intervals)) (cell i)) (λ _. I .intervals * 2) length-cells (I .trains)
-          ∙ sum-constant (I .intervals * 2) (I .trains))
+      (length-each (λ i. each (upTo (I .intervals)) (cell i)) (λ _. I .intervals * 2) length-cells (I .trains)
+      ∙ sum-constant (I .intervals * 2) (I .trains))
 
   -- where they stand
   part-cell : (i : ℕ) → i < I .trains → (t : ℕ) → t < I .intervals → Part (planBytes I p) (moveAt I i t) (cell i t)
@@ -215,9 +215,9 @@ module _ (I : Instance) (p : Plan) where
     move-read i l t h =
         let m = p .move i t in
         sym (ap moveOf
-            (ap (field (planBytes I p) (moveAt I i t)) (sym (length-littleEndian 2 (moveCode m)))
-            ∙ part-field (part-cell i l t h)
-            ∙ number-littleEndian 2 (moveCode m) (code-fits I i (few i l) m (moves i l t h)))
+        (ap (field (planBytes I p) (moveAt I i t)) (sym (length-littleEndian 2 (moveCode m)))
+        ∙ part-field (part-cell i l t h)
+        ∙ number-littleEndian 2 (moveCode m) (code-fits I i (few i l) m (moves i l t h)))
         ∙ move-code I i (few i l) m (moves i l t h))
 
     border-byte : (n : ℕ) → n < I .nodes → getD (planBytes I p) n 0 ≡ bit (p .border n)
@@ -229,18 +229,22 @@ module _ (I : Instance) (p : Plan) where
     -- the bytes stand for the plan
     pub agree-read : Agree I p (planOf I (planBytes I p))
     unfolding planOf
-    agree-read = record
-      { borders = λ n h. sym (ap (λ (x : ℕ). eqb x 1) (border-byte n h) ∙ bit-one (p .border n))
-      ; moves = move-read }
+    agree-read = record {
+      borders = λ n h. sym (ap (λ (x : ℕ). eqb x 1) (border-byte n h) ∙ bit-one (p .border n));
+      moves = move-read;
+    }
 
     -- and are well formed
     pub fits-read : T (planFits I (planBytes I p))
     unfolding planFits
     fits-read =
-        simp meaning
-        ( ( length-plan
-          , λ n h. subst (λ (x : ℕ). T (isBit x)) (sym (border-byte n h)) (is-bit (p .border n)) )
-        , λ i l t h. subst (λ (m : Move). T (isMove I i m)) (move-read i l t h) (moves i l t h) )
+        simp meaning (
+          (
+            length-plan,
+            λ n h. subst (λ (x : ℕ). T (isBit x)) (sym (border-byte n h)) (is-bit (p .border n)),
+          ),
+          λ i l t h. subst (λ (m : Move). T (isMove I i m)) (move-read i l t h) (moves i l t h),
+        )
 
 -- ---- bytes that are well formed are the bytes of the plan that they stand for
 
@@ -251,7 +255,7 @@ bit-back x k =
     let le = leb-iff x 1 .0 k in
     decide (eqb x 1) (λ e. rw (eqb-iff x 1 .0 e) refl)
     (λ n. let not-one : x ≢ 1 = λ e. T-not (eqb x 1) n (eqb-iff x 1 .1 e) in
-        let z : x ≡ 0 = omega arith in rw z refl)
+    let z : x ≡ 0 = omega arith in rw z refl)
 
 module _ (I : Instance) (s : Bytes) (isBytes : T (bytes s)) (fits : T (planFits I s)) where
   -- what well formed means
@@ -275,32 +279,35 @@ module _ (I : Instance) (s : Bytes) (isBytes : T (bytes s)) (fits : T (planFits 
       ap (littleEndian 2) (code-move (field s (moveAt I i t) 2))
       ∙ ap (λ (n : ℕ). littleEndian 2 (field s n 2)) (sym (add-assoc (I .nodes) (i * (I .intervals * 2)) (t * 2)))
       ∙ littleEndian-field s _ 2 isBytes
-          (omega (arith, shape .0, digits-lt {r = t * 2 + 1} {c = I .intervals * 2} l (omega arith)))
+      (omega (arith, shape .0, digits-lt {r = t * 2 + 1} {c = I .intervals * 2} l (omega arith)))
 
   pub bytes-back : planBytes I (planOf I s) ≡ s
   unfolding planBytes cell planLength
   bytes-back =
       ap₂ _++_
-          (map-same (λ n. bit (planOf I s .border n)) (λ n. getD s n 0) (I .nodes) border-back ∙ singles s 0 (I .nodes) (omega (arith, shape .0)))
-          (each-same _ _ (I .trains) (λ i l.
-              each-same _ _ (I .intervals) (λ t h. cell-back i t l h) ∙ chunks s (I .nodes + i * (I .intervals * 2)) 2 (I .intervals))
-          ∙ chunks s (I .nodes) (I .intervals * 2) (I .trains)
-          ∙ take-all (I .trains * (I .intervals * 2)) (drop (I .nodes) s) (omega (arith, shape .0, length-drop (I .nodes) s)))
+      (map-same (λ n. bit (planOf I s .border n)) (λ n. getD s n 0) (I .nodes) border-back ∙ singles s 0 (I .nodes) (omega (arith, shape .0)))
+      (each-same _ _ (I .trains) (λ i l.
+      each-same _ _ (I .intervals) (λ t h. cell-back i t l h) ∙ chunks s (I .nodes + i * (I .intervals * 2)) 2 (I .intervals))
+      ∙ chunks s (I .nodes) (I .intervals * 2) (I .trains)
+      ∙ take-all (I .trains * (I .intervals * 2)) (drop (I .nodes) s) (omega (arith, shape .0, length-drop (I .nodes) s)))
       ∙ take-append-drop (I .nodes) s
 
 -- ---- two plans that one valuation codes are the same
 
 pub codes-same : (I : Instance) (α : ℕ → Bool) (p q : Plan) → Codes I α p → Codes I α q → Agree I p q
-codes-same I α p q a b = record
-  { borders = λ n h. sym (a .borders n h) ∙ b .borders n h
-  ; moves = λ i l t h.
-      elim (which (p .move i t))
-      [ aRun r e ↦ (let k = true-run I α p a i l t h r e in e ∙ sym (run-true I α q b i l t h r (k .0) (k .1)))
-      | hasLeft e ↦ e ∙ sym (gone-true I α q b i l t h (true-gone I α p a i l t h e))
-      | isAway e ↦ elim (which (q .move i t))
-          [ aRun r f ↦ (let k = true-run I α q b i l t h r f in run≢absent (run-true I α p a i l t h r (k .0) (k .1)) e)
+codes-same I α p q a b = record {
+  borders = λ n h. sym (a .borders n h) ∙ b .borders n h;
+  moves = λ i l t h.
+      elim (which (p .move i t)) [
+        | aRun r e ↦ (let k = true-run I α p a i l t h r e in e ∙ sym (run-true I α q b i l t h r (k .0) (k .1)))
+        | hasLeft e ↦ e ∙ sym (gone-true I α q b i l t h (true-gone I α p a i l t h e))
+        | isAway e ↦ elim (which (q .move i t)) [
+          | aRun r f ↦ (let k = true-run I α q b i l t h r f in run≢absent (run-true I α p a i l t h r (k .0) (k .1)) e)
           | hasLeft f ↦ absent≢gone e (gone-true I α p a i l t h (true-gone I α q b i l t h f))
-          | isAway f ↦ e ∙ sym f ] ] }
+          | isAway f ↦ e ∙ sym f
+        ]
+      ];
+}
 
 -- plans that are the same have the same bytes
 pub same-bytes : (I : Instance) (p q : Plan) → Agree I p q → planBytes I p ≡ planBytes I q

@@ -58,19 +58,24 @@ pub no-false : (α : ℕ → Bool) (n : ℕ) (cs : List Clause) → (firstFalse 
 unfolding firstFalse satisfies all
 no-false α n [] = (λ _. tt, λ _. refl)
 no-false α n (c ∷ cs) = decide (holds α c)
-    (λ h. ( (λ e. and-iff (holds α c) _ .1 (h, no-false α (suc n) cs .0 (rw (true-of (holds α c) h, firstFalse) at e)))
-          , (λ s. rw (true-of (holds α c) h, firstFalse) (no-false α (suc n) cs .1 (and-iff (holds α c) _ .0 s .1)))))
-    (λ h. ( (λ e. let k = rw (denied-of (holds α c) h, firstFalse) at e in let z : _≡_ {A = ℕ} 0 1 = cc in let no′ : ⊥ = omega arith in absurd no′)
-          , (λ s. absurd (lib.Dec.T-not (holds α c) h (and-iff (holds α c) _ .0 s .0)))))
+    (λ h. (
+      (λ e. and-iff (holds α c) _ .1 (h, no-false α (suc n) cs .0 (rw (true-of (holds α c) h, firstFalse) at e))),
+      (λ s. rw (true-of (holds α c) h, firstFalse) (no-false α (suc n) cs .1 (and-iff (holds α c) _ .0 s .1))),
+    ))
+    (λ h. (
+      (λ e. let k = rw (denied-of (holds α c) h, firstFalse) at e in let z : _≡_ {A = ℕ} 0 1 = cc in let no′ : ⊥ = omega arith in absurd no′),
+      (λ s. absurd (lib.Dec.T-not (holds α c) h (and-iff (holds α c) _ .0 s .0))),
+    ))
 
 -- an assignment is accepted exactly where its bytes fit and it satisfies the formula
 pub assignment-iff : (I : Instance) (s : Bytes)
     → (judgeAssignment I s ≡ accepted tt) ↔ (T (assignmentFits I s) × T (satisfies (assigned s) (formula I)))
 unfolding judgeAssignment
-assignment-iff I s =
-    ( (λ e. let k = then-accepted (demand (assignmentFits I s) 13) _ tt e in
-        (demand-iff (assignmentFits I s) 13 .0 (k .1), no-false (assigned s) 1 (formula I) .0 (find-iff _ 14 .0 (k .2))))
-    , (λ h. then-goes _ (demand-iff (assignmentFits I s) 13 .1 (h .0)) ∙ find-iff _ 14 .1 (no-false (assigned s) 1 (formula I) .1 (h .1))))
+assignment-iff I s = (
+  (λ e. let k = then-accepted (demand (assignmentFits I s) 13) _ tt e in
+      (demand-iff (assignmentFits I s) 13 .0 (k .1), no-false (assigned s) 1 (formula I) .0 (find-iff _ 14 .0 (k .2)))),
+  (λ h. then-goes _ (demand-iff (assignmentFits I s) 13 .1 (h .0)) ∙ find-iff _ 14 .1 (no-false (assigned s) 1 (formula I) .1 (h .1))),
+)
 
 -- no rule is broken exactly where all six hold
 pub no-broken : (I : Instance) (p : Plan) → (brokenRule I p ≡ none) ↔ T (keepsRules I p)
@@ -80,22 +85,24 @@ no-broken I p = (first-none (ruleFaults I p), clear-first (ruleFaults I p))
 -- a plan is accepted exactly where its bytes fit and it keeps the rules
 pub plan-iff : (I : Instance) (s : Bytes) → (judgePlan I s ≡ accepted tt) ↔ (T (planFits I s) × T (keepsRules I (planOf I s)))
 unfolding judgePlan
-plan-iff I s =
-    ( (λ e. let k = then-accepted (demand (planFits I s) 15) _ tt e in
-        (demand-iff (planFits I s) 15 .0 (k .1), no-broken I (planOf I s) .0 (find-iff _ 16 .0 (k .2))))
-    , (λ h. then-goes _ (demand-iff (planFits I s) 15 .1 (h .0)) ∙ find-iff _ 16 .1 (no-broken I (planOf I s) .1 (h .1))))
+plan-iff I s = (
+  (λ e. let k = then-accepted (demand (planFits I s) 15) _ tt e in
+      (demand-iff (planFits I s) 15 .0 (k .1), no-broken I (planOf I s) .0 (find-iff _ 16 .0 (k .2)))),
+  (λ h. then-goes _ (demand-iff (planFits I s) 15 .1 (h .0)) ∙ find-iff _ 16 .1 (no-broken I (planOf I s) .1 (h .1))),
+)
 
 -- ---- the entry points
 
 -- room, a judgement, and what is then written
 row-iff : {A : Type 0} (room : Bool) (judged : Verdict (Unit {0})) (out x : A)
     → (andThen (demand room 12) (λ _. andThen judged (λ _. accepted out)) ≡ accepted x) ↔ (T room × (judged ≡ accepted tt) × (out ≡ x))
-row-iff {A} room judged out x =
-    ( (λ e. let k = then-accepted (demand room 12) _ x e in
-        let j = then-accepted judged _ x (k .2) in
-        let same : out ≡ x = cc in
-        (demand-iff room 12 .0 (k .1), j .1, same))
-    , (λ h. then-goes _ (demand-iff room 12 .1 (h .0)) ∙ then-goes _ (h .1) ∙ ap {B = Verdict A} accepted (h .2)) )
+row-iff {A} room judged out x = (
+  (λ e. let k = then-accepted (demand room 12) _ x e in
+      let j = then-accepted judged _ x (k .2) in
+      let same : out ≡ x = cc in
+      (demand-iff room 12 .0 (k .1), j .1, same)),
+  (λ h. then-goes _ (demand-iff room 12 .1 (h .0)) ∙ then-goes _ (h .1) ∙ ap {B = Verdict A} accepted (h .2)),
+)
 
 -- an accepted book's instance
 pub instance-read : (book : Bytes) (I : Instance) → readInstance book ≡ accepted I → (b : Book) × (readBook book ≡ accepted b) × (I ≡ instanceOf b)
@@ -119,26 +126,29 @@ module _ (book : Bytes) (b : Book) (read : readBook book ≡ accepted b) where
   unfolding checkAssignment
   check-assignment s n plan =
       let e : checkAssignment book s n ≡ _ = then-goes _ read-instance in
-      let k = row-iff (leb (planLength (instanceOf b)) n) (judgeAssignment (instanceOf b) s) (decode (instanceOf b) s) plan in
-      ( (λ h. let r = k .0 (sym e ∙ h) in (leb-iff _ n .0 (r .0), r .1, r .2))
-      , (λ h. e ∙ k .1 (leb-iff _ n .1 (h .0), h .1, h .2)) )
+      let k = row-iff (leb (planLength (instanceOf b)) n) (judgeAssignment (instanceOf b) s) (decode (instanceOf b) s) plan in (
+        (λ h. let r = k .0 (sym e ∙ h) in (leb-iff _ n .0 (r .0), r .1, r .2)),
+        (λ h. e ∙ k .1 (leb-iff _ n .1 (h .0), h .1, h .2)),
+      )
 
   pub check-plan : (s : Bytes) (n : ℕ) (assignment : Bytes) → (checkPlan book s n ≡ accepted assignment)
       ↔ ((variables (instanceOf b) ≤ n) × (judgePlan (instanceOf b) s ≡ accepted tt) × (encode (instanceOf b) (planOf (instanceOf b) s) ≡ assignment))
   unfolding checkPlan
   check-plan s n assignment =
       let e : checkPlan book s n ≡ _ = then-goes _ read-instance in
-      let k = row-iff (leb (variables (instanceOf b)) n) (judgePlan (instanceOf b) s) (encode (instanceOf b) (planOf (instanceOf b) s)) assignment in
-      ( (λ h. let r = k .0 (sym e ∙ h) in (leb-iff _ n .0 (r .0), r .1, r .2))
-      , (λ h. e ∙ k .1 (leb-iff _ n .1 (h .0), h .1, h .2)) )
+      let k = row-iff (leb (variables (instanceOf b)) n) (judgePlan (instanceOf b) s) (encode (instanceOf b) (planOf (instanceOf b) s)) assignment in (
+        (λ h. let r = k .0 (sym e ∙ h) in (leb-iff _ n .0 (r .0), r .1, r .2)),
+        (λ h. e ∙ k .1 (leb-iff _ n .1 (h .0), h .1, h .2)),
+      )
 
   pub check-refutation : (s : Bytes) (lent : Lent) → (checkRefutation book s lent ≡ accepted tt)
       ↔ (T (formulaFits lent (instanceOf b)) × (checkFile lent (variables (instanceOf b)) (formula (instanceOf b)) s ≡ accepted tt))
   unfolding checkRefutation
   check-refutation s lent =
-      let e : checkRefutation book s lent ≡ _ = then-goes _ read-instance in
-      ( (λ h. let r = then-accepted (demand (formulaFits lent (instanceOf b)) 12) _ tt (sym e ∙ h) in (demand-iff _ 12 .0 (r .1), r .2))
-      , (λ h. e ∙ then-goes _ (demand-iff (formulaFits lent (instanceOf b)) 12 .1 (h .0)) ∙ h .1) )
+      let e : checkRefutation book s lent ≡ _ = then-goes _ read-instance in (
+        (λ h. let r = then-accepted (demand (formulaFits lent (instanceOf b)) 12) _ tt (sym e ∙ h) in (demand-iff _ 12 .0 (r .1), r .2)),
+        (λ h. e ∙ then-goes _ (demand-iff (formulaFits lent (instanceOf b)) 12 .1 (h .0)) ∙ h .1),
+      )
 
 -- whatever is accepted, its book was read
 pub read-of : {A : Type 0} (book : Bytes) (f : Instance → Verdict A) (a : A) → andThen (readInstance book) f ≡ accepted a

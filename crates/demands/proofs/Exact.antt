@@ -107,7 +107,7 @@ addTtd ttds endKind p = ttds
 
 -- the frames of a row with one more
 frames-more : {A : Type 0} (k : Kind) (payload : A → Bytes) (xs : List A) (x : A) (p rest : Bytes) → payload x ≡ p
-  → framesOf k payload xs ++ (frame (kindNumber k) p ++ rest) ≡ framesOf k payload (xs ++ one x) ++ rest
+    → framesOf k payload xs ++ (frame (kindNumber k) p ++ rest) ≡ framesOf k payload (xs ++ one x) ++ rest
 unfolding framesOf each
 frames-more k payload xs x p rest e = rw (← e) (simp (each-append, append-assoc))
 
@@ -115,22 +115,40 @@ frames-more k payload xs x p rest e = rw (← e) (simp (each-append, append-asso
 module _ (b : Book) (ttds : List ℕ) (p : Bytes) (y : T (bytes p)) where
   -- what a frame adds stands in the file behind what was there
   file-more : (k : Kind) (rest : Bytes) → T (middle k) → T (lengthFits k p) → Blank (rank (kindNumber k)) b ttds
-    → fileUpTo b ttds (frame (kindNumber k) p ++ rest) ≡ fileUpTo (add b k p) (addTtd ttds k p) rest
+      → fileUpTo b ttds (frame (kindNumber k) p ++ rest) ≡ fileUpTo (add b k p) (addTtd ttds k p) rest
   unfolding fileUpTo middle isHead isEnd kindNumber rank rankIn kindOrder lengthFits add addTtd framesOf each
-    headPayload nodePayload segmentPayload segmentIn joinPayload joinIn unbreakablePayload
+      headPayload nodePayload segmentPayload segmentIn joinPayload joinIn unbreakablePayload
   file-more headKind rest m f w = absurd m
   file-more nodeKind rest m f w =
-      rw (w .segments (omega arith), w .joins (omega arith), w .trains (omega arith), w .calls (omega arith), w .ttds (omega arith)
-        , frames-more nodeKind nodePayload (b .nodes) (field p 0 1) p rest (byte-forth p y (eqb→eq (length p) 1 f)))
+      rw (
+        w .segments (omega arith),
+        w .joins (omega arith),
+        w .trains (omega arith),
+        w .calls (omega arith),
+        w .ttds (omega arith),
+        frames-more nodeKind nodePayload (b .nodes) (field p 0 1) p rest (byte-forth p y (eqb→eq (length p) 1 f)),
+      )
   file-more segmentKind rest m f w =
-      rw (w .joins (omega arith), w .trains (omega arith), w .calls (omega arith), w .ttds (omega arith)
-        , frames-more segmentKind segmentPayload (b .segments) (segmentIn p) p rest (triple-forth p y (eqb→eq (length p) 3 f)))
+      rw (
+        w .joins (omega arith),
+        w .trains (omega arith),
+        w .calls (omega arith),
+        w .ttds (omega arith),
+        frames-more segmentKind segmentPayload (b .segments) (segmentIn p) p rest (triple-forth p y (eqb→eq (length p) 3 f)),
+      )
   file-more joinKind rest m f w =
-      rw (w .trains (omega arith), w .calls (omega arith), w .ttds (omega arith)
-        , frames-more joinKind joinPayload (b .joins) (joinIn p) p rest (triple-forth p y (eqb→eq (length p) 3 f)))
+      rw (
+        w .trains (omega arith),
+        w .calls (omega arith),
+        w .ttds (omega arith),
+        frames-more joinKind joinPayload (b .joins) (joinIn p) p rest (triple-forth p y (eqb→eq (length p) 3 f)),
+      )
   file-more trainKind rest m f w =
-      rw (w .calls (omega arith), w .ttds (omega arith)
-        , frames-more trainKind trainPayload (b .trains) (trainIn p) p rest (train-forth p y f))
+      rw (
+        w .calls (omega arith),
+        w .ttds (omega arith),
+        frames-more trainKind trainPayload (b .trains) (trainIn p) p rest (train-forth p y f),
+      )
   file-more callKind rest m f w =
       rw (w .ttds (omega arith), frames-more callKind callPayload (b .calls) (callIn p) p rest (call-forth p y f))
   file-more unbreakableKind rest m f w =
@@ -144,7 +162,7 @@ Allowed b ttds = T (all (λ u. someHas b u && not (mayDivide b u)) ttds)
 module _ (b : Book) (ttds : List ℕ) (p : Bytes) where
   -- the rows of higher rank stay empty
   blank-more : (k : Kind) → T (middle k) → Blank (rank (kindNumber k)) b ttds
-    → Blank (rank (kindNumber k)) (add b k p) (addTtd ttds k p)
+      → Blank (rank (kindNumber k)) (add b k p) (addTtd ttds k p)
   unfolding middle isHead isEnd kindNumber rank rankIn kindOrder add addTtd
   blank-more headKind m w = absurd m
   blank-more nodeKind m w =
@@ -163,7 +181,7 @@ module _ (b : Book) (ttds : List ℕ) (p : Bytes) where
 
   -- the unbreakable TTDs are allowed: there are none before their frames
   allowed-more : (k : Kind) → T (middle k) → T (all passes (contentFaults b k p)) → Blank (rank (kindNumber k)) b ttds
-    → Allowed b ttds → Allowed (add b k p) (addTtd ttds k p)
+      → Allowed b ttds → Allowed (add b k p) (addTtd ttds k p)
   unfolding middle isHead isEnd kindNumber rank rankIn kindOrder add addTtd contentFaults all passes
   allowed-more headKind m c w h = absurd m
   allowed-more nodeKind m c w h = rw (w .ttds (omega arith)) tt
@@ -188,7 +206,7 @@ module _ (b : Book) (ttds : List ℕ) (p : Bytes) where
       let q = field-lt p 0 2 y (omega arith) in
       let v = field-lt p 2 2 y (omega arith) in
       let t : T (all (λ t. ltb (t .metres) 65536 && ltb (t .speed) 65536) (b .trains ++ one (trainIn p))) =
-            simp (all-append, and-iff, ltb-iff) (h .trains, ((q, v), tt)) in
+      simp (all-append, and-iff, ltb-iff) (h .trains, ((q, v), tt)) in
       record { metres = h .metres; seconds = h .seconds; trains = t }
   fits-more callKind y m f h = record { metres = h .metres; seconds = h .seconds; trains = h .trains }
   fits-more unbreakableKind y m f h = h
@@ -211,9 +229,13 @@ data Came (s : Bytes) (r : Reading) (rest : Bytes) : Type 0 where
 
 -- a higher rank leaves fewer rows to be empty
 blank-later : {m n : ℕ} {b : Book} {ttds : List ℕ} → m ≤ n → Blank m b ttds → Blank n b ttds
-blank-later l w = record
-  { segments = λ h. w .segments (omega arith); joins = λ h. w .joins (omega arith); trains = λ h. w .trains (omega arith)
-  ; calls = λ h. w .calls (omega arith); ttds = λ h. w .ttds (omega arith) }
+blank-later l w = record {
+  segments = λ h. w .segments (omega arith);
+  joins = λ h. w .joins (omega arith);
+  trains = λ h. w .trains (omega arith);
+  calls = λ h. w .calls (omega arith);
+  ttds = λ h. w .ttds (omega arith);
+}
 
 -- the reader past a frame of kind k
 pastKind : Reading → Kind → Bytes → Reading
@@ -232,7 +254,7 @@ unfolding pastFrame pastKind addFound kindFaults unknownKind Found all passes
 of-kind r s f = go (findKind (kindField s) kindOrder) refl (finds-kind (kindField s) kindOrder) (f .content)
   where
     go : (o : Option Kind) → findKind (kindField s) kindOrder ≡ o → Found (kindField s) kindOrder o
-      → T (all passes (kindFaults (r .book) o (payloadOf s))) → (k : Kind) × OfKind r s k
+        → T (all passes (kindFaults (r .book) o (payloadOf s))) → (k : Kind) × OfKind r s k
     go none e h c = absurd (T-not (unknownKind (kindField s)) (f .known) h)
     go (some k) e h c =
         let q = simp (and-iff, Bool·not-not) at c in
@@ -257,13 +279,14 @@ module _ (s : Bytes) (r : Reading) (s′ : Bytes) (y : T (bytes s′)) (f : Fine
       let p = payloadOf s′ in
       let z = bytes-payloadOf s′ y in
       let w = blank-later no-lower (t .blank) in
-      record
-      { ttds = addTtd (t .ttds) k p
-      ; text = t .text ∙ ap (fileUpTo (r .book) (t .ttds)) frame-here
-          ∙ file-more (r .book) (t .ttds) p z k (behind s′) m (o .length) w
-      ; blank = blank-more (r .book) (t .ttds) p k m w
-      ; fits = fits-more (r .book) (t .ttds) p k z m (o .length) (t .fits)
-      ; allowed = allowed-more (r .book) (t .ttds) p k m (o .content) w (t .allowed) }
+      record {
+        ttds = addTtd (t .ttds) k p;
+        text = t .text ∙ ap (fileUpTo (r .book) (t .ttds)) frame-here
+            ∙ file-more (r .book) (t .ttds) p z k (behind s′) m (o .length) w;
+        blank = blank-more (r .book) (t .ttds) p k m w;
+        fits = fits-more (r .book) (t .ttds) p k z m (o .length) (t .fits);
+        allowed = allowed-more (r .book) (t .ttds) p k m (o .content) w (t .allowed);
+      }
 
   -- a Head is taken first
   taken-head : r .book ≡ noBook → k ≡ headKind → s ≡ s′ → Taken s (pastKind r k s′) (behind s′)
@@ -273,12 +296,13 @@ module _ (s : Bytes) (r : Reading) (s′ : Bytes) (y : T (bytes s′)) (f : Fine
       let z = bytes-payloadOf s′ y in
       let v : T (lengthFits headKind p) = rw q at (o .length) in
       let l = eqb→eq (length p) 5 v in
-      rw (e, q) record
-      { ttds = []
-      ; text = u ∙ frame-here ∙ rw (q, head-forth p z noBook v)
-      ; blank = record { segments = λ _. refl; joins = λ _. refl; trains = λ _. refl; calls = λ _. refl; ttds = λ _. refl }
-      ; fits = record { metres = field-lt p 0 2 z (omega arith); seconds = field-lt p 2 2 z (omega arith); trains = tt }
-      ; allowed = tt }
+      rw (e, q) record {
+        ttds = [];
+        text = u ∙ frame-here ∙ rw (q, head-forth p z noBook v);
+        blank = record { segments = λ _. refl; joins = λ _. refl; trains = λ _. refl; calls = λ _. refl; ttds = λ _. refl };
+        fits = record { metres = field-lt p 0 2 z (omega arith); seconds = field-lt p 2 2 z (omega arith); trains = tt };
+        allowed = tt;
+      }
 
   -- so every frame but the End leads on
   came-on : T (not (isEnd (kindField s′))) → Came s r s′ → Came s (pastKind r k s′) (behind s′)
@@ -308,7 +332,6 @@ reads-fit {s} {s′} {r} y c n = go (came y c .1)
     go (nothing l e u) = absurd (n l)
     go (taken l t) = t .fits
 
-
 -- ---- the whole file
 
 -- an empty row
@@ -330,7 +353,7 @@ end-last r s y f t =
 -- A file of bytes that is read as a book is that book's file, with a frame for each of some unbreakable TTDs that segments of
 -- the book have and that never divide; and the book's numbers fit their fields.
 pub read-exact : (s : Bytes) (b : Book) → T (bytes s) → readBook s ≡ accepted b
-  → (ttds : List ℕ) × (s ≡ bookFile b ttds) × T (all (λ u. someHas b u && not (mayDivide b u)) ttds) × FitsFields b
+    → (ttds : List ℕ) × (s ≡ bookFile b ttds) × T (all (λ u. someHas b u && not (mayDivide b u)) ttds) × FitsFields b
 unfolding bookFile fileUpTo isEnd kindNumber
 read-exact s b y e =
     let h = read-accepted-reason s b e in
@@ -338,7 +361,7 @@ read-exact s b y e =
     rw (h .6) (go (h .0) (h .1) (c .0) (fine (h .0) (h .1) (first-none _ (h .3))) (h .4) (c .1))
   where
     go : (r : Reading) (s′ : Bytes) → T (bytes s′) → Fine r s′ → T (isEnd (kindField s′)) → Came s r s′
-      → (ttds : List ℕ) × (s ≡ bookFile (r .book) ttds)
+        → (ttds : List ℕ) × (s ≡ bookFile (r .book) ttds)
         × T (all (λ u. someHas (r .book) u && not (mayDivide (r .book) u)) ttds) × FitsFields (r .book)
     go r s′ z f t (nothing l e u) =
         let first = head-first r s′ (f .inOrder) l in
@@ -351,9 +374,10 @@ read-exact s b y e =
 -- A file of bytes is read as a book exactly where it is a file of that book, the book is well formed, its numbers fit their
 -- fields, and the file's unbreakable TTDs are some that segments of the book have and that never divide.
 pub book-exact : (s : Bytes) (b : Book) → T (bytes s)
-  → (readBook s ≡ accepted b)
+    → (readBook s ≡ accepted b)
     ↔ ((ttds : List ℕ) × (s ≡ bookFile b ttds) × T (wellFormed b) × FitsFields b
-      × T (all (λ u. someHas b u && not (mayDivide b u)) ttds))
-book-exact s b y =
-    ( λ e. let h = read-exact s b y e in (h .0, h .1, read-well-formed s b e, h .3, h .2)
-    , λ h. ap readBook (h .1) ∙ read-built b (h .0) (h .2) (h .3) (h .4) )
+    × T (all (λ u. someHas b u && not (mayDivide b u)) ttds))
+book-exact s b y = (
+  λ e. let h = read-exact s b y e in (h .0, h .1, read-well-formed s b e, h .3, h .2),
+  λ h. ap readBook (h .1) ∙ read-built b (h .0) (h .2) (h .3) (h .4),
+)

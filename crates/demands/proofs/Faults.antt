@@ -28,7 +28,7 @@ first-none [] e = tt
 first-none (f ∷ fs) e = go (f .holds) e (first-none fs)
   where
     go : (b : Bool) → _≡_ {A = Option ℕ} (elim b [ true ↦ some (f .number) | false ↦ firstFault fs ]) none
-      → (firstFault fs ≡ none → T (all passes fs)) → T (not b && all passes fs)
+        → (firstFault fs ≡ none → T (all passes fs)) → T (not b && all passes fs)
     go true e rest = let z : _≡_ {A = ℕ} 0 1 = cc in omega arith
     go false e rest = rest e
 
@@ -47,14 +47,17 @@ first-some n [] e = let z : _≡_ {A = ℕ} 0 1 = cc in absurd (omega arith)
 first-some n (f ∷ fs) e = go (f .holds) refl e (first-some n fs)
   where
     go : (b : Bool) → f .holds ≡ b → elim b [ true ↦ some (f .number) | false ↦ firstFault fs ] ≡ some n
-      → (firstFault fs ≡ some n → FirstHolds n fs) → FirstHolds n (f ∷ fs)
+        → (firstFault fs ≡ some n → FirstHolds n fs) → FirstHolds n (f ∷ fs)
     go true t e rest =
         let m : f .number ≡ n = cc in
         record { before = []; after = fs; split = λ i. record { number = m i; holds = t i } ∷ fs; clear = tt }
     go false t e rest =
-        let r = rest e in record
-        { before = f ∷ r .before; after = r .after; split = ap {B = List Fault} (λ fs. f ∷ fs) (r .split)
-        ; clear = and-iff (not (f .holds)) (all passes (r .before)) .1 (from-denied t, r .clear) }
+        let r = rest e in record {
+          before = f ∷ r .before;
+          after = r .after;
+          split = ap {B = List Fault} (λ fs. f ∷ fs) (r .split);
+          clear = and-iff (not (f .holds)) (all passes (r .before)) .1 (from-denied t, r .clear);
+        }
 
 -- and back
 pub holds-first : (n : ℕ) (fs : List Fault) → FirstHolds n fs → firstFault fs ≡ some n

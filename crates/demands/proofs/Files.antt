@@ -57,9 +57,9 @@ module _ {A : Type 0} (read : ℕ → A) (code : A → ℕ) where
       let next : at + 4 * suc k ≡ at + 4 * k + 4 = omega arith in
       let more : 4 * suc n ≡ 4 + 4 * n = omega arith in
       ap₂ (λ (xs ys : Bytes). xs ++ ys)
-        (ap (littleEndian 4) (back (field p (at + 4 * k) 4) (field-lt p (at + 4 * k) 4 b fits))
-          ∙ littleEndian-field p (at + 4 * k) 4 b fits)
-        (write-read p at (suc k) n back b (omega arith))
+      (ap (littleEndian 4) (back (field p (at + 4 * k) 4) (field-lt p (at + 4 * k) 4 b fits))
+      ∙ littleEndian-field p (at + 4 * k) 4 b fits)
+      (write-read p at (suc k) n back b (omega arith))
       ∙ rw (more, take-add 4 (4 * n) (drop (at + 4 * k) p), drop-drop 4 (at + 4 * k) p, next)
 
   -- what holds of each number of four bytes holds of what is read
@@ -83,9 +83,9 @@ module _ {A : Type 0} (read : ℕ → A) (code : A → ℕ) where
       let g = good x (List·Memᴰ·head refl) in
       let value = ap (λ (s : Bytes). number (take 4 s)) parts ∙ field-written 4 (code x) (writeRow code xs ++ rest) (g .0) in
       ap₂ (λ (y : A) (ys : List A). y ∷ ys) (ap read value ∙ g .1)
-        (read-write p at (suc k) xs rest (λ y m. good y (List·Memᴰ·tail m))
-          (rw (next, ← drop-drop 4 (at + 4 * k) p, parts)
-            (drop-at (littleEndian 4 (code x)) (writeRow code xs ++ rest) 4 (length-littleEndian 4 (code x)))))
+      (read-write p at (suc k) xs rest (λ y m. good y (List·Memᴰ·tail m))
+      (rw (next, ← drop-drop 4 (at + 4 * k) p, parts)
+      (drop-at (littleEndian 4 (code x)) (writeRow code xs ++ rest) 4 (length-littleEndian 4 (code x)))))
 
 -- ---- the payload of a step
 
@@ -128,26 +128,39 @@ module _ (p : Bytes) (sized : T (stepLengthFits p)) where
         let c = counts in
         let start : 2 + 4 * literalCount p + 4 * 0 ≡ 2 + 4 * literalCount p = omega arith in
         payload-parts (stepIn p)
-        ∙ rw (literals-length, littleEndian-field p 0 2 b (omega arith), literals-read p, hints-read p
-          , write-read (signed 4) (unsigned 4) p 2 0 (literalCount p) (unsigned-signed 4) b (omega arith)
-          , write-read (λ h. h) (λ h. h) p (2 + 4 * literalCount p) 0 (hintCount p) (λ m _. refl) b (omega arith), start)
-          (three-parts 2 (4 * literalCount p) (4 * hintCount p) p c)
+        ∙ rw (
+          literals-length,
+          littleEndian-field p 0 2 b (omega arith),
+          literals-read p,
+          hints-read p,
+          write-read (signed 4) (unsigned 4) p 2 0 (literalCount p) (unsigned-signed 4) b (omega arith),
+          write-read (λ h. h) (λ h. h) p (2 + 4 * literalCount p) 0 (hintCount p) (λ m _. refl) b (omega arith),
+          start,
+        )
+        (three-parts 2 (4 * literalCount p) (4 * hintCount p) p c)
 
     -- and fits its fields
     read-fits : length p < 256 ^ 2 → InFields (stepIn p)
     read-fits short =
-        let c = counts in record
-        { payloadShort = rw (literals-length, hints-length, ← c) short
-        ; literalsShort = rw (literals-read p)
-            (read-each (signed 4) (unsigned 4) (λ l. mag l * 2 < 256 ^ 4) (mag-signed 4) p 2 (literalCount p) b (omega arith))
-        ; hintsShort = rw (hints-read p)
-            (read-each (λ h. h) (λ h. h) (λ h. h < 256 ^ 4) (λ m l. l) p (2 + 4 * literalCount p) (hintCount p) b (omega arith)) }
+        let c = counts in record {
+          payloadShort = rw (literals-length, hints-length, ← c) short;
+          literalsShort = rw (literals-read p)
+              (read-each (signed 4) (unsigned 4) (λ l. mag l * 2 < 256 ^ 4) (mag-signed 4) p 2 (literalCount p) b (omega arith));
+          hintsShort = rw (hints-read p)
+              (read-each (λ h. h) (λ h. h) (λ h. h < 256 ^ 4) (λ m l. l) p (2 + 4 * literalCount p) (hintCount p) b (omega arith));
+        }
 
 -- a step that fits its fields
 module _ (s : ProofStep) (f : InFields s) where
   payload-length : length (stepPayload s) ≡ 2 + (4 * length (s .literals) + 4 * length (s .hints))
-  payload-length = rw (payload-parts s, length-append, length-littleEndian 2, length-append
-    , length-writeRow (signed 4) (unsigned 4) (s .literals), length-writeRow (λ h. h) (λ h. h) (s .hints)) refl
+  payload-length = rw (
+    payload-parts s,
+    length-append,
+    length-littleEndian 2,
+    length-append,
+    length-writeRow (signed 4) (unsigned 4) (s .literals),
+    length-writeRow (λ h. h) (λ h. h) (s .hints),
+  ) refl
 
   payload-short : length (stepPayload s) < 256 ^ 2
   payload-short = rw payload-length (f .payloadShort)
@@ -157,7 +170,7 @@ module _ (s : ProofStep) (f : InFields s) where
   literals-counted =
       let l = f .payloadShort in
       rw (payload-parts s)
-        (field-written 2 (length (s .literals)) (writeRow (unsigned 4) (s .literals) ++ writeRow (λ h. h) (s .hints)) (omega arith))
+      (field-written 2 (length (s .literals)) (writeRow (unsigned 4) (s .literals) ++ writeRow (λ h. h) (s .hints)) (omega arith))
 
   hints-counted : hintCount (stepPayload s) ≡ length (s .hints)
   unfolding hintCount
@@ -171,8 +184,8 @@ module _ (s : ProofStep) (f : InFields s) where
   literals-written =
       literals-read (stepPayload s)
       ∙ rw literals-counted (read-write (signed 4) (unsigned 4) (stepPayload s) 2 0 (s .literals) (writeRow (λ h. h) (s .hints))
-        (λ l m. (unsigned-lt 4 l (f .literalsShort l m), signed-unsigned 4 l (omega arith) (f .literalsShort l m)))
-        (rw (payload-parts s) (drop-at (littleEndian 2 (length (s .literals))) _ 2 (length-littleEndian 2 (length (s .literals))))))
+      (λ l m. (unsigned-lt 4 l (f .literalsShort l m), signed-unsigned 4 l (omega arith) (f .literalsShort l m)))
+      (rw (payload-parts s) (drop-at (littleEndian 2 (length (s .literals))) _ 2 (length-littleEndian 2 (length (s .literals))))))
 
   hints-written : stepIn (stepPayload s) .hints ≡ s .hints
   hints-written =
@@ -180,11 +193,11 @@ module _ (s : ProofStep) (f : InFields s) where
       let ls = writeRow (unsigned 4) (s .literals) in
       let hs = writeRow (λ h. h) (s .hints) in
       let size : length (count′ ++ ls) ≡ 2 + 4 * length (s .literals) + 4 * 0
-            = rw (length-append, length-littleEndian 2, length-writeRow (signed 4) (unsigned 4)) (omega arith) in
+      = rw (length-append, length-littleEndian 2, length-writeRow (signed 4) (unsigned 4)) (omega arith) in
       hints-read (stepPayload s)
       ∙ rw (literals-counted, hints-counted)
-        (read-write (λ h. h) (λ h. h) (stepPayload s) (2 + 4 * length (s .literals)) 0 (s .hints) [] (λ h m. (f .hintsShort h m, refl))
-          (rw (payload-parts s, ← append-assoc count′ ls hs, append-nil hs) (drop-at (count′ ++ ls) hs _ size)))
+      (read-write (λ h. h) (λ h. h) (stepPayload s) (2 + 4 * length (s .literals)) 0 (s .hints) [] (λ h m. (f .hintsShort h m, refl))
+      (rw (payload-parts s, ← append-assoc count′ ls hs, append-nil hs) (drop-at (count′ ++ ls) hs _ size)))
 
   -- what is written for it is read as it
   step-written : stepIn (stepPayload s) ≡ s
@@ -213,10 +226,11 @@ module _ (lent : Lent) (vars : ℕ) where
   passes-frame : {cs : List Clause} {s : Bytes} → T (bytes s) → Passes lent vars cs s
       → (s ≡ stepFrame (stepAt s) ++ behind s) × InFields (stepAt s)
   passes-frame {cs} {s} b p =
-      let pb = bytes-payloadOf s b in
-      (frame-read s b (p .whole)
-        ∙ ap₂ (λ (k : ℕ) (q : Bytes). frame k q ++ behind s) (p .kind) (sym (payload-read (payloadOf s) (p .sized) pb))
-      , read-fits (payloadOf s) (p .sized) pb (rw (length-payloadOf s (p .whole)) (payloadLength-lt s b (p .whole))))
+      let pb = bytes-payloadOf s b in (
+        frame-read s b (p .whole)
+            ∙ ap₂ (λ (k : ℕ) (q : Bytes). frame k q ++ behind s) (p .kind) (sym (payload-read (payloadOf s) (p .sized) pb)),
+        read-fits (payloadOf s) (p .sized) pb (rw (length-payloadOf s (p .whole)) (payloadLength-lt s b (p .whole))),
+      )
 
   -- a good step that fits is read where it is written, and passes
   module _ (st : ProofStep) (f : InFields st) (rest : Bytes) where
@@ -235,14 +249,15 @@ module _ (lent : Lent) (vars : ℕ) where
 
     passes-written : (cs : List Clause) → GoodStep vars cs st → T (clausesFit lent (cs ++ one (st .literals)))
         → Passes lent vars cs (stepFrame st ++ rest)
-    passes-written cs g room = record
-        { whole = whole-frame stepKind (stepPayload st) rest small (payload-short st f)
-        ; kind = kindField-frame stepKind (stepPayload st) rest small (payload-short st f)
-        ; sized = rw payload-back (payload-sized st f)
-        ; literalsGood = rw step-back (g .literalsGood)
-        ; hintsGood = rw step-back (g .hintsGood)
-        ; room = rw step-back room
-        ; rule = rw step-back (rule-iff vars cs st (g .literalsGood) .1 (g .start, g .startTaken, g .rule)) }
+    passes-written cs g room = record {
+      whole = whole-frame stepKind (stepPayload st) rest small (payload-short st f);
+      kind = kindField-frame stepKind (stepPayload st) rest small (payload-short st f);
+      sized = rw payload-back (payload-sized st f);
+      literalsGood = rw step-back (g .literalsGood);
+      hintsGood = rw step-back (g .hintsGood);
+      room = rw step-back room;
+      rule = rw step-back (rule-iff vars cs st (g .literalsGood) .1 (g .start, g .startTaken, g .rule));
+    }
 
   -- ---- the whole file
 
@@ -257,17 +272,23 @@ module _ (lent : Lent) (vars : ℕ) where
   unfolding fileOf each
   steps-read (lastStep {cs} {s} p l e) b =
       let st = stepAt s in
-      let r = passes-frame b p in
-      (one st, r .0 ∙ ap (λ (t : Bytes). stepFrame st ++ t) e, λ k m. rw (List·Memᴰ·eq-of-singleton m) (r .1)
-      , ending (passes-good p) l, p .room)
+      let r = passes-frame b p in (
+        one st,
+        r .0 ∙ ap (λ (t : Bytes). stepFrame st ++ t) e,
+        λ k m. rw (List·Memᴰ·eq-of-singleton m) (r .1),
+        ending (passes-good p) l,
+        p .room,
+      )
   steps-read (moreSteps {cs} {s} p l a) b =
       let st = stepAt s in
       let r = passes-frame b p in
-      let rest = steps-read a (bytes-behind s b) in
-      (st ∷ rest .0, r .0 ∙ ap (λ (t : Bytes). stepFrame st ++ t) (rest .1)
-      , λ k m. elim (List·Memᴰ·cases-cons m) [ inl e ↦ rw e (r .1) | inr n ↦ rest .2 k n ]
-      , going (passes-good p) l (rest .3)
-      , rw append-assoc at (rest .4))
+      let rest = steps-read a (bytes-behind s b) in (
+        st ∷ rest .0,
+        r .0 ∙ ap (λ (t : Bytes). stepFrame st ++ t) (rest .1),
+        λ k m. elim (List·Memᴰ·cases-cons m) [ inl e ↦ rw e (r .1) | inr n ↦ rest .2 k n ],
+        going (passes-good p) l (rest .3),
+        rw append-assoc at (rest .4),
+      )
 
   -- the file of good steps that fit
   steps-written : {cs : List Clause} {steps : List ProofStep} → GoodSteps vars cs steps
@@ -282,7 +303,7 @@ module _ (lent : Lent) (vars : ℕ) where
       let room′ = rw (← append-assoc cs (one (st .literals))) at room in
       let next = steps-written more (λ k m. fits k (List·Memᴰ·tail m)) room′ in
       moreSteps (passes-written st f (fileOf steps) cs g (fits-prefix lent (cs ++ one (st .literals)) _ room′))
-        (rw (step-back st f (fileOf steps)) l) (rw (step-back st f (fileOf steps), behind-back st f (fileOf steps)) next)
+      (rw (step-back st f (fileOf steps)) l) (rw (step-back st f (fileOf steps), behind-back st f (fileOf steps)) next)
 
   -- a file of such steps is accepted, whatever its numbers
   pub file-accepted : (cs : List Clause) (s : Bytes) → FileOfSteps cs s → checkFile lent vars cs s ≡ accepted tt
@@ -294,6 +315,6 @@ module _ (lent : Lent) (vars : ℕ) where
   -- a file of bytes is accepted exactly where it is the file of such steps
   pub file-iff : (cs : List Clause) (s : Bytes) → T (all (λ x. ltb x 256) s) → checkFile lent vars cs s ≡ accepted tt
       ↔ ((steps : List ProofStep) × (s ≡ fileOf steps) × ((st : ProofStep) → List·Memᴰ st steps → InFields st)
-        × GoodSteps vars cs steps × T (clausesFit lent (cs ++ map (λ st. st .literals) steps)))
+      × GoodSteps vars cs steps × T (clausesFit lent (cs ++ map (λ st. st .literals) steps)))
   unfolding checkFile
   file-iff cs s b = (λ h. steps-read (accept-to lent vars (suc (length s)) 1 cs s h) b, file-accepted cs s)

@@ -150,9 +150,10 @@ module _ (b c : Book) (g : Longer b c) where
   linked-keeps (d ∷ e ∷ ds) l h =
       let p = simp and-iff at h in
       let k = simp and-iff at l in
-      simp and-iff
-      ( leads-keeps d e (ltb-iff d _ .0 (k .0)) (ltb-iff e _ .0 (k .1 .0)) (p .0)
-      , linked-keeps (e ∷ ds) (simp and-iff (k .1)) (p .1) )
+      simp and-iff (
+        leads-keeps d e (ltb-iff d _ .0 (k .0)) (ltb-iff e _ .0 (k .1 .0)) (p .0),
+        linked-keeps (e ∷ ds) (simp and-iff (k .1)) (p .1),
+      )
 
 -- a train fits, with its l and k and its place
 unfoldable pub trainAllFits : Book → Train → Bool
@@ -165,9 +166,10 @@ module _ (b c : Book) (g : Longer b c) where
   train-keeps t h =
       let p = simp and-iff at h in
       let inside = all-weaken _ (λ d. ltb d (2 * length (c .segments))) (t .place) (λ d. further d) (p .0 .0 .1) in
-      simp (and-iff, length-same b c g, speed-same b c g)
-      ( (((p .0 .0 .0 .0, rw (g .times) (p .0 .0 .0 .1)), inside), p .0 .1)
-      , (p .1 .0, (p .1 .1 .0, linked-keeps b c g (t .place) (p .0 .0 .1) (p .1 .1 .1))) )
+      simp (and-iff, length-same b c g, speed-same b c g) (
+        (((p .0 .0 .0 .0, rw (g .times) (p .0 .0 .0 .1)), inside), p .0 .1),
+        (p .1 .0, (p .1 .1 .0, linked-keeps b c g (t .place) (p .0 .0 .1) (p .1 .1 .1))),
+      )
     where
       further : (d : ℕ) → T (ltb d (2 * length (b .segments))) → T (ltb d (2 * length (c .segments)))
       further d h = let l = starts-length (g .segments) in simp ltb-iff (let k = simp ltb-iff at h in omega arith)
@@ -213,7 +215,7 @@ ofTrain i cs = pick (λ c. eqb (c .train) i) cs
 
 -- each train's calls stay few where the one that is new is of a train with fewer
 few-calls : {cs ds : List Call} (s : Starts cs ds) → New (λ c. T (not (leb 4 (length (ofTrain (c .train) cs))))) s
-  → ((i : ℕ) → length (ofTrain i cs) ≤ 4) → (i : ℕ) → length (ofTrain i ds) ≤ 4
+    → ((i : ℕ) → length (ofTrain i cs) ≤ 4) → (i : ℕ) → length (ofTrain i ds) ≤ 4
 unfolding New ofTrain pick only
 few-calls same k h i = h i
 few-calls {cs} (longer c) k h i = rw (pick-append (λ d. eqb (d .train) i) cs (one c), length-append) (go (eqb (c .train) i) refl)
@@ -241,9 +243,16 @@ pub record Growing (b : Book) : Type 0 where
 -- a Head alone
 pub growing-head : (p : Bytes) → T (headFits (headOf noBook p)) → Growing (headOf noBook p)
 unfolding headOf noBook Few all joinsOnce upTo count callsOf pick
-growing-head p h = record
-  { head = h; nodes = (omega arith, tt); segments = (omega arith, tt); joins = (omega arith, tt); once = tt
-  ; trains = (omega arith, tt); calls = tt; fewCalls = λ i. omega arith }
+growing-head p h = record {
+  head = h;
+  nodes = (omega arith, tt);
+  segments = (omega arith, tt);
+  joins = (omega arith, tt);
+  once = tt;
+  trains = (omega arith, tt);
+  calls = tt;
+  fewCalls = λ i. omega arith;
+}
 
 -- What is new in a longer book fits the shorter one.
 record Fits (b c : Book) (g : Longer b c) : Type 0 where
@@ -258,21 +267,29 @@ record Fits (b c : Book) (g : Longer b c) : Type 0 where
 -- Then the longer book is growing too.
 growing-longer : (b c : Book) (g : Longer b c) → Fits b c g → Growing b → Growing c
 unfolding headFits callsOf ofTrain
-growing-longer b c g n w = record
-  { head = rw (g .metres, g .seconds, g .times) (w .head)
-  ; nodes = few-grow _ _ (λ k h. h) 96 (g .nodes) (n .nodes) (w .nodes)
-  ; segments = few-grow _ _ (segment-keeps b c g) 64 (g .segments) (n .segments) (w .segments)
-  ; joins = few-grow _ _ (join-keeps b c g) 128 (g .joins) (n .joins) (w .joins)
-  ; once = once-grow (g .joins) (n .once) (w .once)
-  ; trains = few-grow _ _ (train-keeps b c g) 8 (g .trains) (n .trains) (w .trains)
-  ; calls = all-grow _ _ (call-keeps b c g) (g .calls) (n .calls) (w .calls)
-  ; fewCalls = few-calls (g .calls) (n .fewCalls) (w .fewCalls) }
+growing-longer b c g n w = record {
+  head = rw (g .metres, g .seconds, g .times) (w .head);
+  nodes = few-grow _ _ (λ k h. h) 96 (g .nodes) (n .nodes) (w .nodes);
+  segments = few-grow _ _ (segment-keeps b c g) 64 (g .segments) (n .segments) (w .segments);
+  joins = few-grow _ _ (join-keeps b c g) 128 (g .joins) (n .joins) (w .joins);
+  once = once-grow (g .joins) (n .once) (w .once);
+  trains = few-grow _ _ (train-keeps b c g) 8 (g .trains) (n .trains) (w .trains);
+  calls = all-grow _ _ (call-keeps b c g) (g .calls) (n .calls) (w .calls);
+  fewCalls = few-calls (g .calls) (n .fewCalls) (w .fewCalls);
+}
 
 -- What a frame adds, but a Head: the book with longer rows.
 grown : (b : Book) {ns : List ℕ} {ss : List Segment} {js : List Join} {ts : List Train} {cs : List Call} → Starts (b .nodes) ns
-  → Starts (b .segments) ss → Starts (b .joins) js → Starts (b .trains) ts → Starts (b .calls) cs → Longer b (record
-    { segmentMetres = b .segmentMetres; intervalSeconds = b .intervalSeconds; intervals = b .intervals
-    ; nodes = ns; segments = ss; joins = js; trains = ts; calls = cs })
+    → Starts (b .segments) ss → Starts (b .joins) js → Starts (b .trains) ts → Starts (b .calls) cs → Longer b (record {
+      segmentMetres = b .segmentMetres;
+      intervalSeconds = b .intervalSeconds;
+      intervals = b .intervals;
+      nodes = ns;
+      segments = ss;
+      joins = js;
+      trains = ts;
+      calls = cs;
+    })
 grown b n s j t c = record { metres = refl; seconds = refl; times = refl; nodes = n; segments = s; joins = j; trains = t; calls = c }
 
 -- by kind, at most one row is longer
@@ -289,13 +306,19 @@ add-longer b endKind p h = grown b same same same same same
 
 -- A frame without a fault adds what fits.
 add-fits : (b : Book) (k : Kind) (p : Bytes) (h : k ≢ headKind) → T (all passes (contentFaults b k p))
-  → Fits b (add b k p) (add-longer b k p h)
+    → Fits b (add b k p) (add-longer b k p h)
 unfolding add contentFaults all passes add-longer grown New Room trainAllFits
 add-fits b headKind p h f = absurd (h refl)
 add-fits b nodeKind p h f =
-    let q = simp and-iff at f in record
-    { nodes = (q .0, not-above (field p 0 1) greatestNodeKind (q .1 .0)); segments = tt; joins = tt; once = tt; trains = tt
-    ; calls = tt; fewCalls = tt }
+    let q = simp and-iff at f in record {
+      nodes = (q .0, not-above (field p 0 1) greatestNodeKind (q .1 .0));
+      segments = tt;
+      joins = tt;
+      once = tt;
+      trains = tt;
+      calls = tt;
+      fewCalls = tt;
+    }
 add-fits b segmentKind p h f =
     let q = simp (and-iff, Bool·not-not) at f in record
     { nodes = tt; segments = (q .0, q .1 .0); joins = tt; once = tt; trains = tt; calls = tt; fewCalls = tt }
@@ -303,9 +326,15 @@ add-fits b joinKind p h f =
     let q = simp (and-iff, neither-iff, Bool·not-not) at f in record
     { nodes = tt; segments = tt; joins = (q .0, q .1 .0 .0); once = q .1 .0 .1; trains = tt; calls = tt; fewCalls = tt }
 add-fits b trainKind p h f =
-    let q = simp (and-iff, Bool·not-not) at f in record
-    { nodes = tt; segments = tt; joins = tt; once = tt; trains = (q .0, simp and-iff ((q .1 .0, q .1 .1 .0), q .1 .1 .1 .0))
-    ; calls = tt; fewCalls = tt }
+    let q = simp (and-iff, Bool·not-not) at f in record {
+      nodes = tt;
+      segments = tt;
+      joins = tt;
+      once = tt;
+      trains = (q .0, simp and-iff ((q .1 .0, q .1 .1 .0), q .1 .1 .1 .0));
+      calls = tt;
+      fewCalls = tt;
+    }
 add-fits b callKind p h f =
     let q = simp (and-iff, Bool·not-not) at f in record
     { nodes = tt; segments = tt; joins = tt; once = tt; trains = tt; calls = q .1 .0; fewCalls = q .0 }
@@ -314,7 +343,7 @@ add-fits b endKind p h f = record { nodes = tt; segments = tt; joins = tt; once 
 
 -- Every frame without a fault, but a Head, keeps the book growing.
 pub growing-add : (b : Book) (k : Kind) (p : Bytes) → k ≢ headKind → T (all passes (contentFaults b k p)) → Growing b
-  → Growing (add b k p)
+    → Growing (add b k p)
 growing-add b k p h f w = growing-longer b (add b k p) (add-longer b k p h) (add-fits b k p h f) w
 
 -- ---- the book as a whole
@@ -343,10 +372,16 @@ unfolding wellFormed bookFaults all passes Few trainAllFits between
 growing-whole b w f =
     let q = simp (and-iff, neither-iff) at f in
     let runs = all-weaken _ (λ t. leb (length (runsOf b t)) 256) (b .trains) (λ t h. not-above (length (runsOf b t)) 256 h)
-        (none-iff _ (b .trains) .0 (q .1 .0)) in
+    (none-iff _ (b .trains) .0 (q .1 .0)) in
     let counts = none-iff (λ i. empty (callsOf b i)) (upTo (length (b .trains))) .0 (q .0 .1) in
-    simp (and-iff, leb-iff)
-    ( ((((w .head, (w .nodes .0, w .nodes .1)), (w .segments .0, w .segments .1)), ((w .joins .0, w .joins .1), w .once))
-      , ((w .trains .0, q .0 .0), all-both _ _ (b .trains) (w .trains .1) runs))
-    , (w .calls, all-weaken _ _ (upTo (length (b .trains)))
-        (λ i h. simp (and-iff, leb-iff) (not-empty (callsOf b i) h, w .fewCalls i)) counts) )
+    simp (and-iff, leb-iff) (
+      (
+        (((w .head, (w .nodes .0, w .nodes .1)), (w .segments .0, w .segments .1)), ((w .joins .0, w .joins .1), w .once)),
+        ((w .trains .0, q .0 .0), all-both _ _ (b .trains) (w .trains .1) runs),
+      ),
+      (
+        w .calls,
+        all-weaken _ _ (upTo (length (b .trains)))
+            (λ i h. simp (and-iff, leb-iff) (not-empty (callsOf b i) h, w .fewCalls i)) counts,
+      ),
+    )

@@ -50,7 +50,7 @@ module _ (I : Instance) (α : ℕ → Bool) where
   pub meansC : T (satisfies α (familyC I)) ↔ ((i : ℕ) → i < I .trains → (t : ℕ) → I .departure i ≤ t → t < I .intervals
       → (T (any (λ r. α (runVar I i t r)) (upTo (I .runs i))) ⊎ T (α (goneVar I i t)))
       × ((m : ℕ) → m < I .runs i + 1 → (n : ℕ) → m + 1 ≤ n → n < I .runs i + 1
-          → T (α (runVar I i t m)) → T (α (runVar I i t n)) → ⊥))
+      → T (α (runVar I i t m)) → T (α (runVar I i t n)) → ⊥))
   unfolding satisfies holds familyC
   meansC = simp taken (simp or-iff Iff·rfl)
 
@@ -64,7 +64,7 @@ module _ (I : Instance) (α : ℕ → Bool) where
   -- E: a run is followed by one from its end, or by gone where it may leave; gone by gone
   pub meansE : T (satisfies α (familyE I)) ↔ ((i : ℕ) → i < I .trains → (t : ℕ) → I .departure i ≤ t → t < I .intervals - 1
       → ((r : ℕ) → r < I .runs i → T (α (runVar I i t r))
-          → T (any (λ q. I .follows i r q && α (runVar I i (t + 1) q)) (upTo (I .runs i))) ⊎ T (I .leaves i r && α (goneVar I i (t + 1))))
+      → T (any (λ q. I .follows i r q && α (runVar I i (t + 1) q)) (upTo (I .runs i))) ⊎ T (I .leaves i r && α (goneVar I i (t + 1))))
       × (T (α (goneVar I i t)) → T (α (goneVar I i (t + 1)))))
   unfolding satisfies holds familyE
   meansE = simp taken (simp or-iff Iff·rfl)
@@ -112,9 +112,18 @@ module _ (I : Instance) (α : ℕ → Bool) where
   unfolding satisfies formula
   families h =
       let k = simp (all-append, and-iff) at h in
-      record
-      { A = k .0; B = k .1 .0; C = k .1 .1 .0; D = k .1 .1 .1 .0; E = k .1 .1 .1 .1 .0; F = k .1 .1 .1 .1 .1 .0
-      ; G = k .1 .1 .1 .1 .1 .1 .0; H = k .1 .1 .1 .1 .1 .1 .1 .0; J = k .1 .1 .1 .1 .1 .1 .1 .1 .0; extra = k .1 .1 .1 .1 .1 .1 .1 .1 .1 }
+      record {
+        A = k .0;
+        B = k .1 .0;
+        C = k .1 .1 .0;
+        D = k .1 .1 .1 .0;
+        E = k .1 .1 .1 .1 .0;
+        F = k .1 .1 .1 .1 .1 .0;
+        G = k .1 .1 .1 .1 .1 .1 .0;
+        H = k .1 .1 .1 .1 .1 .1 .1 .0;
+        J = k .1 .1 .1 .1 .1 .1 .1 .1 .0;
+        extra = k .1 .1 .1 .1 .1 .1 .1 .1 .1;
+      }
 
   pub from-families : Families → T (satisfies α (formula I))
   unfolding satisfies formula

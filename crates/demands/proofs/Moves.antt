@@ -24,7 +24,7 @@ module _ (I : Instance) (p : Plan) where
 
   pub means2 : T (rule2 I p) ↔ ((i : ℕ) → i < I .trains
       → (((t : ℕ) → t < I .departure i → T (isAbsent (p .move i t)))
-          × ((t : ℕ) → I .departure i ≤ t → t < I .intervals → T (isAbsent (p .move i t)) → ⊥))
+      × ((t : ℕ) → I .departure i ≤ t → t < I .intervals → T (isAbsent (p .move i t)) → ⊥))
       × T (runs (p .move i (I .departure i)) (I .given i)))
   unfolding rule2
   means2 = simp meaning Iff·rfl
@@ -32,8 +32,8 @@ module _ (I : Instance) (p : Plan) where
   pub means3 : T (rule3 I p) ↔ ((i : ℕ) → i < I .trains
       → ((t : ℕ) → t < I .departure i + 1 → T (isGone (p .move i t)) → ⊥)
       × ((t : ℕ) → t < I .intervals - 1
-          → (T (isGone (p .move i (t + 1))) → T (isGone (p .move i t)) ⊎ T (runs (p .move i t) (I .leaves i)))
-          × (T (isGone (p .move i t)) → T (isGone (p .move i (t + 1))))))
+      → (T (isGone (p .move i (t + 1))) → T (isGone (p .move i t)) ⊎ T (runs (p .move i t) (I .leaves i)))
+      × (T (isGone (p .move i t)) → T (isGone (p .move i (t + 1))))))
   unfolding rule3
   means3 = simp meaning (simp or-iff Iff·rfl)
 
@@ -49,7 +49,7 @@ module _ (I : Instance) (p : Plan) where
 
   pub means6 : T (rule6 I p) ↔ ((t : ℕ) → t < I .intervals → (i : ℕ) → i < I .trains → (j : ℕ) → i + 1 ≤ j → j < I .trains
       → ((s : ℕ) × List·Memᴰ s (ofRun (p .move i t) (I .path i))
-          × ((u : ℕ) × List·Memᴰ u (ofRun (p .move j t) (I .path j)) × T (together I (p .border) s u))) → ⊥)
+      × ((u : ℕ) × List·Memᴰ u (ofRun (p .move j t) (I .path j)) × T (together I (p .border) s u))) → ⊥)
   unfolding rule6 shareSection
   means6 = simp (meaning, any-iff) Iff·rfl
 

@@ -31,9 +31,9 @@ pub data ReadsTo (s : Bytes) : Reading → Bytes → Type 0 where
 pub data Ends (r : Reading) (s : Bytes) (v : Verdict Book) : Type 0 where
   frame : (n : ℕ) → FirstHolds n (frameFaults r s) → v ≡ refused n 0 → Ends r s v
   book : (n : ℕ) → T (all passes (frameFaults r s)) → T (isEnd (kindField s)) → FirstHolds n (bookFaults (r .book))
-    → v ≡ refused n 0 → Ends r s v
+      → v ≡ refused n 0 → Ends r s v
   pass : T (all passes (frameFaults r s)) → T (isEnd (kindField s)) → T (all passes (bookFaults (r .book)))
-    → v ≡ accepted (r .book) → Ends r s v
+      → v ≡ accepted (r .book) → Ends r s v
 
 -- a frame after which the reader goes on
 pub record GoesOn (r : Reading) (s : Bytes) (r′ : Reading) (s′ : Bytes) : Type 0 where
@@ -54,12 +54,12 @@ module _ (r : Reading) (s : Bytes) where
   step-means = go (firstFault (frameFaults r s)) refl
     where
       atEnd : (o : Option ℕ) → firstFault (bookFaults (r .book)) ≡ o → T (all passes (frameFaults r s)) → T (isEnd (kindField s))
-        → Ends r s (refuseOr o (r .book))
+          → Ends r s (refuseOr o (r .book))
       atEnd none e c t = pass c t (first-none _ e) refl
       atEnd (some n) e c t = book n c t (first-some n _ e) refl
 
       clear : (b : Bool) → isEnd (kindField s) ≡ b → T (all passes (frameFaults r s))
-        → Meaning (elim b [ true ↦ stop (refuseOr (firstFault (bookFaults (r .book))) (r .book)) | false ↦ more (pastFrame r s) (behind s) ])
+          → Meaning (elim b [ true ↦ stop (refuseOr (firstFault (bookFaults (r .book))) (r .book)) | false ↦ more (pastFrame r s) (behind s) ])
       clear true e c = atEnd (firstFault (bookFaults (r .book))) refl c (from-true e)
       clear false e c = record { clear = c; notEnd = from-denied e; reading = refl; rest = refl }
 
@@ -86,9 +86,10 @@ module _ (r : Reading) (s : Bytes) where
   -- and the readFrame goes on exactly where the frame has no fault and is not the End
   pub goes-iff : (r′ : Reading) (s′ : Bytes) → (readFrame r s ≡ more r′ s′) ↔ GoesOn r s r′ s′
   unfolding readFrame frameReadAt
-  goes-iff r′ s′ =
-      ( goes-on r′ s′
-      , λ g. rw (clear-first _ (g .clear), denied-of (isEnd (kindField s)) (g .notEnd), frameReadAt, g .reading, g .rest) )
+  goes-iff r′ s′ = (
+    goes-on r′ s′,
+    λ g. rw (clear-first _ (g .clear), denied-of (isEnd (kindField s)) (g .notEnd), frameReadAt, g .reading, g .rest),
+  )
 
 -- What a frame without a fault is.
 pub record Fine (r : Reading) (s : Bytes) : Type 0 where
@@ -124,7 +125,7 @@ enough (suc f) zero r s h k = absurd (not-suc-le-zero k)
 enough (suc f) (suc g) r s h k = go (readFrame r s) refl (enough f g)
   where
     go : (o : FrameRead) → readFrame r s ≡ o → ((r : Reading) (s : Bytes) → length s < f → length s < g → readFrom f r s ≡ readFrom g r s)
-      → readFrom (suc f) r s ≡ readFrom (suc g) r s
+        → readFrom (suc f) r s ≡ readFrom (suc g) r s
     go (stop v) e rest = stops-reading f r s v e ∙ sym (stops-reading g r s v e)
     go (more r′ s′) e rest =
         let l = less-left r r′ s s′ e in
@@ -140,14 +141,14 @@ along s s″ r″ (next {r = r} {s′ = s′} c e) =
 
 -- with enough fuel, reading on from any point of the way comes to an end
 finds : (f : ℕ) (s s′ : Bytes) (r : Reading) → length s′ < f → ReadsTo s r s′
-  → (r″ : Reading) × (s″ : Bytes) × ReadsTo s r″ s″ × Ends r″ s″ (readFrom f r s′)
+    → (r″ : Reading) × (s″ : Bytes) × ReadsTo s r″ s″ × Ends r″ s″ (readFrom f r s′)
 finds zero s s′ r h c = absurd (not-suc-le-zero h)
 finds (suc f) s s′ r h c = go (readFrame r s′) refl (finds f s)
   where
     go : (o : FrameRead) → readFrame r s′ ≡ o
-      → ((s″ : Bytes) (r : Reading) → length s″ < f → ReadsTo s r s″
+        → ((s″ : Bytes) (r : Reading) → length s″ < f → ReadsTo s r s″
         → (r‴ : Reading) × (s‴ : Bytes) × ReadsTo s r‴ s‴ × Ends r‴ s‴ (readFrom f r s″))
-      → (r″ : Reading) × (s″ : Bytes) × ReadsTo s r″ s″ × Ends r″ s″ (readFrom (suc f) r s′)
+        → (r″ : Reading) × (s″ : Bytes) × ReadsTo s r″ s″ × Ends r″ s″ (readFrom (suc f) r s′)
     go (stop v) e rest = (r, s′, c, rw (stops-reading f r s′ v e) (ends r s′ v e))
     go (more r″ s″) e rest =
         let l = less-left r r″ s′ s″ e in
@@ -156,34 +157,35 @@ finds (suc f) s s′ r h c = go (readFrame r s′) refl (finds f s)
 -- Reading is exact: a file's verdict is v exactly where the frames lead to one at which reading ends with v.
 pub read-iff : (s : Bytes) (v : Verdict Book) → (readBook s ≡ v) ↔ ((r : Reading) × (s′ : Bytes) × ReadsTo s r s′ × Ends r s′ v)
 unfolding readBook
-read-iff s v =
-    ( λ e. rw (← e) (finds (suc (length s)) s s readingStart (omega arith) start)
-    , λ h. along s (h .1) (h .0) (h .2) ∙ stops-reading (length (h .1)) (h .0) (h .1) v (stops (h .0) (h .1) v (h .3)) )
+read-iff s v = (
+  λ e. rw (← e) (finds (suc (length s)) s s readingStart (omega arith) start),
+  λ h. along s (h .1) (h .0) (h .2) ∙ stops-reading (length (h .1)) (h .0) (h .1) v (stops (h .0) (h .1) v (h .3)),
+)
 
 -- A refusal is given only where a condition stated for it holds, and none that is tried before it: of the frame that
 -- reading has come to, or, at the End frame, of the book. Its detail is 0.
 pub refusal-has-reason : (s : Bytes) (n d : ℕ) → readBook s ≡ refused n d
-  → (d ≡ 0) × ((r : Reading) × (s′ : Bytes) × ReadsTo s r s′
+    → (d ≡ 0) × ((r : Reading) × (s′ : Bytes) × ReadsTo s r s′
     × (FirstHolds n (frameFaults r s′)
-      ⊎ ((firstFault (frameFaults r s′) ≡ none) × T (isEnd (kindField s′)) × FirstHolds n (bookFaults (r .book)))))
+    ⊎ ((firstFault (frameFaults r s′) ≡ none) × T (isEnd (kindField s′)) × FirstHolds n (bookFaults (r .book)))))
 refusal-has-reason s n d e = let h = read-iff s (refused n d) .0 e in go (h .0) (h .1) (h .2) (h .3)
   where
     go : (r : Reading) (s′ : Bytes) → ReadsTo s r s′ → Ends r s′ (refused n d)
-      → (d ≡ 0) × ((r : Reading) × (s′ : Bytes) × ReadsTo s r s′
+        → (d ≡ 0) × ((r : Reading) × (s′ : Bytes) × ReadsTo s r s′
         × (FirstHolds n (frameFaults r s′)
-          ⊎ ((firstFault (frameFaults r s′) ≡ none) × T (isEnd (kindField s′)) × FirstHolds n (bookFaults (r .book)))))
+        ⊎ ((firstFault (frameFaults r s′) ≡ none) × T (isEnd (kindField s′)) × FirstHolds n (bookFaults (r .book)))))
     go r s′ c (frame m h q) = let k : m ≡ n = cc in (cc, (r, s′, c, inl (rw k at h)))
     go r s′ c (book m f t h q) = let k : m ≡ n = cc in (cc, (r, s′, c, inr (clear-first _ f, t, rw k at h)))
     go r s′ c (pass f t g q) = let z : _≡_ {A = ℕ} 0 1 = cc in absurd (omega arith)
 
 -- A book passes when no condition for frame, content or book holds.
 pub read-accepted-reason : (s : Bytes) (b : Book) → readBook s ≡ accepted b
-  → (r : Reading) × (s′ : Bytes) × ReadsTo s r s′ × (firstFault (frameFaults r s′) ≡ none) × T (isEnd (kindField s′))
+    → (r : Reading) × (s′ : Bytes) × ReadsTo s r s′ × (firstFault (frameFaults r s′) ≡ none) × T (isEnd (kindField s′))
     × (firstFault (bookFaults (r .book)) ≡ none) × (b ≡ r .book)
 read-accepted-reason s b e = let h = read-iff s (accepted b) .0 e in go (h .0) (h .1) (h .2) (h .3)
   where
     go : (r : Reading) (s′ : Bytes) → ReadsTo s r s′ → Ends r s′ (accepted b)
-      → (r : Reading) × (s′ : Bytes) × ReadsTo s r s′ × (firstFault (frameFaults r s′) ≡ none) × T (isEnd (kindField s′))
+        → (r : Reading) × (s′ : Bytes) × ReadsTo s r s′ × (firstFault (frameFaults r s′) ≡ none) × T (isEnd (kindField s′))
         × (firstFault (bookFaults (r .book)) ≡ none) × (b ≡ r .book)
     go r s′ c (frame m h q) = let z : _≡_ {A = ℕ} 0 1 = cc in absurd (omega arith)
     go r s′ c (book m f t h q) = let z : _≡_ {A = ℕ} 0 1 = cc in absurd (omega arith)
@@ -271,10 +273,10 @@ pub reached-on : (r : Reading) (s : Bytes) → Fine r s → Reached r → Reache
 unfolding pastFrame rank addFound kindFaults all unknownKind Found kindNumber
 reached-on r s f w =
     growing (rank-not-zero (kindField s) kindOrder)
-      (go (findKind (kindField s) kindOrder) (finds-kind (kindField s) kindOrder) (f .content) w)
+    (go (findKind (kindField s) kindOrder) (finds-kind (kindField s) kindOrder) (f .content) w)
   where
     go : (o : Option Kind) → Found (kindField s) kindOrder o → T (all passes (kindFaults (r .book) o (payloadOf s))) → Reached r
-      → Growing (addFound (r .book) o (payloadOf s))
+        → Growing (addFound (r .book) o (payloadOf s))
     go none h c w = absurd (T-not (unknownKind (kindField s)) (f .known) h)
     go (some k) h c (nothing l e) =
         reads-head (r .book) k (payloadOf s) e (head-number k (sym h ∙ head-first r s (f .inOrder) l)) ((simp and-iff at c) .1)
@@ -294,7 +296,7 @@ unfolding isEnd kindNumber
 read-well-formed s b e = let h = read-accepted-reason s b e in rw (h .6) (go (h .0) (h .1) (h .3) (h .4) (h .5) (reached (h .2)))
   where
     go : (r : Reading) (s′ : Bytes) → firstFault (frameFaults r s′) ≡ none → T (isEnd (kindField s′))
-      → firstFault (bookFaults (r .book)) ≡ none → Reached r → T (wellFormed (r .book))
+        → firstFault (bookFaults (r .book)) ≡ none → Reached r → T (wellFormed (r .book))
     go r s′ c t d (nothing l n) =
         let one′ = head-first r s′ (fine r s′ (first-none _ c) .inOrder) l in
         let eight = eqb→eq (kindField s′) 8 t in

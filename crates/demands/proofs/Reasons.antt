@@ -80,18 +80,20 @@ module _ (book : Bytes) (Short : Instance → Type 0) (Input : Instance → ℕ 
       → ((I : Instance) → T (not (room I)) ↔ Short I) → ((I : Instance) → rest I ≡ refused k d → Input I k d)
       → (andThen (readInstance book) λ I. andThen (demand (room I) 12) λ _. rest I) ≡ refused k d → Refusal book Short Input k d
   in-order room rest {k} {d} short input e =
-      elim (then-refused (readInstance book) _ e)
-      [ inl r ↦ instance-refused r
-      | inr r ↦ (let i = instance-read book (r .0) (r .1) in behind-book (i .0) (i .1) (rw (i .2) at (r .2))) ]
+      elim (then-refused (readInstance book) _ e) [
+        | inl r ↦ instance-refused r
+        | inr r ↦ (let i = instance-read book (r .0) (r .1) in behind-book (i .0) (i .1) (rw (i .2) at (r .2)))
+      ]
     where
       behind-book : (b : Book) → readBook book ≡ accepted b
-        → (andThen (demand (room (instanceOf b)) 12) λ _. rest (instanceOf b)) ≡ refused k d → Refusal book Short Input k d
+          → (andThen (demand (room (instanceOf b)) 12) λ _. rest (instanceOf b)) ≡ refused k d → Refusal book Short Input k d
       behind-book b read e =
-          elim (then-refused (demand (room (instanceOf b)) 12) _ e)
-          [ inl r ↦ (let q = demand-refused (room (instanceOf b)) 12 r in rw (q .1, q .2) (ofRoom b read (short (instanceOf b) .0 (q .0))))
-          | inr r ↦
-              ofInput b read (λ h. T-not (room (instanceOf b)) (short (instanceOf b) .1 h) (demand-iff (room (instanceOf b)) 12 .0 (r .1)))
-                (input (instanceOf b) (r .2)) ]
+          elim (then-refused (demand (room (instanceOf b)) 12) _ e) [
+            | inl r ↦ (let q = demand-refused (room (instanceOf b)) 12 r in rw (q .1, q .2) (ofRoom b read (short (instanceOf b) .0 (q .0))))
+            | inr r ↦
+                ofInput b read (λ h. T-not (room (instanceOf b)) (short (instanceOf b) .1 h) (demand-iff (room (instanceOf b)) 12 .0 (r .1)))
+                (input (instanceOf b) (r .2))
+          ]
 
 -- a judgement, and what is then written
 judged-refused : {A : Type 0} {k d : ℕ} (v : Verdict (Unit {0})) (a : A) → (andThen v λ _. accepted a) ≡ refused k d → v ≡ refused k d
@@ -102,9 +104,10 @@ judge-refused : {k d : ℕ} (fits : Bool) (found : Option ℕ) (m n : ℕ)
     → (andThen (demand fits m) λ _. findNone found n) ≡ refused k d
     → (T (not fits) × (k ≡ m) × (d ≡ 0)) ⊎ (T fits × (found ≡ some d) × (k ≡ n))
 judge-refused fits found m n e =
-    elim (then-refused (demand fits m) _ e)
-    [ inl r ↦ inl (demand-refused fits m r)
-    | inr r ↦ (let q = find-refused found n (r .2) in inr (demand-iff fits m .0 (r .1), q .0, q .1)) ]
+    elim (then-refused (demand fits m) _ e) [
+      | inl r ↦ inl (demand-refused fits m r)
+      | inr r ↦ (let q = find-refused found n (r .2) in inr (demand-iff fits m .0 (r .1), q .0, q .1))
+    ]
 
 -- ---- writing the formula
 
@@ -114,17 +117,18 @@ pub formula-refusal : (book : Bytes) (n k d : ℕ) → writeFormula book n ≡ r
 unfolding writeFormula
 formula-refusal book n k d e =
     in-order book _ _ (λ I. leb (length (wordsOf (formula I))) n) _ (λ I. short-iff (length (wordsOf (formula I))) n)
-      (λ I r. accepted≢refused r) e
+    (λ I r. accepted≢refused r) e
 
 -- The formula's text is refused only so too.
 pub text-refusal : (book : Bytes) (n k d : ℕ) → formulaText book n ≡ refused k d
     → Refusal book (λ I. n < length (wordsOf (formula I))) (λ I k d. ⊥) k d
 unfolding formulaText
 text-refusal book n k d e =
-    elim (then-refused (writeFormula book n) _ e)
-    [ inl r ↦ formula-refusal book n k d r
-    | inr r ↦ elim (then-refused (readInstance book) _ (r .2))
-        [ inl q ↦ instance-refused book _ _ q | inr q ↦ accepted≢refused (q .2) ] ]
+    elim (then-refused (writeFormula book n) _ e) [
+      | inl r ↦ formula-refusal book n k d r
+      | inr r ↦ elim (then-refused (readInstance book) _ (r .2))
+          [ inl q ↦ instance-refused book _ _ q | inr q ↦ accepted≢refused (q .2) ]
+    ]
 
 -- ---- checking an assignment
 
@@ -142,10 +146,10 @@ unfolding firstFalse
 first-false α n d [] e = let z : _≡_ {A = ℕ} 0 1 = cc in absurd (omega arith)
 first-false α n d (c ∷ cs) e = decide (holds α c)
     (λ h. let r = first-false α (suc n) d cs (rw (true-of (holds α c) h, firstFalse) at e) in
-        (suc (r .0), omega arith, omega arith, r .3, lower h (r .0) (r .4)))
+    (suc (r .0), omega arith, omega arith, r .3, lower h (r .0) (r .4)))
     (λ h. let q = rw (denied-of (holds α c) h, firstFalse) at e in
-        let s : n ≡ d = cc in
-        (0, omega arith, omega arith, h, λ j l. absurd (omega arith)))
+    let s : n ≡ d = cc in
+    (0, omega arith, omega arith, h, λ j l. absurd (omega arith)))
   where
     lower : T (holds α c) → (i : ℕ) → ((j : ℕ) → j < i → T (holds α (getD cs j []))) → (j : ℕ) → j < suc i → T (holds α (getD (c ∷ cs) j []))
     lower h i f zero l = h
@@ -177,7 +181,7 @@ pub assignment-refusal : (book assignment : Bytes) (n k d : ℕ) → checkAssign
 unfolding checkAssignment
 assignment-refusal book s n k d e =
     in-order book _ _ (λ I. leb (planLength I) n) _ (λ I. short-iff (planLength I) n)
-      (λ I r. assignment-fault I s (judged-refused (judgeAssignment I s) _ r)) e
+    (λ I r. assignment-fault I s (judged-refused (judgeAssignment I s) _ r)) e
 
 -- ---- checking a plan
 
@@ -199,7 +203,7 @@ pub plan-refusal : (book plan : Bytes) (n k d : ℕ) → checkPlan book plan n �
 unfolding checkPlan
 plan-refusal book s n k d e =
     in-order book _ _ (λ I. leb (variables I) n) _ (λ I. short-iff (variables I) n)
-      (λ I r. plan-fault I s (judged-refused (judgePlan I s) _ r)) e
+    (λ I r. plan-fault I s (judged-refused (judgePlan I s) _ r)) e
 
 -- ---- checking a refutation
 
@@ -238,13 +242,13 @@ module _ (lent : Lent) (vars : ℕ) (cs₀ : List Clause) (file : Bytes) where
   steps-fault zero step cs s l c e = absurd (omega arith)
   steps-fault {k} {d} (suc fuel) step cs s l c e =
       decide (empty s)
-        (λ h. same-refusal Wrong (rw (true-of (empty s) h, checkSteps) at e) (noEnding c h))
-        (λ h. found h (firstFault (stepFaults lent vars cs s)) refl (steps-fault fuel (suc step) (added cs s) (behind s)))
+      (λ h. same-refusal Wrong (rw (true-of (empty s) h, checkSteps) at e) (noEnding c h))
+      (λ h. found h (firstFault (stepFaults lent vars cs s)) refl (steps-fault fuel (suc step) (added cs s) (behind s)))
     where
       found : T (not (empty s)) → (o : Option ℕ) → firstFault (stepFaults lent vars cs s) ≡ o
-        → (length (behind s) < fuel → StepsTo lent vars cs₀ file (suc step) (added cs s) (behind s)
+          → (length (behind s) < fuel → StepsTo lent vars cs₀ file (suc step) (added cs s) (behind s)
           → checkSteps lent vars fuel (suc step) (added cs s) (behind s) ≡ refused k d → Wrong k d)
-        → Wrong k d
+          → Wrong k d
       found h (some n) q next =
           same-refusal Wrong (rw (denied-of (empty s) h, checkSteps, q) at e) (stepFault c h (first-some n _ q))
       found h none q next =
@@ -253,10 +257,10 @@ module _ (lent : Lent) (vars : ℕ) (cs₀ : List Clause) (file : Bytes) where
           let r = rw (denied-of (empty s) h, checkSteps, q) at e in
           let isLast = empty (stepAt s .literals) in
           decide isLast
-            (λ t. decide (empty (behind s))
-              (λ b. accepted≢refused (rw (true-of isLast t, true-of (empty (behind s)) b) at r))
-              (λ b. same-refusal Wrong (rw (true-of isLast t, denied-of (empty (behind s)) b) at r) (bytesAfter c clear t b)))
-            (λ t. next (omega arith) (nextStep c clear t) (rw (denied-of isLast t) at r))
+          (λ t. decide (empty (behind s))
+          (λ b. accepted≢refused (rw (true-of isLast t, true-of (empty (behind s)) b) at r))
+          (λ b. same-refusal Wrong (rw (true-of isLast t, denied-of (empty (behind s)) b) at r) (bytesAfter c clear t b)))
+          (λ t. next (omega arith) (nextStep c clear t) (rw (denied-of isLast t) at r))
 
 -- Refused only by the book, by 12 where the formula does not fit the slices, or for what is wrong with the refutation.
 pub refutation-refusal : (book refutation : Bytes) (lent : Lent) (k d : ℕ) → checkRefutation book refutation lent ≡ refused k d
@@ -264,7 +268,7 @@ pub refutation-refusal : (book refutation : Bytes) (lent : Lent) (k d : ℕ) →
 unfolding checkRefutation checkFile
 refutation-refusal book s lent k d e =
     in-order book _ _ (formulaFits lent) _ (λ I. (λ h. h, λ h. h))
-      (λ I r. steps-fault lent (variables I) (formula I) s (suc (length s)) 1 (formula I) s (omega arith) firstStep r) e
+    (λ I r. steps-fault lent (variables I) (formula I) s (suc (length s)) 1 (formula I) s (omega arith) firstStep r) e
 
 -- ---- the numbers of refusals
 
@@ -284,9 +288,10 @@ pub read-number : (book : Bytes) (k d : ℕ) → readBook book ≡ refused k d �
 unfolding frameFaults kindFaults contentFaults bookFaults between all
 read-number book k d e =
     let r = refusal-has-reason book k d e .1 in
-    bounds (elim (r .3)
-      [ inl h ↦ numbered (between 1 11) k _ (kinds (r .0 .book) (findKind (kindField (r .1)) kindOrder) (payloadOf (r .1))) h
-      | inr h ↦ numbered (between 1 11) k _ tt (h .2) ])
+    bounds (elim (r .3) [
+      | inl h ↦ numbered (between 1 11) k _ (kinds (r .0 .book) (findKind (kindField (r .1)) kindOrder) (payloadOf (r .1))) h
+      | inr h ↦ numbered (between 1 11) k _ tt (h .2)
+    ])
   where
     kinds : (b : Book) (o : Option Kind) (p : Bytes) → T (all (λ f. between 1 11 (f .number)) (kindFaults b o p))
     kinds b none p = tt

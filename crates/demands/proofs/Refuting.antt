@@ -78,22 +78,34 @@ module _ (known : Values) where
   all-false : (c : Clause) → notFalse known c ≡ [] → AllFalse known c
   all-false [] e = false-nil
   all-false (l ∷ c) e =
-      elim (no-or-not (truth known l))
-      [ inl n ↦ false-cons l c n (all-false c (sym (passed l c n) ∙ e))
-      | inr y ↦ (let q = sym (kept l c y) ∙ e in let z : _≡_ {A = ℕ} 0 1 = cc in absurd (omega arith)) ]
+      elim (no-or-not (truth known l)) [
+        | inl n ↦ false-cons l c n (all-false c (sym (passed l c n) ∙ e))
+        | inr y ↦ (let q = sym (kept l c y) ∙ e in let z : _≡_ {A = ℕ} 0 1 = cc in absurd (omega arith))
+      ]
 
   -- where one is left and open, it is forced
   one-forced : (c : Clause) (l : Literal) → notFalse known c ≡ l ∷ [] → truth known l ≡ open′ → Forces known c l
   unfolding notFalse pick
   one-forced [] l e o = let z : _≡_ {A = ℕ} 0 1 = cc in absurd (omega arith)
   one-forced (k ∷ c) l e o =
-      elim (no-or-not (truth known k))
-      [ inl n ↦ (let r = one-forced c l (sym (passed k c n) ∙ e) o in record
-        { left = k ∷ r .left; right = r .right; parts = ap (λ (d : Clause). k ∷ d) (r .parts)
-        ; leftFalse = false-cons k (r .left) n (r .leftFalse); rightFalse = r .rightFalse; isOpen = o })
-      | inr y ↦ (let q = sym (kept k c y) ∙ e in let h : k ≡ l = cc in let t : notFalse known c ≡ [] = cc in record
-        { left = []; right = c; parts = ap (λ (m : Literal). m ∷ c) h
-        ; leftFalse = false-nil; rightFalse = all-false c t; isOpen = o }) ]
+      elim (no-or-not (truth known k)) [
+        | inl n ↦ (let r = one-forced c l (sym (passed k c n) ∙ e) o in record {
+          left = k ∷ r .left;
+          right = r .right;
+          parts = ap (λ (d : Clause). k ∷ d) (r .parts);
+          leftFalse = false-cons k (r .left) n (r .leftFalse);
+          rightFalse = r .rightFalse;
+          isOpen = o;
+        })
+        | inr y ↦ (let q = sym (kept k c y) ∙ e in let h : k ≡ l = cc in let t : notFalse known c ≡ [] = cc in record {
+          left = [];
+          right = c;
+          parts = ap (λ (m : Literal). m ∷ c) h;
+          leftFalse = false-nil;
+          rightFalse = all-false c t;
+          isOpen = o;
+        })
+      ]
 
   -- where one is forced, it is left alone
   forced-one : (c : Clause) (l : Literal) → Forces known c l → notFalse known c ≡ l ∷ []
@@ -130,7 +142,7 @@ hint-to cs known h [] [] e next t = atLast (all-false known (clauseAt cs h) e)
 hint-to cs known h (g ∷ hs) [] e next t = absurd t
 hint-to cs known h hs (l ∷ []) e next t = split (isOpen (truth known l))
     (λ o. onward l (one-forced known (clauseAt cs h) l e (open-is (truth known l) (from-true o)))
-        (next l (rw (hinted-one known l true o) at t)))
+    (next l (rw (hinted-one known l true o) at t)))
     (λ o. absurd (rw (hinted-one known l false o) at t))
 hint-to cs known h hs (l ∷ m ∷ ms) e next t = absurd t
 
@@ -139,7 +151,7 @@ unfolding goThrough
 through-to cs known [] t = absurd t
 through-to cs known (h ∷ hs) t =
     hint-to cs known h hs (notFalse known (clauseAt cs h)) refl (λ l. through-to cs (makeTrue known l) hs)
-        (subst T (at-hint cs known h hs refl) t)
+    (subst T (at-hint cs known h hs refl) t)
 
 through-from : {cs : List Clause} {known : Values} {hs : List ℕ} → Proves cs known hs → T (goThrough cs known hs)
 unfolding afterHint hinted empty
@@ -194,8 +206,8 @@ refuting-false vars low [] h = false-nil (refuting [])
 refuting-false vars low (x ∷ c) h =
     let p = simp and-iff at h in
     false-cons (refuting (x ∷ c)) x c (makeFalse-false (refuting c) x) λ l m.
-      let r = rises-above vars (variableOf x) c (p .1) l m in
-      makeFalse-keeps (refuting c) x l (omega arith) ∙ refuting-false vars (variableOf x) c (p .1) l m
+    let r = rises-above vars (variableOf x) c (p .1) l m in
+    makeFalse-keeps (refuting c) x l (omega arith) ∙ refuting-false vars (variableOf x) c (p .1) l m
 
 refuting-open : (c : Clause) (v : ℕ) → ((l : Literal) → List·Memᴰ l c → variableOf l ≢ suc v) → refuting c v ≡ open′
 unfolding refuting
@@ -229,20 +241,21 @@ pub taken-unique : (c : Clause) (k k′ : Values) → TakenFalse c k → TakenFa
 taken-unique c k k′ a b = fun-ext λ v.
     let ofV : Literal → Bool = λ l. eqb (variableOf l) (suc v) in
     decide (any ofV c)
-      (λ t. let r = any-iff ofV c .0 t in
-        false-same k k′ (r .0) v (eqb→eq (variableOf (r .0)) (suc v) (r .2)) (a .allFalse (r .0) (r .1)) (b .allFalse (r .0) (r .1)))
-      (λ n. let other : (l : Literal) → List·Memᴰ l c → variableOf l ≢ suc v
-              = λ l m e. T-not (any ofV c) n (any-iff ofV c .1 (l, m, eqb-iff (variableOf l) (suc v) .1 e)) in
-        a .othersOpen v other ∙ sym (b .othersOpen v other))
+    (λ t. let r = any-iff ofV c .0 t in
+    false-same k k′ (r .0) v (eqb→eq (variableOf (r .0)) (suc v) (r .2)) (a .allFalse (r .0) (r .1)) (b .allFalse (r .0) (r .1)))
+    (λ n. let other : (l : Literal) → List·Memᴰ l c → variableOf l ≢ suc v
+    = λ l m e. T-not (any ofV c) n (any-iff ofV c .1 (l, m, eqb-iff (variableOf l) (suc v) .1 e)) in
+    a .othersOpen v other ∙ sym (b .othersOpen v other))
 
 -- the computed step rule is the declarative one, both ways
 pub rule-iff : (vars : ℕ) (cs : List Clause) (s : ProofStep) → T (literalsFit vars (s .literals))
     → T (followsRule cs s) ↔ ((start : Values) × TakenFalse (s .literals) start × Proves cs start (s .hints))
 unfolding followsRule
-rule-iff vars cs s fit =
-    (λ t. (refuting (s .literals), refuting-taken vars (s .literals) fit, through-to cs _ (s .hints) t)
-    , λ r. let e = taken-unique (s .literals) (r .0) _ (r .1) (refuting-taken vars (s .literals) fit) in
-        through-from (subst (λ (k : Values). Proves cs k (s .hints)) e (r .2)))
+rule-iff vars cs s fit = (
+  λ t. (refuting (s .literals), refuting-taken vars (s .literals) fit, through-to cs _ (s .hints) t),
+  λ r. let e = taken-unique (s .literals) (r .0) _ (r .1) (refuting-taken vars (s .literals) fit) in
+      through-from (subst (λ (k : Values). Proves cs k (s .hints)) e (r .2)),
+)
 
 -- ---- a proved step follows from the clauses
 
@@ -329,10 +342,11 @@ module _ (α : ℕ → Bool) where
   unfolding isTrue
   forced-true known c l a h r = decide (isTrue α l) (yes-is (truth (valuation α) l))
       (λ n. absurd (not-all-false c h λ k m.
-        elim (List·Memᴰ·append-cases (r .left) (subst (List·Memᴰ k) (r .parts) m))
-        [ inl q ↦ agrees-false known a k (r .leftFalse k q)
+      elim (List·Memᴰ·append-cases (r .left) (subst (List·Memᴰ k) (r .parts) m)) [
+        | inl q ↦ agrees-false known a k (r .leftFalse k q)
         | inr q ↦ elim (List·Memᴰ·cases-cons q)
-            [ inl e ↦ rw e (not-true l n) | inr t ↦ agrees-false known a k (r .rightFalse k t) ] ]))
+            [ inl e ↦ rw e (not-true l n) | inr t ↦ agrees-false known a k (r .rightFalse k t) ]
+      ]))
 
   module _ (cs : List Clause) (sat : T (satisfies α cs)) where
     -- a clause that a hint may name is true
@@ -379,12 +393,19 @@ pub record Passes (lent : Lent) (vars : ℕ) (cs : List Clause) (s : Bytes) : Ty
 passes-iff : (lent : Lent) (vars : ℕ) (cs : List Clause) (s : Bytes)
     → firstFault (stepFaults lent vars cs s) ≡ none ↔ Passes lent vars cs s
 unfolding stepFaults all passes
-passes-iff lent vars cs s =
-    (λ e. let p = simp (and-iff, neither-iff, not-not-iff, eqb-iff) at (first-none (stepFaults lent vars cs s) e) in record
-      { whole = p .0 .0 .0; kind = p .0 .0 .1; sized = p .0 .1; literalsGood = p .1 .0; hintsGood = p .1 .1 .0
-      ; room = p .1 .1 .1 .0; rule = p .1 .1 .1 .1 .0 }
-    , λ r. clear-first (stepFaults lent vars cs s) (simp (and-iff, neither-iff, not-not-iff, eqb-iff)
-      (((r .whole, r .kind), r .sized), (r .literalsGood, (r .hintsGood, (r .room, (r .rule, tt)))))))
+passes-iff lent vars cs s = (
+  λ e. let p = simp (and-iff, neither-iff, not-not-iff, eqb-iff) at (first-none (stepFaults lent vars cs s) e) in record {
+    whole = p .0 .0 .0;
+    kind = p .0 .0 .1;
+    sized = p .0 .1;
+    literalsGood = p .1 .0;
+    hintsGood = p .1 .1 .0;
+    room = p .1 .1 .1 .0;
+    rule = p .1 .1 .1 .1 .0;
+  },
+  λ r. clear-first (stepFaults lent vars cs s) (simp (and-iff, neither-iff, not-not-iff, eqb-iff)
+      (((r .whole, r .kind), r .sized), (r .literalsGood, (r .hintsGood, (r .room, (r .rule, tt)))))),
+)
 
 -- The steps of an accepted file, from the clauses that the first of them may name.
 pub data Accepts (lent : Lent) (vars : ℕ) : List Clause → Bytes → Type 0 where
@@ -398,13 +419,16 @@ pub data Accepts (lent : Lent) (vars : ℕ) : List Clause → Bytes → Type 0 w
 -- `checkSteps` at one step, by the four tests that it makes
 oneStep : Lent → ℕ → ℕ → ℕ → List Clause → Bytes → Bool → Option ℕ → Bool → Bool → Verdict (Unit {0})
 oneStep lent vars fuel step cs s none′ fault last′ end′ =
-    elim none′
-    [ true ↦ refused 21 0
-    | false ↦ elim fault
-        [ some n ↦ refused n (stepDetail n step)
-        | none ↦ elim last′
-            [ true ↦ elim end′ [ true ↦ accepted tt | false ↦ refused 21 0 ]
-            | false ↦ checkSteps lent vars fuel (suc step) (added cs s) (behind s) ] ] ]
+    elim none′ [
+      | true ↦ refused 21 0
+      | false ↦ elim fault [
+        | some n ↦ refused n (stepDetail n step)
+        | none ↦ elim last′ [
+          | true ↦ elim end′ [ true ↦ accepted tt | false ↦ refused 21 0 ]
+          | false ↦ checkSteps lent vars fuel (suc step) (added cs s) (behind s)
+        ]
+      ]
+    ]
 
 refused-not : {n d : ℕ} → _≡_ {A = Verdict (Unit {0})} (refused n d) (accepted tt) → ⊥
 refused-not h = let z : _≡_ {A = ℕ} 0 1 = cc in absurd (omega arith)
@@ -478,16 +502,16 @@ module _ (lent : Lent) (vars : ℕ) where
   accept-from zero step a h = absurd (omega arith)
   accept-from (suc fuel) step (lastStep {cs} {s} p l b) h =
       at-step fuel step cs s (record
-        { noStep = whole-some s (p .whole); faults = passes-iff lent vars cs s .1 p; isLast = nil-empty l; isEnd = nil-empty b })
+      { noStep = whole-some s (p .whole); faults = passes-iff lent vars cs s .1 p; isLast = nil-empty l; isEnd = nil-empty b })
   accept-from (suc fuel) step (moreSteps {cs} {s} p l a) h =
       at-step fuel step cs s (record
-        { noStep = whole-some s (p .whole); faults = passes-iff lent vars cs s .1 p; isLast = cons-empty _ l; isEnd = refl })
+      { noStep = whole-some s (p .whole); faults = passes-iff lent vars cs s .1 p; isLast = cons-empty _ l; isEnd = refl })
       ∙ accept-from fuel (suc step) a (let r = length-behind s (p .whole) in omega arith)
 
   -- one step with other fuel
   same-one : (f g step : ℕ) (cs : List Clause) (s : Bytes) (n : Bool) (fault : Option ℕ) (l e : Bool) → Tested cs s n fault l e
       → (T (not (cutShort s))
-        → checkSteps lent vars f (suc step) (added cs s) (behind s) ≡ checkSteps lent vars g (suc step) (added cs s) (behind s))
+      → checkSteps lent vars f (suc step) (added cs s) (behind s) ≡ checkSteps lent vars g (suc step) (added cs s) (behind s))
       → oneStep lent vars f step cs s n fault l e ≡ oneStep lent vars g step cs s n fault l e
   unfolding oneStep
   same-one f g step cs s true fault l e t next = refl
@@ -504,7 +528,7 @@ module _ (lent : Lent) (vars : ℕ) where
       let t = tested cs s in
       at-step f step cs s t
       ∙ same-one f g step cs s _ _ _ _ t
-        (λ w. let r = length-behind s w in fuel-free f g (suc step) (added cs s) (behind s) (omega arith) (omega arith))
+      (λ w. let r = length-behind s w in fuel-free f g (suc step) (added cs s) (behind s) (omega arith) (omega arith))
       ∙ sym (at-step g step cs s t)
 
   -- the steps of an accepted file leave no valuation

@@ -22,7 +22,7 @@ use Rattle.demands.proofs.Wellformed.{getD-mem}
 
 -- what stands in the rows of all elements is what stands in the row of one of them
 pub mem-each {ℓ κ} : {A : Type ℓ} {B : Type κ} (xs : List A) (f : A → List B) (y : B)
-  → List·Memᴰ y (each xs f) ↔ ((x : A) × List·Memᴰ x xs × List·Memᴰ y (f x))
+    → List·Memᴰ y (each xs f) ↔ ((x : A) × List·Memᴰ x xs × List·Memᴰ y (f x))
 unfolding each
 mem-each {A = A} xs f y = (to xs, λ h. back xs (h .0) (h .1) (h .2))
   where
@@ -38,7 +38,7 @@ mem-each {A = A} xs f y = (to xs, λ h. back xs (h .0) (h .1) (h .2))
 
 -- what stands in a row that is there only where a test holds
 mem-where {ℓ} : {A : Type ℓ} (c : Bool) (xs : List A) (y : A)
-  → List·Memᴰ y (elim c [ true ↦ xs | false ↦ [] ]) ↔ (T c × List·Memᴰ y xs)
+    → List·Memᴰ y (elim c [ true ↦ xs | false ↦ [] ]) ↔ (T c × List·Memᴰ y xs)
 mem-where true xs y = (λ m. (tt, m), λ h. h .1)
 mem-where false xs y = (λ m. absurd (List·Memᴰ·not-nil m), λ h. absurd (h .0))
 
@@ -84,11 +84,11 @@ module _ {A : Type 0} {R : A → A → Type 0} where
 
   -- a row that rises in one order rises in another that follows from it
   rising-by : {S : A → A → Type 0} {xs : List A} → Rising R xs
-    → ((x y : A) → List·Memᴰ x xs → List·Memᴰ y xs → R x y → S x y) → Rising S xs
+      → ((x y : A) → List·Memᴰ x xs → List·Memᴰ y xs → R x y → S x y) → Rising S xs
   rising-by nothing f = nothing
   rising-by (next {x} h r) f =
       next (λ y m. f x y (List·Memᴰ·head refl) (List·Memᴰ·tail m) (h y m))
-        (rising-by r (λ y z m k. f y z (List·Memᴰ·tail m) (List·Memᴰ·tail k)))
+      (rising-by r (λ y z m k. f y z (List·Memᴰ·tail m) (List·Memᴰ·tail k)))
 
   -- a row that is there only where a test holds
   rising-where : (c : Bool) {xs : List A} → (T c → Rising R xs) → Rising R (elim c [ true ↦ xs | false ↦ [] ])
@@ -97,20 +97,20 @@ module _ {A : Type 0} {R : A → A → Type 0} where
 
   -- a row behind a row
   rising-append : {xs ys : List A} → Rising R xs → Rising R ys
-    → ((x y : A) → List·Memᴰ x xs → List·Memᴰ y ys → R x y) → Rising R (xs ++ ys)
+      → ((x y : A) → List·Memᴰ x xs → List·Memᴰ y ys → R x y) → Rising R (xs ++ ys)
   rising-append nothing s across = s
   rising-append {ys} (next {x} {xs} h r) s across =
       next {x = x} (λ z m. elim (List·Memᴰ·append-cases xs {t = ys} m) [ inl k ↦ h z k | inr k ↦ across x z (List·Memᴰ·head refl) k ])
-        (rising-append r s (λ y z m. across y z (List·Memᴰ·tail m)))
+      (rising-append r s (λ y z m. across y z (List·Memᴰ·tail m)))
 
   -- the rows of elements that rise, each row rising and coming before the rows of later elements
   rising-each : {B : Type 0} {S : B → B → Type 0} (f : B → List A) {xs : List B} → Rising S xs → ((x : B) → Rising R (f x))
-    → ((x y : B) → S x y → (p q : A) → List·Memᴰ p (f x) → List·Memᴰ q (f y) → R p q) → Rising R (each xs f)
+      → ((x y : B) → S x y → (p q : A) → List·Memᴰ p (f x) → List·Memᴰ q (f y) → R p q) → Rising R (each xs f)
   unfolding each
   rising-each f nothing inner across = nothing
   rising-each f (next {x} {xs} h r) inner across =
       rising-append (inner x) (rising-each f r inner across)
-        (λ p q m k. let s = mem-each xs f q .0 k in across x (s .0) (h (s .0) (s .1)) p q m (s .2))
+      (λ p q m k. let s = mem-each xs f q .0 k in across x (s .0) (h (s .0) (s .1)) p q m (s .2))
 
 -- the numbers from a on rise
 count-rises : (a n : ℕ) → Rising _<_ (count a n)
@@ -131,9 +131,10 @@ unfolding different has any
 different-snoc [] x = simp all-nil (λ _. (tt, tt), λ _. tt)
 different-snoc (y ∷ ys) x =
     let ih = different-snoc ys x in
-    rw (eqb-sym x y, all-append (λ z. not (eqb y z)) ys (one x)) (simp (all-one, and-iff, neither-iff)
-      ( λ h. let r = ih .0 (h .1) in ((h .0 .0, r .0), (h .0 .1, r .1))
-      , λ h. ((h .0 .0, h .1 .0), ih .1 (h .0 .1, h .1 .1))))
+    rw (eqb-sym x y, all-append (λ z. not (eqb y z)) ys (one x)) (simp (all-one, and-iff, neither-iff) (
+      λ h. let r = ih .0 (h .1) in ((h .0 .0, r .0), (h .0 .1, r .1)),
+      λ h. ((h .0 .0, h .1 .0), ih .1 (h .0 .1, h .1 .1)),
+    ))
 
 module _ (b : Book) where
   -- d is a directed segment of the book
@@ -143,9 +144,10 @@ module _ (b : Book) where
   -- what stands among the directed segments of the book
   directed-mem : (d : ℕ) → List·Memᴰ d (directed b) ↔ T (inBook d)
   unfolding directed
-  directed-mem d =
-      (λ m. ltb-iff d (2 * length (b .segments)) .1 (upTo-mem (2 * length (b .segments)) d .0 m)
-      , λ h. upTo-mem (2 * length (b .segments)) d .1 (ltb-iff d (2 * length (b .segments)) .0 h))
+  directed-mem d = (
+    λ m. ltb-iff d (2 * length (b .segments)) .1 (upTo-mem (2 * length (b .segments)) d .0 m),
+    λ h. upTo-mem (2 * length (b .segments)) d .1 (ltb-iff d (2 * length (b .segments)) .0 h),
+  )
 
   -- "each ending where the next begins", with one more at the end
   linked-snoc : (x : ℕ) (xs : List ℕ) (d : ℕ) → linked b (x ∷ xs ++ one d) ≡ (linked b (x ∷ xs) && leadsTo b (lastOr x xs) d)
@@ -157,7 +159,7 @@ module _ (b : Book) where
 
   -- a path with one more at the end is a path that goes on there
   path-snoc : (x : ℕ) (xs : List ℕ) (d : ℕ)
-    → T (isPath b (x ∷ xs ++ one d)) ↔ (T (isPath b (x ∷ xs)) × T (goesOn b (x ∷ xs) d))
+      → T (isPath b (x ∷ xs ++ one d)) ↔ (T (isPath b (x ∷ xs)) × T (goesOn b (x ∷ xs) d))
   unfolding isPath goesOn lastOr
   path-snoc x xs d = rw (linked-snoc x xs d, map-append segmentOf (x ∷ xs) (one d)) (simp (and-iff, different-snoc)
       (λ h. ((h .0 .0, h .1 .0), (h .1 .1, h .0 .1)), λ h. ((h .0 .0, h .1 .1), (h .0 .1, h .1 .0))))
@@ -171,13 +173,14 @@ module _ (b : Book) where
 
   -- one segment more: over some directed segment of the book where the path goes on
   extend-suc : (m : ℕ) (p q : List ℕ)
-    → List·Memᴰ q (extend b (suc m) p) ↔ ((d : ℕ) × T (inBook d) × T (goesOn b p d) × List·Memᴰ q (extend b m (p ++ one d)))
+      → List·Memᴰ q (extend b (suc m) p) ↔ ((d : ℕ) × T (inBook d) × T (goesOn b p d) × List·Memᴰ q (extend b m (p ++ one d)))
   unfolding extend
   extend-suc m p q =
-      let rows = mem-each (directed b) (λ d. elim (goesOn b p d) [ true ↦ extend b m (p ++ one d) | false ↦ [] ]) q in
-      (λ k. let r = rows .0 k in let s = mem-where (goesOn b p (r .0)) (extend b m (p ++ one (r .0))) q .0 (r .2) in
-            (r .0, directed-mem (r .0) .0 (r .1), s .0, s .1)
-      , λ r. rows .1 (r .0, directed-mem (r .0) .1 (r .1), mem-where (goesOn b p (r .0)) (extend b m (p ++ one (r .0))) q .1 (r .2, r .3)))
+      let rows = mem-each (directed b) (λ d. elim (goesOn b p d) [ true ↦ extend b m (p ++ one d) | false ↦ [] ]) q in (
+        λ k. let r = rows .0 k in let s = mem-where (goesOn b p (r .0)) (extend b m (p ++ one (r .0))) q .0 (r .2) in
+            (r .0, directed-mem (r .0) .0 (r .1), s .0, s .1),
+        λ r. rows .1 (r .0, directed-mem (r .0) .1 (r .1), mem-where (goesOn b p (r .0)) (extend b m (p ++ one (r .0))) q .1 (r .2, r .3)),
+      )
 
   -- q begins with p, is m longer, and is a path over directed segments of the book
   abbrev Grown : ℕ → List ℕ → List ℕ → Type 0
@@ -191,21 +194,28 @@ module _ (b : Book) where
       ([], e ∙ sym (append-nil (x ∷ xs)), refl, tt, subst (λ (p : List ℕ). T (isPath b p)) (sym e) h)
   extend-to (suc m) x xs q h k =
       let s = extend-suc m (x ∷ xs) q .0 k in
-      let g = extend-to m x (xs ++ one (s .0)) q (path-snoc x xs (s .0) .1 (h, s .2)) (s .3) in
-      (s .0 ∷ g .0, g .1 ∙ append-snoc (x ∷ xs) (s .0) (g .0), ap suc (g .2)
-      , and-iff (inBook (s .0)) (all inBook (g .0)) .1 (s .1, g .3), g .4)
+      let g = extend-to m x (xs ++ one (s .0)) q (path-snoc x xs (s .0) .1 (h, s .2)) (s .3) in (
+        s .0 ∷ g .0,
+        g .1 ∙ append-snoc (x ∷ xs) (s .0) (g .0),
+        ap suc (g .2),
+        and-iff (inBook (s .0)) (all inBook (g .0)) .1 (s .1, g .3),
+        g .4,
+      )
 
   -- such a path is listed
   extend-back : (x : ℕ) (xs r : List ℕ) → T (all inBook r) → T (isPath b (x ∷ xs ++ r))
-    → List·Memᴰ (x ∷ xs ++ r) (extend b (length r) (x ∷ xs))
+      → List·Memᴰ (x ∷ xs ++ r) (extend b (length r) (x ∷ xs))
   unfolding extend all
   extend-back x xs [] i h = List·Memᴰ·head (append-nil (x ∷ xs))
   extend-back x xs (d ∷ r) i h =
       let h′ : T (isPath b (x ∷ xs ++ one d ++ r)) = rw (append-snoc xs d r) h in
       let s = and-iff (inBook d) (all inBook r) .0 i in
-      extend-suc (length r) (x ∷ xs) (x ∷ xs ++ d ∷ r) .1
-        (d, s .0, path-snoc x xs d .0 (path-front x (xs ++ one d) r h′) .1
-        , Memᴰ·cast (sym (append-snoc (x ∷ xs) d r)) (extend-back x (xs ++ one d) r (s .1) h′))
+      extend-suc (length r) (x ∷ xs) (x ∷ xs ++ d ∷ r) .1 (
+        d,
+        s .0,
+        path-snoc x xs d .0 (path-front x (xs ++ one d) r h′) .1,
+        Memᴰ·cast (sym (append-snoc (x ∷ xs) d r)) (extend-back x (xs ++ one d) r (s .1) h′),
+      )
 
   -- ---- the lists
 
@@ -216,7 +226,7 @@ module _ (b : Book) where
 
   -- The paths of n segments are listed, all of them and nothing else.
   pub paths-iff : (n : ℕ) → 1 ≤ n → (p : List ℕ)
-    → List·Memᴰ p (pathsOf b n) ↔ (T (isPath b p) × T (all inBook p) × (length p ≡ n))
+      → List·Memᴰ p (pathsOf b n) ↔ (T (isPath b p) × T (all inBook p) × (length p ≡ n))
   unfolding pathsOf all
   paths-iff n h p = (λ k. to (mem-each (directed b) from p .0 k), λ k. back p (k .0) (k .1) (k .2))
     where
@@ -225,9 +235,11 @@ module _ (b : Book) where
 
       to : (d : ℕ) × List·Memᴰ d (directed b) × List·Memᴰ p (from d) → T (isPath b p) × T (all inBook p) × (length p ≡ n)
       to r =
-          let g = extend-to (n - 1) (r .0) [] p (path-one (r .0)) (r .2) in
-          (g .4, rw (g .1) (and-iff (inBook (r .0)) (all inBook (g .0)) .1 (directed-mem (r .0) .0 (r .1), g .3))
-          , omega (arith, ap length (g .1)))
+          let g = extend-to (n - 1) (r .0) [] p (path-one (r .0)) (r .2) in (
+            g .4,
+            rw (g .1) (and-iff (inBook (r .0)) (all inBook (g .0)) .1 (directed-mem (r .0) .0 (r .1), g .3)),
+            omega (arith, ap length (g .1)),
+          )
 
       back : (p : List ℕ) → T (isPath b p) → T (all inBook p) → length p ≡ n → List·Memᴰ p (pathsOf b n)
       back [] k i l = let no′ : ⊥ = omega arith in absurd no′
@@ -238,26 +250,27 @@ module _ (b : Book) where
 
   -- "A run moves j from 0 to k and is a path of l + j": the runs are listed, all of them and nothing else.
   pub runs-iff : (t : Train) → 1 ≤ lengthInSegments b t → (p : List ℕ)
-    → List·Memᴰ p (runsOf b t)
+      → List·Memᴰ p (runsOf b t)
       ↔ (T (isPath b p) × T (all inBook p) × ((j : ℕ) × (j ≤ speedInSegments b t) × (length p ≡ lengthInSegments b t + j)))
   unfolding runsOf
   runs-iff t h p =
       let rows = mem-each (upTo (speedInSegments b t + 1)) (λ j. pathsOf b (lengthInSegments b t + j)) p in
       let moves = upTo-mem (speedInSegments b t + 1) in
-      let paths : (j : ℕ) → _ = λ j. paths-iff (lengthInSegments b t + j) (omega arith) p in
-      (λ k. let r = rows .0 k in let s = paths (r .0) .0 (r .2) in
-            (s .0, s .1, (r .0, omega (arith, moves (r .0) .0 (r .1)), s .2))
-      , λ k. let j = k .2 .0 in rows .1 (j, moves j .1 (omega arith), paths j .1 (k .0, k .1, k .2 .2)))
+      let paths : (j : ℕ) → _ = λ j. paths-iff (lengthInSegments b t + j) (omega arith) p in (
+        λ k. let r = rows .0 k in let s = paths (r .0) .0 (r .2) in
+            (s .0, s .1, (r .0, omega (arith, moves (r .0) .0 (r .1)), s .2)),
+        λ k. let j = k .2 .0 in rows .1 (j, moves j .1 (omega arith), paths j .1 (k .0, k .1, k .2 .2)),
+      )
 
   -- ---- the order of the lists
 
   -- rows by their number behind one front rise, if each of them does
   rows-rise : (front : List ℕ) (f : ℕ → List (List ℕ)) → ((d : ℕ) → Rising Dictionary (f d))
-    → ((d : ℕ) (p : List ℕ) → List·Memᴰ p (f d) → (r : List ℕ) × (p ≡ front ++ d ∷ r)) → Rising Dictionary (each (directed b) f)
+      → ((d : ℕ) (p : List ℕ) → List·Memᴰ p (f d) → (r : List ℕ) × (p ≡ front ++ d ∷ r)) → Rising Dictionary (each (directed b) f)
   unfolding directed
   rows-rise front f inner begins =
       rising-each f (upTo-rises (2 * length (b .segments))) inner
-        (λ d e l p q m k. rw (begins d p m .1, begins e q k .1) (dictionary-front front (begins d p m .0) (begins e q k .0) l))
+      (λ d e l p q m k. rw (begins d p m .1, begins e q k .1) (dictionary-front front (begins d p m .0) (begins e q k .0) l))
 
   -- the paths that grow from one path are listed in dictionary order
   extend-rises : (m x : ℕ) (xs : List ℕ) → T (isPath b (x ∷ xs)) → Rising Dictionary (extend b m (x ∷ xs))
@@ -265,29 +278,29 @@ module _ (b : Book) where
   extend-rises zero x xs h = next (λ q k. absurd (List·Memᴰ·not-nil k)) nothing
   extend-rises (suc m) x xs h =
       rows-rise (x ∷ xs) (λ d. elim (goesOn b (x ∷ xs) d) [ true ↦ extend b m (x ∷ xs ++ one d) | false ↦ [] ])
-        (λ d. rising-where (goesOn b (x ∷ xs) d) (λ g. extend-rises m x (xs ++ one d) (path-snoc x xs d .1 (h, g))))
-        (λ d p k. let s = mem-where (goesOn b (x ∷ xs) d) (extend b m (x ∷ xs ++ one d)) p .0 k in
-                  let g = extend-to m x (xs ++ one d) p (path-snoc x xs d .1 (h, s .0)) (s .1) in
-                  (g .0, g .1 ∙ append-snoc (x ∷ xs) d (g .0)))
+      (λ d. rising-where (goesOn b (x ∷ xs) d) (λ g. extend-rises m x (xs ++ one d) (path-snoc x xs d .1 (h, g))))
+      (λ d p k. let s = mem-where (goesOn b (x ∷ xs) d) (extend b m (x ∷ xs ++ one d)) p .0 k in
+      let g = extend-to m x (xs ++ one d) p (path-snoc x xs d .1 (h, s .0)) (s .1) in
+      (g .0, g .1 ∙ append-snoc (x ∷ xs) d (g .0)))
 
   -- paths of one length are listed "by their directed numbers in dictionary order"
   paths-rise : (n : ℕ) → Rising Dictionary (pathsOf b n)
   unfolding pathsOf
   paths-rise n =
       rows-rise [] (λ d. extend b (n - 1) (one d)) (λ d. extend-rises (n - 1) d [] (path-one d))
-        (λ d p k. let g = extend-to (n - 1) d [] p (path-one d) k in (g .0, g .1))
+      (λ d p k. let g = extend-to (n - 1) d [] p (path-one d) k in (g .0, g .1))
 
   -- "Runs are listed by j, then by their directed numbers in dictionary order".
   pub runs-rise : (t : Train) → 1 ≤ lengthInSegments b t → Rising Before (runsOf b t)
   unfolding runsOf
   runs-rise t h =
       let sized : (j : ℕ) (p : List ℕ) → List·Memᴰ p (pathsOf b (lengthInSegments b t + j)) → length p ≡ lengthInSegments b t + j
-            = λ j p m. paths-iff (lengthInSegments b t + j) (omega arith) p .0 m .2 in
+      = λ j p m. paths-iff (lengthInSegments b t + j) (omega arith) p .0 m .2 in
       rising-each (λ j. pathsOf b (lengthInSegments b t + j)) (upTo-rises (speedInSegments b t + 1))
-        (λ j. rising-by (paths-rise (lengthInSegments b t + j)) (λ p q m k d. smaller (sized j p m ∙ sym (sized j q k)) d))
-        (λ i j l p q m k. shorter (omega (arith, sized i p m, sized j q k)))
+      (λ j. rising-by (paths-rise (lengthInSegments b t + j)) (λ p q m k d. smaller (sized j p m ∙ sym (sized j q k)) d))
+      (λ i j l p q m k. shorter (omega (arith, sized i p m, sized j q k)))
 
   -- No run is listed twice.
   pub runs-once : (t : Train) → 1 ≤ lengthInSegments b t → (i j : ℕ) → i < j → j < length (runsOf b t)
-    → getD (runsOf b t) i [] ≢ getD (runsOf b t) j []
+      → getD (runsOf b t) i [] ≢ getD (runsOf b t) j []
   runs-once t h i j l k = before-differs (rising-at (runs-rise t h) [] i j l k)

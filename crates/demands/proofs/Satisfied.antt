@@ -42,18 +42,20 @@ module _ (I : Instance) (α : ℕ → Bool) (p : Plan) (code : Codes I α p) (ru
 
   satisfiesB : T (satisfies α (familyB I))
   satisfiesB = meansB I α .1 λ i l t early.
-      let h : t < I .intervals = omega (arith, departs i l) in
-      ( (λ r k a. run≢absent (run-true I α p code i l t h r k a) (away i l t early))
-      , (λ a. absent≢gone (away i l t early) (gone-true I α p code i l t h a)) )
+      let h : t < I .intervals = omega (arith, departs i l) in (
+        (λ r k a. run≢absent (run-true I α p code i l t h r k a) (away i l t early)),
+        (λ a. absent≢gone (away i l t early) (gone-true I α p code i l t h a)),
+      )
 
   -- a move from the departure on is a run or gone
   some-move : (i : ℕ) → i < I .trains → (t : ℕ) → I .departure i ≤ t → t < I .intervals
       → T (any (λ r. α (runVar I i t r)) (upTo (I .runs i))) ⊎ T (α (goneVar I i t))
   some-move i l t late h =
-      elim (which (p .move i t))
-      [ aRun r e ↦ (let a = true-run I α p code i l t h r e in inl (any-upTo (λ r. α (runVar I i t r)) (I .runs i) .1 (r, a .0, a .1)))
-      | isAway e ↦ absurd (present i l t late h e)
-      | hasLeft e ↦ inr (true-gone I α p code i l t h e) ]
+      elim (which (p .move i t)) [
+        | aRun r e ↦ (let a = true-run I α p code i l t h r e in inl (any-upTo (λ r. α (runVar I i t r)) (I .runs i) .1 (r, a .0, a .1)))
+        | isAway e ↦ absurd (present i l t late h e)
+        | hasLeft e ↦ inr (true-gone I α p code i l t h e)
+      ]
 
   -- a lower move is a run, and rules a higher one out
   no-two : (i : ℕ) → i < I .trains → (t : ℕ) → t < I .intervals → (m : ℕ) → m < I .runs i + 1 → (n : ℕ) → m + 1 ≤ n → n < I .runs i + 1
@@ -61,19 +63,21 @@ module _ (I : Instance) (α : ℕ → Bool) (p : Plan) (code : Codes I α p) (ru
   unfolding runVar goneVar
   no-two i l t h m hm n mn hn a b =
       let first = run-true I α p code i l t h m (omega arith) a in
-      elim (le-or-lt (I .runs i) n)
-      [ inl last ↦ (let e : n ≡ I .runs i = omega arith in run≢gone first (gone-true I α p code i l t h (rw (← e) b)))
-      | inr isRun ↦ (let second = run-true I α p code i l t h n isRun b in let e : m ≡ n = cc in omega arith) ]
+      elim (le-or-lt (I .runs i) n) [
+        | inl last ↦ (let e : n ≡ I .runs i = omega arith in run≢gone first (gone-true I α p code i l t h (rw (← e) b)))
+        | inr isRun ↦ (let second = run-true I α p code i l t h n isRun b in let e : m ≡ n = cc in omega arith)
+      ]
 
   satisfiesC : T (satisfies α (familyC I))
   satisfiesC = meansC I α .1 λ i l t late h. (some-move i l t late h, no-two i l t h)
 
   satisfiesD : T (satisfies α (familyD I))
   satisfiesD = meansD I α .1 λ i l.
-      let r = run-of (p .move i (I .departure i)) (I .given i) (means2 I p .0 (rules .two) i l .1) in
-      ( (λ q k n a. let e = run-true I α p code i l _ (departs i l) q k a in
-          let same : r .0 ≡ q = cc in n (subst (λ (x : ℕ). T (I .given i x)) same (r .2)))
-      , (λ a. run≢gone (r .1) (gone-true I α p code i l _ (departs i l) a)) )
+      let r = run-of (p .move i (I .departure i)) (I .given i) (means2 I p .0 (rules .two) i l .1) in (
+        (λ q k n a. let e = run-true I α p code i l _ (departs i l) q k a in
+            let same : r .0 ≡ q = cc in n (subst (λ (x : ℕ). T (I .given i x)) same (r .2))),
+        (λ a. run≢gone (r .1) (gone-true I α p code i l _ (departs i l) a)),
+      )
 
   -- rule 4, of two runs in a row
   following : (i : ℕ) → i < I .trains → (t : ℕ) → t < I .intervals - 1 → (r q : ℕ) → p .move i t ≡ run r → p .move i (t + 1) ≡ run q
@@ -95,27 +99,30 @@ module _ (I : Instance) (α : ℕ → Bool) (p : Plan) (code : Codes I α p) (ru
   unfolding isGone
   satisfiesE = meansE I α .1 λ i l t late h.
       let h′ : t < I .intervals = omega arith in
-      let h″ : t + 1 < I .intervals = omega arith in
-      ( (λ r k a. let e = run-true I α p code i l t h′ r k a in
-          elim (which (p .move i (t + 1)))
-          [ aRun q f ↦ (let b = true-run I α p code i l (t + 1) h″ q f in
-              inl (any-upTo (λ q. I .follows i r q && α (runVar I i (t + 1) q)) (I .runs i) .1
+      let h″ : t + 1 < I .intervals = omega arith in (
+        (λ r k a. let e = run-true I α p code i l t h′ r k a in
+            elim (which (p .move i (t + 1))) [
+              | aRun q f ↦ (let b = true-run I α p code i l (t + 1) h″ q f in
+                  inl (any-upTo (λ q. I .follows i r q && α (runVar I i (t + 1) q)) (I .runs i) .1
                   (q, b .0, and-iff (I .follows i r q) _ .1 (following i l t h r q e f, b .1))))
-          | isAway f ↦ absurd (present i l (t + 1) (omega arith) h″ f)
-          | hasLeft f ↦ inr (and-iff (I .leaves i r) _ .1 (leaving i l t h r e f, true-gone I α p code i l (t + 1) h″ f)) ])
-      , (λ a. let e = gone-true I α p code i l t h′ a in
-          true-gone I α p code i l (t + 1) h″ (gone-of (means3 I p .0 (rules .three) i l .1 t h .1 (rw e tt)))) )
+              | isAway f ↦ absurd (present i l (t + 1) (omega arith) h″ f)
+              | hasLeft f ↦ inr (and-iff (I .leaves i r) _ .1 (leaving i l t h r e f, true-gone I α p code i l (t + 1) h″ f))
+            ]),
+        (λ a. let e = gone-true I α p code i l t h′ a in
+            true-gone I α p code i l (t + 1) h″ (gone-of (means3 I p .0 (rules .three) i l .1 t h .1 (rw e tt)))),
+      )
 
   satisfiesF : T (satisfies α (familyF I))
   unfolding servedBy
   satisfiesF = meansF I α .1 λ i l c k n.
-      elim (means5 I p .0 (rules .five) i l c k)
-      [ inl s ↦ absurd (n s)
-      | inr s ↦ (let f = any-range (λ t. inWindow I i c (t + 1) && runs (p .move i t) (I .serves i c)) (I .departure i) (I .intervals) .0 s in
-          let b = and-iff (inWindow I i c (f .0 + 1)) _ .0 (f .3) in
-          let r = run-of (p .move i (f .0)) (I .serves i c) (b .1) in
-          let a = true-run I α p code i l (f .0) (f .2) (r .0) (r .1) in
-          (f .0, f .1, f .2, (b .0, (r .0, a .0, (r .2, a .1))))) ]
+      elim (means5 I p .0 (rules .five) i l c k) [
+        | inl s ↦ absurd (n s)
+        | inr s ↦ (let f = any-range (λ t. inWindow I i c (t + 1) && runs (p .move i t) (I .serves i c)) (I .departure i) (I .intervals) .0 s in
+            let b = and-iff (inWindow I i c (f .0 + 1)) _ .0 (f .3) in
+            let r = run-of (p .move i (f .0)) (I .serves i c) (b .1) in
+            let a = true-run I α p code i l (f .0) (f .2) (r .0) (r .1) in
+            (f .0, f .1, f .2, (b .0, (r .0, a .0, (r .2, a .1)))))
+      ]
 
   module _ (claiming : Claiming I α p)
       (inside : (i : ℕ) → i < I .trains → (r : ℕ) → r < I .runs i → (s : ℕ) → List·Memᴰ s (I .path i r) → s < I .segments)
@@ -126,7 +133,7 @@ module _ (I : Instance) (α : ℕ → Bool) (p : Plan) (code : Codes I α p) (ru
         let e = run-true I α p code i l t h r k a in
         subst T (sym (claiming i l t h s (inside i l r k s m)))
         (any-iff (λ u. together I (p .border) u s) (ofRun (p .move i t) (I .path i)) .1
-            (s, rw e m, together-refl I (p .border) s))
+        (s, rw e m, together-refl I (p .border) s))
 
     -- a touched segment, as a statement
     touched : (i : ℕ) → i < I .trains → (t : ℕ) → t < I .intervals → (s : ℕ) → s < I .segments → T (α (claimVar I i t s))
@@ -140,21 +147,37 @@ module _ (I : Instance) (α : ℕ → Bool) (p : Plan) (code : Codes I α p) (ru
     satisfiesH = meansH I α .1 λ i l t h n hn s hs u hu m a. decide (p .border n)
         (λ b. inl (subst T (sym (code .borders n hn)) b))
         (λ b. let v = touched i l t h s hs a in
-            let near = neighbours-iff I (p .border) s u .1 (n, hn, b, m) in
-            inr (subst T (sym (claiming i l t h u hu))
-                (any-iff (λ v. together I (p .border) v u) (ofRun (p .move i t) (I .path i)) .1
-                    (v .0, v .1, together-step I (p .border) (v .0) s u hs (v .2) near))))
+        let near = neighbours-iff I (p .border) s u .1 (n, hn, b, m) in
+        inr (subst T (sym (claiming i l t h u hu))
+        (any-iff (λ v. together I (p .border) v u) (ofRun (p .move i t) (I .path i)) .1
+        (v .0, v .1, together-step I (p .border) (v .0) s u hs (v .2) near))))
 
     satisfiesI : T (satisfies α (familyI I))
     satisfiesI = meansI I α .1 λ t h i l j k l′ s hs a b.
         let v = touched i l t h s hs a in
         let w = touched j l′ t h s hs b in
-        means6 I p .0 (rules .six) t h i l j k l′ (v .0, v .1, (w .0, w .1,
-            together-trans I (p .border) (v .0) s (w .0) hs (v .2) (together-sym I (p .border) meets (w .0) s (w .2))))
+        means6 I p .0 (rules .six) t h i l j k l′ (
+          v .0,
+          v .1,
+          (
+            w .0,
+            w .1,
+            together-trans I (p .border) (v .0) s (w .0) hs (v .2) (together-sym I (p .border) meets (w .0) s (w .2)),
+          ),
+        )
 
     pub kept-satisfies : T (satisfies α (extraClauses I (ownVariables I))) → T (satisfies α (formula I))
     kept-satisfies extra =
         from-families I α
-        (record
-        { A = satisfiesA; B = satisfiesB; C = satisfiesC; D = satisfiesD; E = satisfiesE; F = satisfiesF
-        ; G = satisfiesG; H = satisfiesH; J = satisfiesI; extra = extra })
+        (record {
+          A = satisfiesA;
+          B = satisfiesB;
+          C = satisfiesC;
+          D = satisfiesD;
+          E = satisfiesE;
+          F = satisfiesF;
+          G = satisfiesG;
+          H = satisfiesH;
+          J = satisfiesI;
+          extra = extra;
+        })

@@ -14,16 +14,16 @@ use Rattle.laws.proofs.Tests.{and-iff, or-iff, any-upTo, eqb-iff, eqb-sym}
 
 -- two segments are neighbours where they meet at a node that is no border
 pub neighbours-iff : (I : Instance) (border : Borders) (s t : ℕ)
-  → T (neighbours I border s t) ↔ ((n : ℕ) × (n < I .nodes) × T (not (border n)) × T (I .meet n s t))
+    → T (neighbours I border s t) ↔ ((n : ℕ) × (n < I .nodes) × T (not (border n)) × T (I .meet n s t))
 unfolding neighbours
-neighbours-iff I border s t =
-    (λ h. let r = any-upTo (λ n. not (border n) && I .meet n s t) (I .nodes) .0 h in
-          let p = and-iff (not (border (r .0))) (I .meet (r .0) s t) .0 (r .2) in (r .0, r .1, p .0, p .1)
-    , λ r. any-upTo (λ n. not (border n) && I .meet n s t) (I .nodes) .1
-        (r .0, r .1, and-iff (not (border (r .0))) (I .meet (r .0) s t) .1 (r .2, r .3)))
+neighbours-iff I border s t = (
+  λ h. let r = any-upTo (λ n. not (border n) && I .meet n s t) (I .nodes) .0 h in
+      let p = and-iff (not (border (r .0))) (I .meet (r .0) s t) .0 (r .2) in (r .0, r .1, p .0, p .1),
+  λ r. any-upTo (λ n. not (border n) && I .meet n s t) (I .nodes) .1
+      (r .0, r .1, and-iff (not (border (r .0))) (I .meet (r .0) s t) .1 (r .2, r .3)),
+)
 
 module _ (I : Instance) (border : Borders) where
-
   -- together by segments below k, as a statement
   abbrev Below : ℕ → ℕ → ℕ → Type 0
   Below k s t = T (togetherBelow I border k s t)
@@ -32,9 +32,10 @@ module _ (I : Instance) (border : Borders) where
 
   below-zero : (s t : ℕ) → Below zero s t ↔ ((s ≡ t) ⊎ T (neighbours I border s t))
   unfolding togetherBelow
-  below-zero s t =
-      (λ h. elim (or-iff (eqb s t) (neighbours I border s t) .0 h) [ inl e ↦ inl (eqb-iff s t .0 e) | inr nb ↦ inr nb ]
-      , λ h. or-iff (eqb s t) (neighbours I border s t) .1 (elim h [ inl e ↦ inl (eqb-iff s t .1 e) | inr nb ↦ inr nb ]))
+  below-zero s t = (
+    λ h. elim (or-iff (eqb s t) (neighbours I border s t) .0 h) [ inl e ↦ inl (eqb-iff s t .0 e) | inr nb ↦ inr nb ],
+    λ h. or-iff (eqb s t) (neighbours I border s t) .1 (elim h [ inl e ↦ inl (eqb-iff s t .1 e) | inr nb ↦ inr nb ]),
+  )
 
   -- either without segment k or through it
   below-suc : (k s t : ℕ) → Below (suc k) s t ↔ (Below k s t ⊎ (Below k s k × Below k k t))
@@ -42,9 +43,10 @@ module _ (I : Instance) (border : Borders) where
   below-suc k s t =
       let through = togetherBelow I border k s k && togetherBelow I border k k t in
       let both = and-iff (togetherBelow I border k s k) (togetherBelow I border k k t) in
-      let either = or-iff (togetherBelow I border k s t) through in
-      (λ h. elim (either .0 h) [ inl x ↦ inl x | inr y ↦ inr (both .0 y) ]
-      , λ h. either .1 (elim h [ inl x ↦ inl x | inr y ↦ inr (both .1 y) ]))
+      let either = or-iff (togetherBelow I border k s t) through in (
+        λ h. elim (either .0 h) [ inl x ↦ inl x | inr y ↦ inr (both .0 y) ],
+        λ h. either .1 (elim h [ inl x ↦ inl x | inr y ↦ inr (both .1 y) ]),
+      )
 
   -- ---- from the computation to a chain
 
@@ -54,13 +56,15 @@ module _ (I : Instance) (border : Borders) where
 
   below-chain : (k s t : ℕ) → k ≤ I .segments → s < I .segments → t < I .segments → Below k s t → Chain I border s t
   below-chain zero s t hk hs ht h =
-      elim (below-zero s t .0 h)
-      [ inl e ↦ subst (λ (u : ℕ). Chain I border s u) e here
-      | inr nb ↦ link hs ht nb here ]
+      elim (below-zero s t .0 h) [
+        | inl e ↦ subst (λ (u : ℕ). Chain I border s u) e here
+        | inr nb ↦ link hs ht nb here
+      ]
   below-chain (suc k) s t hk hs ht h =
-      elim (below-suc k s t .0 h)
-      [ inl x ↦ below-chain k s t (omega arith) hs ht x
-      | inr y ↦ chain-trans (below-chain k s k (omega arith) hs hk (y .0)) (below-chain k k t (omega arith) hk ht (y .1)) ]
+      elim (below-suc k s t .0 h) [
+        | inl x ↦ below-chain k s t (omega arith) hs ht x
+        | inr y ↦ chain-trans (below-chain k s k (omega arith) hs hk (y .0)) (below-chain k k t (omega arith) hk ht (y .1))
+      ]
 
   -- ---- from a chain to the computation
 
@@ -83,13 +87,14 @@ module _ (I : Instance) (border : Borders) where
   below-trans : (k s j t : ℕ) → j < k → Below k s j → Below k j t → Below k s t
   below-trans zero s j t l g h = let no′ : ⊥ = omega arith in absurd no′
   below-trans (suc k) s j t l g h =
-      below-suc k s t .1 (elim (decLt j k)
-      [ yes l′ ↦ lower (λ a c. below-trans k a j c l′) (below-suc k s j .0 g) (below-suc k j t .0 h)
-      | no n ↦ (let e : j ≡ k = omega arith in
-                inr (below-to k s (subst (λ (i : ℕ). Below (suc k) s i) e g), below-from k t (subst (λ (i : ℕ). Below (suc k) i t) e h))) ])
+      below-suc k s t .1 (elim (decLt j k) [
+        | yes l′ ↦ lower (λ a c. below-trans k a j c l′) (below-suc k s j .0 g) (below-suc k j t .0 h)
+        | no n ↦ (let e : j ≡ k = omega arith in
+            inr (below-to k s (subst (λ (i : ℕ). Below (suc k) s i) e g), below-from k t (subst (λ (i : ℕ). Below (suc k) i t) e h)))
+      ])
     where
       lower : ((a c : ℕ) → Below k a j → Below k j c → Below k a c)
-        → Below k s j ⊎ (Below k s k × Below k k j) → Below k j t ⊎ (Below k j k × Below k k t) → Below k s t ⊎ (Below k s k × Below k k t)
+          → Below k s j ⊎ (Below k s k × Below k k j) → Below k j t ⊎ (Below k j k × Below k k t) → Below k s t ⊎ (Below k s k × Below k k t)
       lower join (inl x) (inl y) = inl (join s t x y)
       lower join (inl x) (inr y) = inr (join s k x (y .0), y .1)
       lower join (inr x) (inl y) = inr (x .0, join k t (x .1) y)
@@ -133,7 +138,7 @@ module _ (I : Instance) (border : Borders) where
         below-zero t s .1 (elim (below-zero s t .0 h) [ inl e ↦ inl (sym e) | inr nb ↦ inr (neighbours-sym s t nb) ])
     below-sym (suc k) s t h =
         below-suc k t s .1
-          (elim (below-suc k s t .0 h) [ inl x ↦ inl (below-sym k s t x) | inr y ↦ inr (below-sym k k t (y .1), below-sym k s k (y .0)) ])
+        (elim (below-suc k s t .0 h) [ inl x ↦ inl (below-sym k s t x) | inr y ↦ inr (below-sym k k t (y .1), below-sym k s k (y .0)) ])
 
     pub together-sym : (s t : ℕ) → T (together I border s t) → T (together I border t s)
     unfolding together

@@ -49,11 +49,21 @@ pub record Parts (b : Book) : Type 0 where
 -- the parts of a well-formed book
 pub parts : (b : Book) → T (wellFormed b) → Parts b
 unfolding wellFormed
-parts b h = let p = simp (and-iff, leb-iff) at h in record
-  { head = p .0 .0 .0 .0 .0; fewNodes = p .0 .0 .0 .0 .1 .0; nodes = p .0 .0 .0 .0 .1 .1
-  ; fewSegments = p .0 .0 .0 .1 .0; segments = p .0 .0 .0 .1 .1
-  ; fewJoins = p .0 .0 .1 .0 .0; joins = p .0 .0 .1 .0 .1; once = p .0 .0 .1 .1
-  ; fewTrains = p .0 .1 .0 .0; someTrain = p .0 .1 .0 .1; trains = p .0 .1 .1; calls = p .1 .0; counts = p .1 .1 }
+parts b h = let p = simp (and-iff, leb-iff) at h in record {
+  head = p .0 .0 .0 .0 .0;
+  fewNodes = p .0 .0 .0 .0 .1 .0;
+  nodes = p .0 .0 .0 .0 .1 .1;
+  fewSegments = p .0 .0 .0 .1 .0;
+  segments = p .0 .0 .0 .1 .1;
+  fewJoins = p .0 .0 .1 .0 .0;
+  joins = p .0 .0 .1 .0 .1;
+  once = p .0 .0 .1 .1;
+  fewTrains = p .0 .1 .0 .0;
+  someTrain = p .0 .1 .0 .1;
+  trains = p .0 .1 .1;
+  calls = p .1 .0;
+  counts = p .1 .1;
+}
 
 -- ---- rows
 
@@ -65,12 +75,12 @@ getD-mem (x ∷ xs) (suc i) d h = List·Memᴰ·tail (getD-mem xs i d (le-of-suc
 
 -- a test of the whole row holds of what stands at a number
 pub all-at {ℓ} : {A : Type ℓ} (f : A → Bool) (xs : List A) (i : ℕ) (d : A) → T (all f xs) → i < length xs
-  → T (f (getD xs i d))
+    → T (f (getD xs i d))
 all-at f xs i d h l = all-iff f xs .0 h (getD xs i d) (getD-mem xs i d l)
 
 -- what stands at a number in a mapped row
 pub map-at {ℓ κ} : {A : Type ℓ} {B : Type κ} (f : A → B) (xs : List A) (i : ℕ) (d : A) (e : B) → i < length xs
-  → getD (map f xs) i e ≡ f (getD xs i d)
+    → getD (map f xs) i e ≡ f (getD xs i d)
 map-at f [] i d e h = absurd (not-suc-le-zero h)
 map-at f (x ∷ xs) zero d e h = refl
 map-at f (x ∷ xs) (suc i) d e h = map-at f xs i d e (le-of-suc-le-suc h)
@@ -99,8 +109,8 @@ module _ (b : Book) where
   extend-below (suc missing) path h = simp (all-each, all-upTo) (λ d l. go d l (goesOn b path d) (extend-below missing (path ++ one d)))
     where
       go : (d : ℕ) → d < 2 * length (b .segments) → (on : Bool)
-        → (T (all (below b) (path ++ one d)) → T (all (all (below b)) (extend b missing (path ++ one d))))
-        → T (all (all (below b)) (elim on [ true ↦ extend b missing (path ++ one d) | false ↦ [] ]))
+          → (T (all (below b) (path ++ one d)) → T (all (all (below b)) (extend b missing (path ++ one d))))
+          → T (all (all (below b)) (elim on [ true ↦ extend b missing (path ++ one d) | false ↦ [] ]))
       go d l true rest = rest (simp (all-append, all-cons, and-iff, ltb-iff) (h, (l, tt)))
       go d l false rest = tt
 
@@ -124,7 +134,7 @@ runs-at b i l = map-at (runsOf b) (b .trains) i noTrain [] l
 module _ (b : Book) (h : T (wellFormed b)) where
   -- a train departs before T, and has at most 256 runs
   train-sound : (i : ℕ) → i < length (b .trains)
-    → (trainAt b i .departure < b .intervals) × (length (runsOf b (trainAt b i)) ≤ 256)
+      → (trainAt b i .departure < b .intervals) × (length (runsOf b (trainAt b i)) ≤ 256)
   unfolding trainFits trainAt noTrain
   train-sound i l =
       let w = parts b h .trains in
@@ -133,7 +143,7 @@ module _ (b : Book) (h : T (wellFormed b)) where
 
   -- a call's window is in order and within T
   call-sound : (i c : ℕ) → c < length (callsOf b i)
-    → (callAt b i c .first ≤ callAt b i c .last) × (callAt b i c .last ≤ b .intervals)
+      → (callAt b i c .first ≤ callAt b i c .last) × (callAt b i c .last ≤ b .intervals)
   unfolding callFits callsOf callAt
   call-sound i c l =
       let w = all-pick (callFits b) (λ k. eqb (k .train) i) (b .calls) (parts b h .calls) in
@@ -142,7 +152,7 @@ module _ (b : Book) (h : T (wellFormed b)) where
 
   -- a run's segments are segments of the book
   path-sound : (i r : ℕ) → i < length (b .trains) → r < length (getD (runLists b) i []) → (s : ℕ)
-    → List·Memᴰ s (map segmentOf (runAt (runLists b) i r)) → s < length (b .segments)
+      → List·Memᴰ s (map segmentOf (runAt (runLists b) i r)) → s < length (b .segments)
   unfolding runAt segmentOf below
   path-sound i r l k s m =
       let w : T (all (all (below b)) (getD (runLists b) i [])) = rw (runs-at b i l) (runs-below b (trainAt b i)) in
@@ -154,12 +164,12 @@ module _ (b : Book) (h : T (wellFormed b)) where
 -- The instance of a well-formed book is sound.
 pub sound : (b : Book) → T (wellFormed b) → Sound (instanceOf b)
 unfolding instanceOf compile deniesBorder forcesBorder
-sound b h = record
-  { departs = λ i l. train-sound b h i l .0
-  ; fewRuns = λ i l. rw (runs-at b i l) (train-sound b h i l .1)
-  ; inside = path-sound b h
-  ; ordered = λ i c l k. call-sound b h i c k .0
-  ; windows = λ i c l k. call-sound b h i c k .1
-  ; kinds = λ n l d f.
-      let e = eqb-iff (nodeKindAt b n) 0 .0 d in let g = eqb-iff (nodeKindAt b n) 2 .0 f in omega arith
-  }
+sound b h = record {
+  departs = λ i l. train-sound b h i l .0;
+  fewRuns = λ i l. rw (runs-at b i l) (train-sound b h i l .1);
+  inside = path-sound b h;
+  ordered = λ i c l k. call-sound b h i c k .0;
+  windows = λ i c l k. call-sound b h i c k .1;
+  kinds = λ n l d f.
+      let e = eqb-iff (nodeKindAt b n) 0 .0 d in let g = eqb-iff (nodeKindAt b n) 2 .0 f in omega arith;
+}

@@ -54,9 +54,10 @@ sum-below : (f : ℕ → ℕ) (n i : ℕ) → i < n → sumTo f i + f i ≤ sumT
 unfolding sumTo
 sum-below f zero i h = omega arith
 sum-below f (suc n) i h =
-    elim (le-or-lt n i)
-    [ inl l ↦ (let e : i ≡ n = omega arith in rw e (omega arith))
-    | inr l ↦ omega (arith, sum-below f n i l) ]
+    elim (le-or-lt n i) [
+      | inl l ↦ (let e : i ≡ n = omega arith in rw e (omega arith))
+      | inr l ↦ omega (arith, sum-below f n i l)
+    ]
 
 module _ (I : Instance) where
   -- the variables of a train's interval are below the count
@@ -106,9 +107,10 @@ module _ (I : Instance) where
   -- C: moves from the departure on
   keptC : Kept (familyC I)
   unfolding Kept familyC
-  keptC = simp tested (λ i l t _ h.
-      ( ((λ r q. run-below i l t h r (omega arith)), gone-below i l t h)
-      , λ m p n _ q. (run-below i l t h m p, run-below i l t h n q) ))
+  keptC = simp tested (λ i l t _ h. (
+    ((λ r q. run-below i l t h r (omega arith)), gone-below i l t h),
+    λ m p n _ q. (run-below i l t h m p, run-below i l t h n q),
+  ))
 
   -- D: moves at the departure
   keptD : Sound I → Kept (familyD I)
@@ -122,10 +124,13 @@ module _ (I : Instance) where
   unfolding Kept familyE
   keptE = simp tested (λ i l t _ k.
       let h : t < I .intervals = omega arith in
-      let h′ : t + 1 < I .intervals = omega arith in
-      ( (λ r q. (run-below i l t h r (omega arith)
-          , ((λ p m _. run-below i l (t + 1) h′ p (omega arith)), λ _. gone-below i l (t + 1) h′)))
-      , (gone-below i l t h, gone-below i l (t + 1) h′) ))
+      let h′ : t + 1 < I .intervals = omega arith in (
+        (λ r q. (
+          run-below i l t h r (omega arith),
+          ((λ p m _. run-below i l (t + 1) h′ p (omega arith)), λ _. gone-below i l (t + 1) h′),
+        )),
+        (gone-below i l t h, gone-below i l (t + 1) h′),
+      ))
 
   -- F: runs from the departure on
   keptF : Kept (familyF I)

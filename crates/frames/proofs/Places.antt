@@ -30,7 +30,7 @@ pub cut-at : (s : Bytes) (at : ℕ) → length s - at < 4 + field s at 2 → fra
 unfolding framedAt
 cut-at s at h = decide (cutShort (drop at s)) (λ t. rw (true-of (cutShort (drop at s)) t) refl)
     (λ n. let k = whole-iff (drop at s) .0 n in
-        let no′ : ⊥ = omega (arith, k, length-drop at s, length-at s at) in absurd no′)
+    let no′ : ⊥ = omega (arith, k, length-drop at s, length-at s at) in absurd no′)
 
 -- enough: the frame
 pub whole-at : (s : Bytes) (at : ℕ) → 4 + field s at 2 ≤ length s - at → framedAt (drop at s) ≡ Whole (field s (at + 2) 2) (field s at 2)

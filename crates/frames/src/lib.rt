@@ -19,6 +19,7 @@ pub struct HeadFrame {}
 
 impl HeadFrame {
     pub const KIND: usize = 1;
+
     pub const LEN: usize = 5;
 
     // The payload's stretch, from its place on.
@@ -37,6 +38,7 @@ pub struct NodeFrame {}
 
 impl NodeFrame {
     pub const KIND: usize = 2;
+
     pub const LEN: usize = 1;
 
     // The payload's stretch, from its place on.
@@ -55,6 +57,7 @@ pub struct SegmentFrame {}
 
 impl SegmentFrame {
     pub const KIND: usize = 3;
+
     pub const LEN: usize = 3;
 
     // The payload's stretch, from its place on.
@@ -73,6 +76,7 @@ pub struct JoinFrame {}
 
 impl JoinFrame {
     pub const KIND: usize = 4;
+
     pub const LEN: usize = 3;
 
     // The payload's stretch, from its place on.
@@ -92,6 +96,7 @@ pub struct TrainFrame {}
 
 impl TrainFrame {
     pub const KIND: usize = 5;
+
     pub const LEN: usize = 6;
 
     // The payload's stretch, from its place on.
@@ -110,6 +115,7 @@ pub struct CallFrame {}
 
 impl CallFrame {
     pub const KIND: usize = 6;
+
     pub const LEN: usize = 4;
 
     // The payload's stretch, from its place on.
@@ -128,6 +134,7 @@ pub struct UnbreakableFrame {}
 
 impl UnbreakableFrame {
     pub const KIND: usize = 7;
+
     pub const LEN: usize = 1;
 
     // The payload's stretch, from its place on.
@@ -146,6 +153,7 @@ pub struct EndFrame {}
 
 impl EndFrame {
     pub const KIND: usize = 8;
+
     pub const LEN: usize = 0;
 
     // The payload's stretch, from its place on.
@@ -165,6 +173,7 @@ pub struct StepFrame {}
 
 impl StepFrame {
     pub const KIND: usize = 20;
+
     pub const LEN: usize = 2;
 
     // The payload's stretch, from its place on.

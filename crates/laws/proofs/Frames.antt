@@ -20,9 +20,10 @@ use Rattle.laws.proofs.Numbers.{bytes, bytes-take, bytes-drop, field-wr
 pub whole-iff : (s : Bytes) → T (not (cutShort s)) ↔ (4 + payloadLength s ≤ length s)
 unfolding cutShort
 whole-iff s =
-    let both = neither-iff (ltb (length s) 4) (ltb (length s) (4 + payloadLength s)) in
-    (λ h. nltb→le (length s) (4 + payloadLength s) (both .0 h .1)
-    , λ l. both .1 (le→nltb (length s) 4 (omega arith), le→nltb (length s) (4 + payloadLength s) l))
+    let both = neither-iff (ltb (length s) 4) (ltb (length s) (4 + payloadLength s)) in (
+      λ h. nltb→le (length s) (4 + payloadLength s) (both .0 h .1),
+      λ l. both .1 (le→nltb (length s) 4 (omega arith), le→nltb (length s) (4 + payloadLength s) l),
+    )
 
 -- ---- a written frame, with the rest of the text behind it
 module _ (kind : ℕ) (p rest : Bytes) (k : kind < 256 ^ 2) (l : length p < 256 ^ 2) where
@@ -107,5 +108,5 @@ module _ (s : Bytes) (b : T (bytes s)) (whole : T (not (cutShort s))) where
   pub frame-read : s ≡ frame (kindField s) (payloadOf s) ++ behind s
   unfolding frame
   frame-read = sym
-    (simp append-assoc
+      (simp append-assoc
       (rw (length-bytes, kind-bytes, payload-behind s, ← drop-drop 2 2 s, take-append-drop 2 (drop 2 s)) (take-append-drop 2 s)))

@@ -140,15 +140,15 @@ module _ (w n : ℕ) (l : n < 256 ^ w) where
   pub mag-signed : mag (signed w n) * 2 < 256 ^ w
   mag-signed =
       decide (ltb (n * 2) (256 ^ w))
-        (λ t. let h = ltb→lt (n * 2) (256 ^ w) t in rw (signed-low w n h) h)
-        (λ t. let h = nltb→le (n * 2) (256 ^ w) t in rw (signed-high w n h) (omega arith))
+      (λ t. let h = ltb→lt (n * 2) (256 ^ w) t in rw (signed-low w n h) h)
+      (λ t. let h = nltb→le (n * 2) (256 ^ w) t in rw (signed-high w n h) (omega arith))
 
   pub unsigned-signed : unsigned w (signed w n) ≡ n
   unfolding unsigned
   unsigned-signed =
       decide (ltb (n * 2) (256 ^ w))
-        (λ t. rw (signed-low w n (ltb→lt (n * 2) (256 ^ w) t)))
-        (λ t. rw (signed-high w n (nltb→le (n * 2) (256 ^ w) t)) (omega arith))
+      (λ t. rw (signed-low w n (ltb→lt (n * 2) (256 ^ w) t)))
+      (λ t. rw (signed-high w n (nltb→le (n * 2) (256 ^ w) t)) (omega arith))
 
 -- ---- a field, byte by byte
 

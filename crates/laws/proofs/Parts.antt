@@ -67,11 +67,12 @@ module _ {ℓ} {A : Type ℓ} where
   part-behind front ys = record { front = front; rest = []; whole = ap (λ (l : List A). front ++ l) (sym (append-nil ys)); place = refl }
 
   pub part-in : {xs ys zs : List A} {n m : ℕ} → Part xs n ys → Part ys m zs → Part xs (n + m) zs
-  part-in {xs} {ys} {zs} p q = record
-    { front = p .front ++ q .front
-    ; rest = q .rest ++ p .rest
-    ; whole = p .whole ∙ ap (λ (l : List A). p .front ++ (l ++ p .rest)) (q .whole) ∙ simp append-assoc
-    ; place = length-append (p .front) (q .front) ∙ ap₂ _+_ (p .place) (q .place) }
+  part-in {xs} {ys} {zs} p q = record {
+    front = p .front ++ q .front;
+    rest = q .rest ++ p .rest;
+    whole = p .whole ∙ ap (λ (l : List A). p .front ++ (l ++ p .rest)) (q .whole) ∙ simp append-assoc;
+    place = length-append (p .front) (q .front) ∙ ap₂ _+_ (p .place) (q .place);
+  }
 
   -- an element of the part
   pub part-at : {xs ys : List A} {n : ℕ} → Part xs n ys → (j : ℕ) (d : A) → j < length ys → getD xs (n + j) d ≡ getD ys j d
@@ -96,11 +97,12 @@ module _ {ℓ} {B : Type ℓ} (f : ℕ → List B) (w : ℕ → ℕ) (sized : (i
   -- the row of an element stands behind the rows before it
   pub part-each : (n i : ℕ) → i < n → Part (each (upTo n) f) (sumTo w i) (f i)
   unfolding each
-  part-each n i h = record
-    { front = each (upTo i) f
-    ; rest = each (range (suc i) n) f
-    ; whole = ap (λ (l : List ℕ). each l f) (upTo-split n i h) ∙ each-append (upTo i) (i ∷ range (suc i) n) f
-    ; place = length-each i }
+  part-each n i h = record {
+    front = each (upTo i) f;
+    rest = each (range (suc i) n) f;
+    whole = ap (λ (l : List ℕ). each l f) (upTo-split n i h) ∙ each-append (upTo i) (i ∷ range (suc i) n) f;
+    place = length-each i;
+  }
 
 pub sum-constant : (w n : ℕ) → sumTo (λ _. w) n ≡ n * w
 unfolding sumTo

@@ -72,4 +72,4 @@ module _ {ℓ} {A : Type ℓ} (f : A → Bool) where
   any-map g (x ∷ xs) = ap (λ (b : Bool). f (g x) || b) (any-map g xs)
 
 pub ruleset rows =
-  ( all-append, any-append, all-one, any-one, all-nil, any-nil, all-cons, any-cons, all-only, any-only, all-each, any-each, all-map, any-map )
+    (all-append, any-append, all-one, any-one, all-nil, any-nil, all-cons, any-cons, all-only, any-only, all-each, any-each, all-map, any-map)

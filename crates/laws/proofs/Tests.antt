@@ -145,19 +145,22 @@ all-upTo f n =
     (λ h i l. all-iff f (upTo n) .0 h i (upTo-mem n i .1 l), λ h. all-iff f (upTo n) .1 (λ i m. h i (upTo-mem n i .0 m)))
 
 pub all-range : (f : ℕ → Bool) (a z : ℕ) → T (all f (range a z)) ↔ ((i : ℕ) → a ≤ i → i < z → T (f i))
-all-range f a z =
-    (λ h i l k. all-iff f (range a z) .0 h i (range-mem a z i .1 (l, k))
-    , λ h. all-iff f (range a z) .1 (λ i m. let r = range-mem a z i .0 m in h i (r .0) (r .1)))
+all-range f a z = (
+  λ h i l k. all-iff f (range a z) .0 h i (range-mem a z i .1 (l, k)),
+  λ h. all-iff f (range a z) .1 (λ i m. let r = range-mem a z i .0 m in h i (r .0) (r .1)),
+)
 
 pub any-upTo : (f : ℕ → Bool) (n : ℕ) → T (any f (upTo n)) ↔ ((i : ℕ) × (i < n) × T (f i))
-any-upTo f n =
-    (λ h. let r = any-iff f (upTo n) .0 h in (r .0, upTo-mem n (r .0) .0 (r .1), r .2)
-    , λ h. any-iff f (upTo n) .1 (h .0, upTo-mem n (h .0) .1 (h .1), h .2))
+any-upTo f n = (
+  λ h. let r = any-iff f (upTo n) .0 h in (r .0, upTo-mem n (r .0) .0 (r .1), r .2),
+  λ h. any-iff f (upTo n) .1 (h .0, upTo-mem n (h .0) .1 (h .1), h .2),
+)
 
 pub any-range : (f : ℕ → Bool) (a z : ℕ) → T (any f (range a z)) ↔ ((i : ℕ) × (a ≤ i) × (i < z) × T (f i))
-any-range f a z =
-    (λ h. let r = any-iff f (range a z) .0 h in let k = range-mem a z (r .0) .0 (r .1) in (r .0, k .0, k .1, r .2)
-    , λ h. any-iff f (range a z) .1 (h .0, range-mem a z (h .0) .1 (h .1, h .2), h .3))
+any-range f a z = (
+  λ h. let r = any-iff f (range a z) .0 h in let k = range-mem a z (r .0) .0 (r .1) in (r .0, k .0, k .1, r .2),
+  λ h. any-iff f (range a z) .1 (h .0, range-mem a z (h .0) .1 (h .1, h .2), h .3),
+)
 
 pub same-iff : (xs ys : List ℕ) → T (same xs ys) ↔ (xs ≡ ys)
 unfolding same

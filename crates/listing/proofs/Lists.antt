@@ -141,7 +141,7 @@ module _ (n : ℕ) (xs ys : List (List ℕ)) where
       fit h =
           let e : (n + length xs) * 16 ≡ n * 16 + length (each xs (padded 16 0)) = omega (arith, length-rows xs s) in
           rw (count-fits h, kept-first h, kept-both h, each-append xs (keptOf (n + length xs) ys) (padded 16 0), e)
-            (sym (sets-append old (n * 16) (each xs (padded 16 0)) (each (keptOf (n + length xs) ys) (padded 16 0))))
+          (sym (sets-append old (n * 16) (each xs (padded 16 0)) (each (keptOf (n + length xs) ys) (padded 16 0))))
 
       over : 256 < n + length xs → rowsAfter (countAfter n xs) ys (rowsAfter n xs old) ≡ rowsAfter n (xs ++ ys) old
       over h = rw (count-over h, kept-over h) (rows-full 257 ys (rowsAfter n xs old) (omega arith))
@@ -153,7 +153,7 @@ module _ (n : ℕ) (xs ys : List (List ℕ)) where
       fit : n + length xs ≤ 256 → sizesAfter (countAfter n xs) ys (sizesAfter n xs old) ≡ sizesAfter n (xs ++ ys) old
       fit h =
           rw (count-fits h, kept-first h, kept-both h, map-append length xs (keptOf (n + length xs) ys))
-            (sym (sets-append old n (map length xs) (map length (keptOf (n + length xs) ys)) ∙ simp length-map))
+          (sym (sets-append old n (map length xs) (map length (keptOf (n + length xs) ys)) ∙ simp length-map))
 
       over : 256 < n + length xs → sizesAfter (countAfter n xs) ys (sizesAfter n xs old) ≡ sizesAfter n (xs ++ ys) old
       over h = rw (count-over h, kept-over h) (sizes-full 257 ys (sizesAfter n xs old) (omega arith))
@@ -185,10 +185,11 @@ module _ {count : ℕ} {rows₀ sizes₀ : Bytes} {runs : List (List ℕ)} {foun
   -- more, behind them
   pub listed-more : {more : List (List ℕ)} {found′ : ℕ} {rows′ sizes′ : Bytes} → T (all short runs)
       → Listed found rows sizes more found′ rows′ sizes′ → Listed count rows₀ sizes₀ (runs ++ more) found′ rows′ sizes′
-  listed-more {more} s k = record
-    { counted = k .counted ∙ ap (λ (n : ℕ). countAfter n more) (l .counted) ∙ count-more count runs more
-    ; filled = k .filled ∙ ap₂ (λ (n : ℕ) (r : Bytes). rowsAfter n more r) (l .counted) (l .filled) ∙ rows-more count runs more rows₀ s
-    ; sized = k .sized ∙ ap₂ (λ (n : ℕ) (r : Bytes). sizesAfter n more r) (l .counted) (l .sized) ∙ sizes-more count runs more sizes₀ }
+  listed-more {more} s k = record {
+    counted = k .counted ∙ ap (λ (n : ℕ). countAfter n more) (l .counted) ∙ count-more count runs more;
+    filled = k .filled ∙ ap₂ (λ (n : ℕ) (r : Bytes). rowsAfter n more r) (l .counted) (l .filled) ∙ rows-more count runs more rows₀ s;
+    sized = k .sized ∙ ap₂ (λ (n : ℕ) (r : Bytes). sizesAfter n more r) (l .counted) (l .sized) ∙ sizes-more count runs more sizes₀;
+  }
 
   -- at 257, whatever more there is adds nothing
   pub listed-full : (more : List (List ℕ)) → T (all short runs) → 257 ≤ found → Listed count rows₀ sizes₀ (runs ++ more) found rows sizes
@@ -196,10 +197,11 @@ module _ {count : ℕ} {rows₀ sizes₀ : Bytes} {runs : List (List ℕ)} {foun
       let e : found ≡ 257 = omega (arith, listed-le) in
       listed-more s
       (subst (λ (n : ℕ). Listed n rows sizes more n rows sizes) (sym e)
-      (record
-        { counted = sym (count-full more)
-        ; filled = sym (rows-full 257 more rows (omega arith))
-        ; sized = sym (sizes-full 257 more sizes (omega arith)) }))
+      (record {
+        counted = sym (count-full more);
+        filled = sym (rows-full 257 more rows (omega arith));
+        sized = sym (sizes-full 257 more sizes (omega arith));
+      }))
 
 -- ---- rows of runs, an element at a time
 
@@ -214,9 +216,10 @@ module _ {ℓ} {B : Type ℓ} (f : ℕ → List B) where
 
   -- the rows of the first d, and the others
   pub each-rest : (n d : ℕ) → d < n → (rest : List B) × (each (upTo n) f ≡ each (upTo d) f ++ rest)
-  each-rest n d h =
-      (each (d ∷ range (suc d) n) f
-      , ap (λ (l : List ℕ). each l f) (upTo-split n d h) ∙ each-append (upTo d) (d ∷ range (suc d) n) f)
+  each-rest n d h = (
+    each (d ∷ range (suc d) n) f,
+    ap (λ (l : List ℕ). each l f) (upTo-split n d h) ∙ each-append (upTo d) (d ∷ range (suc d) n) f,
+  )
 
 module _ (f : ℕ → List (List ℕ)) where
   pub each-short : (n : ℕ) → ((i : ℕ) → i < n → T (all short (f i))) → T (all short (each (upTo n) f))
@@ -282,14 +285,14 @@ module _ (table : Bytes) (n : ℕ) where
   extend-short (suc missing) path h =
       each-short (onward table n missing path) n
       (λ d _. chosen-short (goesOnBy table path d) (extendBy table n missing (path ++ one d))
-        (extend-short missing (path ++ one d) (omega (arith, length-append path (one d)))))
+      (extend-short missing (path ++ one d) (omega (arith, length-append path (one d)))))
 
   pub onward-short : (missing : ℕ) (path : List ℕ) → length path + missing < 16 → (d : ℕ)
       → T (all short (each (upTo d) (onward table n missing path)))
   onward-short missing path h d =
       each-short (onward table n missing path) d
       (λ i _. chosen-short (goesOnBy table path i) (extendBy table n missing (path ++ one i))
-        (extend-short missing (path ++ one i) (omega (arith, length-append path (one i)))))
+      (extend-short missing (path ++ one i) (omega (arith, length-append path (one i)))))
 
   module _ (size : ℕ) (h : 1 ≤ size) (k : size ≤ 16) where
     pub from-short : (d : ℕ) → T (all short (each (upTo d) (λ i. extendBy table n (size - 1) (one i))))
@@ -327,7 +330,7 @@ module _ (b : Book) where
     unfolding leadsRows leadsRow
     row-at n e h l =
         getD-sets-in (leadsRows b n old) (n * 128) (leadsRow b n) e 0 (omega (arith, length-leadsRow n))
-          (omega (arith, length-leadsRow n, length-leadsRows n old))
+        (omega (arith, length-leadsRow n, length-leadsRows n old))
         ∙ map-at (λ x. bit (leadsTo b n x)) (2 * length (b .segments)) e 0 l
 
     -- the table says which directed segment leads to which
@@ -338,7 +341,7 @@ module _ (b : Book) where
     leads-at (suc n) d e h k l =
         ⊎-elim
         (λ m.
-          getD-sets-below (leadsRows b n old) (n * 128) (leadsRow b n) (d * 128 + e) 0 (omega arith) ∙ leads-at n d e (omega arith) m l)
+        getD-sets-below (leadsRows b n old) (n * 128) (leadsRow b n) (d * 128 + e) 0 (omega arith) ∙ leads-at n d e (omega arith) m l)
         (λ m. let same : d ≡ n = omega arith in rw same (row-at n e (omega arith) l))
         (le-or-lt (suc d) n)
 
@@ -376,7 +379,7 @@ module _ (b : Book) (t : Train) (old : Bytes) (room : length old ≡ 16384) (few
   runs-same l k n table el ek en et =
       rw (et, en, el, ek)
       (each-same (λ i. pathsBy (leadsRows b (2 * length (b .segments)) old) (2 * length (b .segments)) (lengthInSegments b t + i))
-        (λ i. pathsOf b (lengthInSegments b t + i)) (speedInSegments b t + 1) (λ i _. paths-same b old room few (lengthInSegments b t + i)))
+      (λ i. pathsOf b (lengthInSegments b t + i)) (speedInSegments b t + 1) (λ i _. paths-same b old room few (lengthInSegments b t + i)))
 
 -- what a train's numbers may be
 pub reach : (b : Book) (t : Train) → T (reachFits b t)

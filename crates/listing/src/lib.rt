@@ -108,7 +108,15 @@ pub fn keep(rows: &mut [u8], sizes: &mut [u8], count: usize, path: Path)
 
 // Lists the paths that extend a path by `missing` segments, in dictionary order, behind the first
 // `count`; answers how many runs there are then, as far as 257. `missing` falls at each call.
-pub fn extend(table: &[u8], directed: usize, rows: &mut [u8], sizes: &mut [u8], count: usize, path: Path, missing: usize) -> usize
+pub fn extend(
+    table: &[u8],
+    directed: usize,
+    rows: &mut [u8],
+    sizes: &mut [u8],
+    count: usize,
+    path: Path,
+    missing: usize,
+) -> usize
     requires { ⌜ (length (now table) ≡ 16384) × (directed ≤ 128) × (length (now rows) ≡ 4096) × (length (now sizes) ≡ 256) × (count ≤ 256)
         × (path ≡ packedPath (pathOf path)) × (1 ≤ path .n) × (path .n + missing ≤ 16) ⌝ }
     ensures { λ r. ⌜ (r ≡ countAfter count (extendBy (now (table .entry)) directed missing (pathOf path)))
@@ -123,7 +131,15 @@ pub fn extend(table: &[u8], directed: usize, rows: &mut [u8], sizes: &mut [u8], 
     let mut d = 0;
     while d < directed && found < 257 {
         if goes_on(table, path, d) {
-            found = extend(table, directed, rows, sizes, found, pushed(path, d), missing - 1);
+            found = extend(
+                table,
+                directed,
+                rows,
+                sizes,
+                found,
+                pushed(path, d),
+                missing - 1,
+            );
         }
         d += 1;
     }
@@ -131,7 +147,14 @@ pub fn extend(table: &[u8], directed: usize, rows: &mut [u8], sizes: &mut [u8], 
 }
 
 // Lists the paths of `size` segments behind the first `count`.
-pub fn list_paths(table: &[u8], directed: usize, rows: &mut [u8], sizes: &mut [u8], count: usize, size: usize) -> usize
+pub fn list_paths(
+    table: &[u8],
+    directed: usize,
+    rows: &mut [u8],
+    sizes: &mut [u8],
+    count: usize,
+    size: usize,
+) -> usize
     requires { ⌜ (length (now table) ≡ 16384) × (directed ≤ 128) × (length (now rows) ≡ 4096) × (length (now sizes) ≡ 256) × (count ≤ 257)
         × (1 ≤ size) × (size ≤ 16) ⌝ }
     ensures { λ r. ⌜ (r ≡ countAfter count (pathsBy (now (table .entry)) directed size))

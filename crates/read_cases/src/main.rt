@@ -10,7 +10,12 @@ ghost use lib.ListN.{length};
 
 // A number in three digits, and a byte behind it.
 fn print_number(n: usize, end: u8) {
-    let digits = [(n / 100 % 10) as u8 + 48, (n / 10 % 10) as u8 + 48, (n % 10) as u8 + 48, end];
+    let digits = [
+        (n / 100 % 10) as u8 + 48,
+        (n / 10 % 10) as u8 + 48,
+        (n % 10) as u8 + 48,
+        end,
+    ];
     io::write_all(STDOUT_FILENO, &digits);
 }
 

@@ -41,9 +41,10 @@ found-added k n b p e = sym (ap (λ o. addedFound b o p) (ap (λ m. findKind m k
 -- a number with a rank that is none of the first seven kinds' is the End's
 pub is-end : (n : ℕ) → rank n < 9 → n ≢ 1 → n ≢ 2 → n ≢ 3 → n ≢ 4 → n ≢ 5 → n ≢ 6 → n ≢ 7 → n ≡ 8
 is-end n l a b c d e f g =
-    elim (ℕ-discrete n 8)
-    [ yes h ↦ h
-    | no h ↦ (let r = rank-other n a b c d e f g h in let no′ : ⊥ = omega arith in absurd no′) ]
+    elim (ℕ-discrete n 8) [
+      | yes h ↦ h
+      | no h ↦ (let r = rank-other n a b c d e f g h in let no′ : ⊥ = omega arith in absurd no′)
+    ]
 
 -- the End's content: nothing but its length
 pub end-long : (b : Book) (p : Bytes) → length p ≢ 0 → firstFault (kindFaults b (some endKind) p) ≡ some 4
@@ -66,7 +67,8 @@ growing-segments b g = g .segments .1
 
 pub growing-calls : (b : Book) → Growing b → CallsFew b
 unfolding Few callFits
-growing-calls b g = record
-  { known = all-iff _ (b .calls) .1 (λ c m. (simp and-iff at (all-iff _ (b .calls) .0 (g .calls) c m)) .0 .0 .0)
-  ; few = g .fewCalls
-  ; trains = g .trains .0 }
+growing-calls b g = record {
+  known = all-iff _ (b .calls) .1 (λ c m. (simp and-iff at (all-iff _ (b .calls) .0 (g .calls) c m)) .0 .0 .0);
+  few = g .fewCalls;
+  trains = g .trains .0;
+}

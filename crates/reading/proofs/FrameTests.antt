@@ -52,8 +52,8 @@ rank-some n [] h = absurd h
 rank-some n (k ∷ ks) h = decide (eqb n (kindNumber k))
     (λ t. rw (true-of (eqb n (kindNumber k)) t, rankIn) (omega arith))
     (λ f. let e = denied-of (eqb n (kindNumber k)) f in
-        let m = rank-some n ks (rw e at h) in
-        rw (e, rankIn) (omega arith))
+    let m = rank-some n ks (rw e at h) in
+    rw (e, rankIn) (omega arith))
 
 rank-none : (n : ℕ) (ks : List Kind) → (T (any (λ k. eqb n (kindNumber k)) ks) → ⊥) → rankIn n ks ≡ suc (length ks)
 unfolding any rankIn

@@ -45,7 +45,7 @@ module _ (r : Reading) (s : Bytes) (at : ℕ) where
   -- further on there is no fault, and the place and the book are those behind the frame
   pub more-of : (a l : ℕ) (o : Option ℕ) (b : Bool) → steppedBy o b r s at .next ≡ More a l
       → (o ≡ none) × (b ≡ false) × (a ≡ at + (4 + payloadLength s)) × (l ≡ rank (kindField s))
-        × (steppedBy o b r s at .book ≡ packed (pastFrame r s .book))
+      × (steppedBy o b r s at .book ≡ packed (pastFrame r s .book))
   more-of a l (some m) b e = never cc
   more-of a l none true e = never cc
   more-of a l none false e = (refl, refl, (cc), (cc), refl)
@@ -76,7 +76,7 @@ module _ (s : Bytes) (r : Reading) (at : ℕ) (way : ReadsTo s r (drop at s)) wh
   goes-way e f =
       subst (ReadsTo s (pastFrame r (drop at s))) (drop-drop (4 + payloadLength (drop at s)) at s)
       (next way (goes-iff r (drop at s) _ _ .1
-          (record { clear = first-none _ e; notEnd = from-denied f; reading = refl; rest = refl })))
+      (record { clear = first-none _ e; notEnd = from-denied f; reading = refl; rest = refl })))
 
 -- ---- one step's answer
 

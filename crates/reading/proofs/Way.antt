@@ -125,20 +125,23 @@ module _ (s : Bytes) (book : BookStruct) (last at : ℕ) (w : OnWay s book last 
     way-more a l e =
         let m = more-of (w .reading) (drop at s) at a l _ _ (sym (ap (λ (x : Stepped). x .next) by-reading) ∙ e) in
         let f = fine (w .reading) (drop at s) (first-none _ (m .0)) in
-        let k = whole-iff (drop at s) .0 (f .whole) in
-        ( record
-          { reading = pastFrame (w .reading) (drop at s)
-          ; same = ap (λ (x : Stepped). x .book) by-reading ∙ m .4
-          ; rank-is = m .3
-          ; inside = omega (arith, k, m .2, length-drop at s, w .inside)
-          ; isBytes = w .isBytes
-          ; way = subst (λ (n : ℕ). ReadsTo s (pastFrame (w .reading) (drop at s)) (drop n s)) (sym (m .2)) (goes-way s (w .reading) at (w .way) (m .0) (m .1)) }
-        , omega (arith, m .2) )
+        let k = whole-iff (drop at s) .0 (f .whole) in (
+          record {
+            reading = pastFrame (w .reading) (drop at s);
+            same = ap (λ (x : Stepped). x .book) by-reading ∙ m .4;
+            rank-is = m .3;
+            inside = omega (arith, k, m .2, length-drop at s, w .inside);
+            isBytes = w .isBytes;
+            way = subst (λ (n : ℕ). ReadsTo s (pastFrame (w .reading) (drop at s)) (drop n s)) (sym (m .2)) (goes-way s (w .reading) at (w .way) (m .0) (m .1));
+          },
+          omega (arith, m .2),
+        )
 
     -- what the book's own refusals ask, at the End
     pub way-finish : st .next ≡ End → Packed book × Growing (held book) × FitsFields (held book)
     way-finish e =
-        let g = way-growing e in
-        ( way-packed
-        , subst (λ (r : Reading). Growing (r .book)) (sym here-is) (g .1)
-        , subst (λ (r : Reading). FitsFields (r .book)) (sym here-is) (reads-fit (w .isBytes) (w .way) (g .0)) )
+        let g = way-growing e in (
+          way-packed,
+          subst (λ (r : Reading). Growing (r .book)) (sym here-is) (g .1),
+          subst (λ (r : Reading). FitsFields (r .book)) (sym here-is) (reads-fit (w .isBytes) (w .way) (g .0)),
+        )

@@ -114,7 +114,7 @@ module _ (b : BookStruct) (w : Packed b) (last : ℕ) (s : Bytes) (at kind len :
     fine-here : a .checked ≡ Fine
         → (firstFault (kindFaults (held b) (findKind (kindField (drop at s)) kindOrder) (payloadOf (drop at s))) ≡ none)
         × (addedFound (held b) (findKind (kindField (drop at s)) kindOrder) (payloadOf (drop at s)) .book
-            ≡ packed (addFound (held b) (findKind (kindField (drop at s)) kindOrder) (payloadOf (drop at s))))
+        ≡ packed (addFound (held b) (findKind (kindField (drop at s)) kindOrder) (payloadOf (drop at s))))
     unfolding addedFound
     fine-here e = settled-fine _ _ _ (sym (ap (λ (x : Added). x .checked) answered) ∙ e)
 

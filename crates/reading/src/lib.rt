@@ -1,6 +1,7 @@
 // Reading a book: the frames in file order, each through its refusals by rising number, then the
 // book's own. `read_book` is the entry point: it takes any bytes, and answers the book by value or one
 // numbered refusal. Assumes nothing.
+use checks::calls_of;
 use content::Added;
 use content::Checked;
 use content::add_call;
@@ -22,7 +23,6 @@ use frames::UnbreakableFrame;
 use frames::frame_at;
 use frames::out_of_order;
 use frames::rank;
-use checks::calls_of;
 use listing::list_runs;
 use model::Book;
 use model::Call;
@@ -75,9 +75,24 @@ pub fn empty_book() -> Book
         call_count: 0,
         nodes: [0u8; 96],
         segments: [Segment { a: 0, b: 0, ttd: 0 }; 64],
-        joins: [Join { node: 0, left: 0, right: 0 }; 128],
-        trains: [Train { metres: 0, speed: 0, departure: 0, size: 0, place: [0u8; 8] }; 8],
-        calls: [Call { train: 0, segment: 0, first: 0, last: 0 }; 32],
+        joins: [Join {
+            node: 0,
+            left: 0,
+            right: 0,
+        }; 128],
+        trains: [Train {
+            metres: 0,
+            speed: 0,
+            departure: 0,
+            size: 0,
+            place: [0u8; 8],
+        }; 8],
+        calls: [Call {
+            train: 0,
+            segment: 0,
+            first: 0,
+            last: 0,
+        }; 32],
     }
 }
 

@@ -182,32 +182,36 @@ starred =
     -- *101 m gives 2
     ∷ record { asked = reach (pairBook joinFrame 101 36 (0 ∷ 2 ∷ [])); answer = rows ((2 ∷ 1 ∷ []) ∷ []) }
     -- *joined at 1, six runs; *unjoined, four
-    ∷ record
-      { asked = runList (pairBook joinFrame 100 36 (0 ∷ []))
-      ; answer = rows ((0 ∷ []) ∷ (1 ∷ []) ∷ (2 ∷ []) ∷ (3 ∷ []) ∷ (0 ∷ 2 ∷ []) ∷ (3 ∷ 1 ∷ []) ∷ []) }
-    ∷ record
-      { asked = runList (pairBook [] 100 36 (0 ∷ []))
-      ; answer = rows ((0 ∷ []) ∷ (1 ∷ []) ∷ (2 ∷ []) ∷ (3 ∷ []) ∷ []) }
+    ∷ record {
+      asked = runList (pairBook joinFrame 100 36 (0 ∷ []));
+      answer = rows ((0 ∷ []) ∷ (1 ∷ []) ∷ (2 ∷ []) ∷ (3 ∷ []) ∷ (0 ∷ 2 ∷ []) ∷ (3 ∷ 1 ∷ []) ∷ []);
+    }
+    ∷ record {
+      asked = runList (pairBook [] 100 36 (0 ∷ []));
+      answer = rows ((0 ∷ []) ∷ (1 ∷ []) ∷ (2 ∷ []) ∷ (3 ∷ []) ∷ []);
+    }
     -- *Three segments in a row, border at node 1: sections {0} and {1, 2}; *in a ring one border divides nothing
     ∷ record { asked = sections (tripleBook 3) 1; answer = rows ((0 ∷ []) ∷ (1 ∷ 2 ∷ []) ∷ (1 ∷ 2 ∷ []) ∷ []) }
-    ∷ record
-      { asked = sections (tripleBook 0) 1
-      ; answer = rows ((0 ∷ 1 ∷ 2 ∷ []) ∷ (0 ∷ 1 ∷ 2 ∷ []) ∷ (0 ∷ 1 ∷ 2 ∷ []) ∷ []) }
+    ∷ record {
+      asked = sections (tripleBook 0) 1;
+      answer = rows ((0 ∷ 1 ∷ 2 ∷ []) ∷ (0 ∷ 1 ∷ 2 ∷ []) ∷ (0 ∷ 1 ∷ 2 ∷ []) ∷ []);
+    }
     -- *Book L's text: "p cnf 6 10", "-1 0", "-2 0", "3 4 5 0", "-3 -4 0", "-3 -5 0", "-4 -5 0", "-4 0", "-5 0", "-3 6 0", "-4 6 0"
-    ∷ record
-      { asked = printed bookL
-      ; answer = text
-        (112 ∷ 32 ∷ 99 ∷ 110 ∷ 102 ∷ 32 ∷ 54 ∷ 32 ∷ 49 ∷ 48 ∷ 10
-        ∷ 45 ∷ 49 ∷ 32 ∷ 48 ∷ 10
-        ∷ 45 ∷ 50 ∷ 32 ∷ 48 ∷ 10
-        ∷ 51 ∷ 32 ∷ 52 ∷ 32 ∷ 53 ∷ 32 ∷ 48 ∷ 10
-        ∷ 45 ∷ 51 ∷ 32 ∷ 45 ∷ 52 ∷ 32 ∷ 48 ∷ 10
-        ∷ 45 ∷ 51 ∷ 32 ∷ 45 ∷ 53 ∷ 32 ∷ 48 ∷ 10
-        ∷ 45 ∷ 52 ∷ 32 ∷ 45 ∷ 53 ∷ 32 ∷ 48 ∷ 10
-        ∷ 45 ∷ 52 ∷ 32 ∷ 48 ∷ 10
-        ∷ 45 ∷ 53 ∷ 32 ∷ 48 ∷ 10
-        ∷ 45 ∷ 51 ∷ 32 ∷ 54 ∷ 32 ∷ 48 ∷ 10
-        ∷ 45 ∷ 52 ∷ 32 ∷ 54 ∷ 32 ∷ 48 ∷ 10 ∷ []) }
+    ∷ record {
+      asked = printed bookL;
+      answer = text
+          (112 ∷ 32 ∷ 99 ∷ 110 ∷ 102 ∷ 32 ∷ 54 ∷ 32 ∷ 49 ∷ 48 ∷ 10
+          ∷ 45 ∷ 49 ∷ 32 ∷ 48 ∷ 10
+          ∷ 45 ∷ 50 ∷ 32 ∷ 48 ∷ 10
+          ∷ 51 ∷ 32 ∷ 52 ∷ 32 ∷ 53 ∷ 32 ∷ 48 ∷ 10
+          ∷ 45 ∷ 51 ∷ 32 ∷ 45 ∷ 52 ∷ 32 ∷ 48 ∷ 10
+          ∷ 45 ∷ 51 ∷ 32 ∷ 45 ∷ 53 ∷ 32 ∷ 48 ∷ 10
+          ∷ 45 ∷ 52 ∷ 32 ∷ 45 ∷ 53 ∷ 32 ∷ 48 ∷ 10
+          ∷ 45 ∷ 52 ∷ 32 ∷ 48 ∷ 10
+          ∷ 45 ∷ 53 ∷ 32 ∷ 48 ∷ 10
+          ∷ 45 ∷ 51 ∷ 32 ∷ 54 ∷ 32 ∷ 48 ∷ 10
+          ∷ 45 ∷ 52 ∷ 32 ∷ 54 ∷ 32 ∷ 48 ∷ 10 ∷ []);
+    }
     -- *Window 0 to 1: clause 19 is 6 7; the empty step with hints 16, 17, 19 is accepted, *with 19, 16, 17 refused by 20
     ∷ record { asked = clauseNumber 19 (bookM 1); answer = clause (pos 6 ∷ pos 7 ∷ []) }
     ∷ record { asked = refuted (bookM 1) (emptyStep (16 ∷ 17 ∷ 19 ∷ [])); answer = yes-accepted }
@@ -236,9 +240,10 @@ further =
     ∷ record { asked = reach (headFrame ++ endFrame); answer = refusal 10 0 }
     ∷ record { asked = reach crowdedBook; answer = refusal 11 0 }
     -- an unbreakable TTD passes where its nodes can have no border
-    ∷ record
-      { asked = reach (headFrame ++ nodeFrame 0 ++ nodeFrame 0 ++ segmentFrame 0 1 ++ trainFrame 80 36 (0 ∷ []) ++ callFrame 0 0 1 ++ frame 7 (0 ∷ []) ++ endFrame)
-      ; answer = rows ((1 ∷ 1 ∷ []) ∷ []) }
+    ∷ record {
+      asked = reach (headFrame ++ nodeFrame 0 ++ nodeFrame 0 ++ segmentFrame 0 1 ++ trainFrame 80 36 (0 ∷ []) ++ callFrame 0 0 1 ++ frame 7 (0 ∷ []) ++ endFrame);
+      answer = rows ((1 ∷ 1 ∷ []) ∷ []);
+    }
     -- 12: L has 27 words
     ∷ record { asked = totalsOf bookL 26; answer = refusal 12 0 }
     ∷ record { asked = totalsOf bookL 27; answer = rows ((6 ∷ 10 ∷ 27 ∷ 27 ∷ []) ∷ []) }
@@ -251,12 +256,14 @@ further =
     ∷ record { asked = refuted (bookM 1) (1 ∷ []); answer = refusal 17 1 }
     ∷ record { asked = refuted (bookM 1) (fileOf (one (record { literals = pos 0 ∷ []; hints = [] }))); answer = refusal 18 1 }
     ∷ record { asked = refuted (bookM 1) (emptyStep (0 ∷ [])); answer = refusal 19 1 }
-    ∷ record
-      { asked = refuted (bookM 1) (fileOf (record { literals = negsuc 5 ∷ []; hints = 16 ∷ [] } ∷ one (record { literals = []; hints = 17 ∷ 19 ∷ [] })))
-      ; answer = refusal 20 2 }
-    ∷ record
-      { asked = refuted (bookM 1) (fileOf (record { literals = negsuc 5 ∷ []; hints = 16 ∷ [] } ∷ one (record { literals = []; hints = 26 ∷ 17 ∷ 19 ∷ [] })))
-      ; answer = yes-accepted }
+    ∷ record {
+      asked = refuted (bookM 1) (fileOf (record { literals = negsuc 5 ∷ []; hints = 16 ∷ [] } ∷ one (record { literals = []; hints = 17 ∷ 19 ∷ [] })));
+      answer = refusal 20 2;
+    }
+    ∷ record {
+      asked = refuted (bookM 1) (fileOf (record { literals = negsuc 5 ∷ []; hints = 16 ∷ [] } ∷ one (record { literals = []; hints = 26 ∷ 17 ∷ 19 ∷ [] })));
+      answer = yes-accepted;
+    }
     ∷ record { asked = refuted (bookM 1) []; answer = refusal 21 0 }
     -- N: the totals, and a clause of each family
     ∷ record { asked = totalsOf bookN 1000; answer = rows ((57 ∷ 218 ∷ 687 ∷ 687 ∷ []) ∷ []) }
@@ -277,16 +284,17 @@ further =
     ∷ record { asked = encodes bookN planN 57; answer = text assignmentN }
     ∷ record { asked = decodes bookN assignmentN 15; answer = text planN }
     -- without the border each train claims the whole section
-    ∷ record
-      { asked = encodes bookN (0 ∷ 0 ∷ 0 ∷ 254 ∷ 255 ∷ 4 ∷ 0 ∷ 2 ∷ 0 ∷ 2 ∷ 0 ∷ 255 ∷ 255 ∷ 255 ∷ 255 ∷ []) 57
-      ; answer = text
-        (0 ∷ 0 ∷ 0
-        ∷ 0 ∷ 0 ∷ 0 ∷ 0 ∷ 0 ∷ 0 ∷ 0 ∷ 0 ∷ 0
-        ∷ 0 ∷ 0 ∷ 0 ∷ 0 ∷ 1 ∷ 0 ∷ 0 ∷ 1 ∷ 1
-        ∷ 0 ∷ 0 ∷ 1 ∷ 0 ∷ 0 ∷ 0 ∷ 0 ∷ 1 ∷ 1
-        ∷ 0 ∷ 0 ∷ 1 ∷ 0 ∷ 0 ∷ 0 ∷ 0 ∷ 1 ∷ 1
-        ∷ 0 ∷ 0 ∷ 0 ∷ 0 ∷ 0 ∷ 0 ∷ 1 ∷ 0 ∷ 0
-        ∷ 0 ∷ 0 ∷ 0 ∷ 0 ∷ 0 ∷ 0 ∷ 1 ∷ 0 ∷ 0 ∷ []) }
+    ∷ record {
+      asked = encodes bookN (0 ∷ 0 ∷ 0 ∷ 254 ∷ 255 ∷ 4 ∷ 0 ∷ 2 ∷ 0 ∷ 2 ∷ 0 ∷ 255 ∷ 255 ∷ 255 ∷ 255 ∷ []) 57;
+      answer = text
+          (0 ∷ 0 ∷ 0
+          ∷ 0 ∷ 0 ∷ 0 ∷ 0 ∷ 0 ∷ 0 ∷ 0 ∷ 0 ∷ 0
+          ∷ 0 ∷ 0 ∷ 0 ∷ 0 ∷ 1 ∷ 0 ∷ 0 ∷ 1 ∷ 1
+          ∷ 0 ∷ 0 ∷ 1 ∷ 0 ∷ 0 ∷ 0 ∷ 0 ∷ 1 ∷ 1
+          ∷ 0 ∷ 0 ∷ 1 ∷ 0 ∷ 0 ∷ 0 ∷ 0 ∷ 1 ∷ 1
+          ∷ 0 ∷ 0 ∷ 0 ∷ 0 ∷ 0 ∷ 0 ∷ 1 ∷ 0 ∷ 0
+          ∷ 0 ∷ 0 ∷ 0 ∷ 0 ∷ 0 ∷ 0 ∷ 1 ∷ 0 ∷ 0 ∷ []);
+    }
     -- 15, and each rule broken: a border that kind 0 denies, a run before the departure, gone away from the goal, a run from
     -- elsewhere, a call missed, and two trains in a section while one passes to where the other stands
     ∷ record { asked = encodes bookN (0 ∷ 1 ∷ 0 ∷ 254 ∷ 255 ∷ 6 ∷ 0 ∷ 2 ∷ 0 ∷ 2 ∷ 0 ∷ 255 ∷ 255 ∷ 255 ∷ 255 ∷ []) 57; answer = refusal 15 0 }

@@ -53,11 +53,11 @@ returns-2 c =
     refuses headKind (s .pre) _
     (length-right _ _ headKind (eq-eqb _ _ (l .if1 .left))
     ∙ head-wrong _ _ (λ h i j k.
-        ⊎-elim (λ w. omega arith)
-        (⊎-elim (λ w. omega (arith, ltb-true (a .before .before .pair2 .result) 1 (w .1 .taken)))
-        (⊎-elim (λ w. omega (arith, ltb-true (a .wide .result) 1 (w .2 .taken)))
-        (λ w. omega (arith, ltb-true 32 (a .wide .result) (w .3 .taken)))))
-        (c .before .if2 .came)))
+    ⊎-elim (λ w. omega arith)
+    (⊎-elim (λ w. omega (arith, ltb-true (a .before .before .pair2 .result) 1 (w .1 .taken)))
+    (⊎-elim (λ w. omega (arith, ltb-true (a .wide .result) 1 (w .2 .taken)))
+    (λ w. omega (arith, ltb-true 32 (a .wide .result) (w .3 .taken)))))
+    (c .before .if2 .came)))
     (c .refused2 .ensures)
 
 fine-requires : tie.Need-fine-requires

@@ -98,8 +98,8 @@ again-is c t e =
     let p = s .args .p .now in
     let x : Join = record { node = getD p 0 0; left = getD p 1 0; right = getD p 2 0 } in
     let f : joined (held (s .args .b)) (w .before .before .wide .result) (w .before .wide2 .result) (w .wide3 .result)
-        ≡ joinRepeats (held (s .args .b) .joins) x
-        = simp (w .before .before .wide .ensures .0, w .before .wide2 .ensures .0, w .wide3 .ensures .0) in
+    ≡ joinRepeats (held (s .args .b) .joins) x
+    = simp (w .before .before .wide .ensures .0, w .before .wide2 .ensures .0, w .wide3 .ensures .0) in
     sym (ap (joinRepeats (held (s .args .b) .joins)) (join-read p (l .if1 .left))) ∙ sym f ∙ sym (c .joined .ensures) ∙ e
 
 returns-4 : tie.Need-returns-4
@@ -114,7 +114,7 @@ returns-4 c =
     refuses joinKind (s .pre) _
     (length-right _ _ joinKind (eq-eqb _ _ (l .if1 .left))
     ∙ join-again _ _ (omega (arith, a .before .before .before .before .if2 .left)) (fits-is a true (not-false _ (i .if3 .left)))
-        (again-is g true (c .before .if4 .taken)))
+    (again-is g true (c .before .if4 .taken)))
     (c .refused4 .ensures)
 
 mul-j : tie.Need-mul-j

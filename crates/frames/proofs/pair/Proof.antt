@@ -33,9 +33,10 @@ add-result c =
 returns : tie.Need-returns
 returns c =
     let s = c .before .before .args .s .now in
-    let at = c .before .before .args .at in
-    ( sym (field-two s at (omega arith))
-    , omega (arith, c .shared-slice-known2 .given at, c .shared-slice-known2 .given (at + 1)) )
+    let at = c .before .before .args .at in (
+      sym (field-two s at (omega arith)),
+      omega (arith, c .shared-slice-known2 .given at, c .shared-slice-known2 .given (at + 1)),
+    )
 
 pub pair-spec : {M : Type 1} → statement M
 pair-spec =

@@ -40,13 +40,13 @@ returns-8 c = sym (ap rank (c .if8 .taken))
 returns-9 : tie.Need-returns-9
 returns-9 c =
     sym (rank-other _ (c .before .before .before .before .before .before .before .if1 .left)
-        (c .before .before .before .before .before .before .if2 .left)
-        (c .before .before .before .before .before .if3 .left)
-        (c .before .before .before .before .if4 .left)
-        (c .before .before .before .if5 .left)
-        (c .before .before .if6 .left)
-        (c .before .if7 .left)
-        (c .if8 .left))
+    (c .before .before .before .before .before .before .if2 .left)
+    (c .before .before .before .before .before .if3 .left)
+    (c .before .before .before .before .if4 .left)
+    (c .before .before .before .if5 .left)
+    (c .before .before .if6 .left)
+    (c .before .if7 .left)
+    (c .if8 .left))
 
 pub rank-spec : {M : Type 1} → statement M
 rank-spec =

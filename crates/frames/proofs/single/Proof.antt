@@ -17,9 +17,10 @@ cast-result c = omega (arith, c .shared-slice-known .given (c .before .args .at)
 returns : tie.Need-returns
 returns c =
     let s = c .before .args .s .now in
-    let at = c .before .args .at in
-    ( sym (field-one s at (omega arith))
-    , omega (arith, c .shared-slice-known .given at) )
+    let at = c .before .args .at in (
+      sym (field-one s at (omega arith)),
+      omega (arith, c .shared-slice-known .given at),
+    )
 
 pub single-spec : {M : Type 1} → statement M
 single-spec = tie.close (tie.spec shared-slice-read-result cast-result returns)

@@ -36,9 +36,16 @@ abbrev extend-below : ℕ → In 3 extend-kinds.ps
 extend-below t = and 3 extend-kinds.ps (falls 3 extend-kinds.ps _<_ μ-extend t) extend.Pre
 
 abbrev calls : ℕ → lts.Claims
-calls t =
-    ( keep-reads.Asked, keep-reads.Learnt, goes-on-reads.Asked, goes-on-reads.Learnt, pushed-reads.Asked, pushed-reads.Learnt
-    , extend-below t, extend.Post )
+calls t = (
+  keep-reads.Asked,
+  keep-reads.Learnt,
+  goes-on-reads.Asked,
+  goes-on-reads.Learnt,
+  pushed-reads.Asked,
+  pushed-reads.Learnt,
+  extend-below t,
+  extend.Post,
+)
 
 abbrev Inv-loop : lts.InvT-loop
 Inv-loop table directed rows₀ sizes₀ count path missing found₀ d₀ rows sizes found d =
@@ -67,7 +74,7 @@ returns t c =
     let s = k .before .before .before .before .before .before .before in
     let a = s .args in
     let e : extendBy (a .table .now) (a .directed) (a .missing) (pathOf (a .path)) ≡ one (pathOf (a .path)) =
-        rw (k .before .before .before .if1 .taken) (extend-none (a .table .now) (a .directed) (pathOf (a .path))) in
+    rw (k .before .before .before .if1 .taken) (extend-none (a .table .now) (a .directed) (pathOf (a .path))) in
     (rw e (count-one (a .count) (pathOf (a .path)) (s .pre .1 .4)), rw e (k .keep .ensures .0), rw e (k .keep .ensures .1))
 
 -- ---- one segment more
@@ -120,16 +127,19 @@ extend-requires t c κs =
     let p = q .1 in
     let ds = pathOf (a t l .path) ++ one (l .loop .d) in
     let e = c .pushed .ensures in
-    let z = length-append (pathOf (a t l .path)) (one (l .loop .d)) in
-    (omega arith,
-    (p .0
-    , p .1
-    , listed-rows (l .loop .inv .1) ∙ p .2
-    , listed-sizes (l .loop .inv .1) ∙ p .3
-    , omega (arith, ltb-true)
-    , path-packed ds e
-    , omega (arith, path-size ds e)
-    , omega (arith, path-size ds e, size t l, some t l)))
+    let z = length-append (pathOf (a t l .path)) (one (l .loop .d)) in (
+      omega arith,
+      (
+        p .0,
+        p .1,
+        listed-rows (l .loop .inv .1) ∙ p .2,
+        listed-sizes (l .loop .inv .1) ∙ p .3,
+        omega (arith, ltb-true),
+        path-packed ds e,
+        omega (arith, path-size ds e),
+        omega (arith, path-size ds e, size t l, some t l),
+      ),
+    )
 
 add-d : (t : ℕ) → lts.Need-add-d (calls t) (extend-at t) extend.Post Inv-loop μ-loop
 add-d t c = omega arith
@@ -145,16 +155,17 @@ loop-again t c =
     let more = onward-taken (a t l .table .now) (a t l .directed) (a t l .missing - 1) (pathOf (a t l .path)) d in
     let none = onward-left (a t l .table .now) (a t l .directed) (a t l .missing - 1) (pathOf (a t l .path)) d in
     let on : (b : Bool) → g .goes-on .result ≡ b → goesOnBy (a t l .table .now) (pathOf (a t l .path)) d ≡ b =
-        λ b e. sym (g .goes-on .ensures) ∙ e in
-    (omega arith
-    , ⊎-elim
-    (λ w.
-      let e = more (on true (w .0 .taken)) ∙ ap (extendBy (a t l .table .now) (a t l .directed) (a t l .missing - 1)) (sym (path-of _ (w .3 .ensures))) in
-      let k = w .4 .ensures in
-      rw (w .9, w .10, w .11)
-      (listed-next (paths t l) (l .loop .inv .1) (are-short t l d) (rw e (record { counted = k .0; filled = k .1; sized = k .2 }))))
-    (λ w. rw (w .1, w .2, w .3) (listed-skip (paths t l) (l .loop .inv .1) (are-short t l d) (none (on false (w .0 .left)))))
-    (c .if3 .came))
+    λ b e. sym (g .goes-on .ensures) ∙ e in (
+      omega arith,
+      ⊎-elim
+          (λ w.
+          let e = more (on true (w .0 .taken)) ∙ ap (extendBy (a t l .table .now) (a t l .directed) (a t l .missing - 1)) (sym (path-of _ (w .3 .ensures))) in
+          let k = w .4 .ensures in
+          rw (w .9, w .10, w .11)
+          (listed-next (paths t l) (l .loop .inv .1) (are-short t l d) (rw e (record { counted = k .0; filled = k .1; sized = k .2 }))))
+          (λ w. rw (w .1, w .2, w .3) (listed-skip (paths t l) (l .loop .inv .1) (are-short t l d) (none (on false (w .0 .left)))))
+          (c .if3 .came),
+    )
 
 same-length-3 : (t : ℕ) → lts.Need-same-length-3 (calls t) (extend-at t) extend.Post Inv-loop μ-loop
 same-length-3 t c = listed-rows (c .before .before .loop .inv .1)

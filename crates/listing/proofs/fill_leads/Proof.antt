@@ -41,12 +41,13 @@ unfolding leadsRows
 loop-again c =
     let s = c .before .before .before .before .before in
     let a = s .before .before .before .args in
-    let call = c .before .before .fill-row in
-    ( omega arith
-    , call .kept .1 .1 .0 ∙ s .loop .inv .1
-    , call .ensures
-      ∙ ap (λ (table : List ℕ). sets table (s .loop .d * 128) (leadsRow (held (a .b)) (s .loop .d))) (s .loop .inv .2)
-      ∙ ap (λ (k : ℕ). leadsRows (held (a .b)) k (now (a .table))) (sym (add-one (s .loop .d))) )
+    let call = c .before .before .fill-row in (
+      omega arith,
+      call .kept .1 .1 .0 ∙ s .loop .inv .1,
+      call .ensures
+          ∙ ap (λ (table : List ℕ). sets table (s .loop .d * 128) (leadsRow (held (a .b)) (s .loop .d))) (s .loop .inv .2)
+          ∙ ap (λ (k : ℕ). leadsRows (held (a .b)) k (now (a .table))) (sym (add-one (s .loop .d))),
+    )
 
 same-length : tie.Need-same-length Inv-loop μ-loop
 same-length c = c .before .loop .inv .1

@@ -73,11 +73,12 @@ module _ (c : tie.Joined1 Inv-loop μ-loop) where
 loop-again : tie.Need-loop-again Inv-loop μ-loop
 loop-again c =
     let s = c .before .before .before in
-    let a = s .before .before .args in
-    ( omega arith
-    , simp length-set (omega arith)
-    , ap₂ (λ (table : List ℕ) (x : ℕ). set table (a .d * 128 + s .loop .e) x) (s .loop .inv .2) (byte c)
-      ∙ sets-map-next (pair (a .b) (a .d)) (now (a .table)) (a .d * 128) (s .loop .e) )
+    let a = s .before .before .args in (
+      omega arith,
+      simp length-set (omega arith),
+      ap₂ (λ (table : List ℕ) (x : ℕ). set table (a .d * 128 + s .loop .e) x) (s .loop .inv .2) (byte c)
+          ∙ sets-map-next (pair (a .b) (a .d)) (now (a .table)) (a .d * 128) (s .loop .e),
+    )
 
 same-length : tie.Need-same-length Inv-loop μ-loop
 same-length c = c .before .loop .inv .1

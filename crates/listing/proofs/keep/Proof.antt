@@ -90,11 +90,12 @@ returns c =
     let row : a .t4 .at ≡ padded 16 0 ds = ap (λ (p : Path). p .at) (s .pre .3) in
     let long : a .t4 .n ≡ length ds = ap (λ (p : Path). p .n) (s .pre .3) in
     let byte : a .t4 .n % 256 ≡ a .t4 .n = omega arith in
-    let room = c .before .before .if1 .taken in
-    ( c .before .loop .inv .2
-      ∙ ap (sets (now (a .rows)) (a .count * 16)) (take-all i (a .t4 .at) done ∙ row)
-      ∙ sym (rows-kept (a .count) ds (now (a .rows)) room)
-    , ap (set (now (a .sizes)) (a .count)) (byte ∙ long) ∙ sym (sizes-kept (a .count) ds (now (a .sizes)) room) )
+    let room = c .before .before .if1 .taken in (
+      c .before .loop .inv .2
+          ∙ ap (sets (now (a .rows)) (a .count * 16)) (take-all i (a .t4 .at) done ∙ row)
+          ∙ sym (rows-kept (a .count) ds (now (a .rows)) room),
+      ap (set (now (a .sizes)) (a .count)) (byte ∙ long) ∙ sym (sizes-kept (a .count) ds (now (a .sizes)) room),
+    )
 
 returns-2 : tie.Need-returns-2 Inv-loop μ-loop
 returns-2 c = (sym (rows-full _ _ _ (c .if1 .left)), sym (sizes-full _ _ _ (c .if1 .left)))

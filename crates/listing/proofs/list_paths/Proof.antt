@@ -58,15 +58,16 @@ extend-requires : tie.Need-extend-requires Inv-loop μ-loop
 unfolding pathOf packedPath padded
 extend-requires c κs =
     let l = c .before .before .before .before in
-    let p = start l .pre in
-    (p .0
-    , p .1
-    , listed-rows (l .loop .inv .1) ∙ p .2
-    , listed-sizes (l .loop .inv .1) ∙ p .3
-    , omega (arith, ltb-true)
-    , refl
-    , omega arith
-    , omega arith)
+    let p = start l .pre in (
+      p .0,
+      p .1,
+      listed-rows (l .loop .inv .1) ∙ p .2,
+      listed-sizes (l .loop .inv .1) ∙ p .3,
+      omega (arith, ltb-true),
+      refl,
+      omega arith,
+      omega arith,
+    )
 
 add-d : tie.Need-add-d Inv-loop μ-loop
 add-d c = omega arith
@@ -78,9 +79,10 @@ loop-again : tie.Need-loop-again Inv-loop μ-loop
 unfolding pathOf
 loop-again c =
     let e = c .before .before .before .before .extend .ensures in
-    let l = c .before .before .before .before .before .before .before .before .before in
-    (omega arith
-    , listed-next (from (start l)) (l .loop .inv .1) (are-short (start l) (l .loop .d)) (record { counted = e .0; filled = e .1; sized = e .2 }))
+    let l = c .before .before .before .before .before .before .before .before .before in (
+      omega arith,
+      listed-next (from (start l)) (l .loop .inv .1) (are-short (start l) (l .loop .d)) (record { counted = e .0; filled = e .1; sized = e .2 }),
+    )
 
 same-length : tie.Need-same-length Inv-loop μ-loop
 same-length c = listed-rows (c .before .before .loop .inv .1)

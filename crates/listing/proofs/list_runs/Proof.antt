@@ -95,14 +95,15 @@ list-paths-requires : tie.Need-list-paths-requires Inv-loop μ-loop
 list-paths-requires c κs =
     let a = c .before .before .before .before in
     let p = start a .pre in
-    let b = bounds a in
-    (a .before .before .before .fill-leads .kept .1 .0 ∙ p .6
-    , omega arith
-    , listed-rows (a .loop .inv .1) ∙ p .7
-    , listed-sizes (a .loop .inv .1) ∙ p .8
-    , listed-le (a .loop .inv .1)
-    , omega arith
-    , omega arith)
+    let b = bounds a in (
+      a .before .before .before .fill-leads .kept .1 .0 ∙ p .6,
+      omega arith,
+      listed-rows (a .loop .inv .1) ∙ p .7,
+      listed-sizes (a .loop .inv .1) ∙ p .8,
+      listed-le (a .loop .inv .1),
+      omega arith,
+      omega arith,
+    )
 
 add-j : tie.Need-add-j Inv-loop μ-loop
 add-j c = omega (arith, bounds (c .before .before .before .before .before .before .before .before .before))
@@ -113,9 +114,10 @@ loop-less c = omega arith
 loop-again : tie.Need-loop-again Inv-loop μ-loop
 loop-again c =
     let e = c .before .before .before .before .list-paths .ensures in
-    let a = c .before .before .before .before .before .before .before .before .before in
-    (omega (arith, c .before .before .before .before .before .before .before .before .loop-test .taken)
-    , listed-next (level a) (a .loop .inv .1) (are-short a) (record { counted = e .0; filled = e .1; sized = e .2 }))
+    let a = c .before .before .before .before .before .before .before .before .before in (
+      omega (arith, c .before .before .before .before .before .before .before .before .loop-test .taken),
+      listed-next (level a) (a .loop .inv .1) (are-short a) (record { counted = e .0; filled = e .1; sized = e .2 }),
+    )
 
 same-length : tie.Need-same-length Inv-loop μ-loop
 same-length c = c .before .before .before .before .fill-leads .kept .1 .0

@@ -85,16 +85,17 @@ list-runs-requires : tie.Need-list-runs-requires Inv-loop μ-loop
 list-runs-requires c κs =
     let d = c .before .before .before .before in
     let s = d .before .before in
-    let n = numbers-here (s .args .t1) (s .pre .1) (d .before .loop .i) noTrain (d .loop-test .taken) (room s) (s .pre .2) in
-    (s .pre .0 .counts
-    , s .pre .0 .numbers
-    , metres-some (s .args .t1) (s .pre .1)
-    , n .0
-    , n .1
-    , reach-here (s .args .t1) (s .pre .1) (d .before .loop .i) noTrain (d .loop-test .taken) (room s)
-    , d .before .loop .inv .1
-    , d .before .loop .inv .2
-    , d .before .loop .inv .3)
+    let n = numbers-here (s .args .t1) (s .pre .1) (d .before .loop .i) noTrain (d .loop-test .taken) (room s) (s .pre .2) in (
+      s .pre .0 .counts,
+      s .pre .0 .numbers,
+      metres-some (s .args .t1) (s .pre .1),
+      n .0,
+      n .1,
+      reach-here (s .args .t1) (s .pre .1) (d .before .loop .i) noTrain (d .loop-test .taken) (room s),
+      d .before .loop .inv .1,
+      d .before .loop .inv .2,
+      d .before .loop .inv .3,
+    )
 
 returns : tie.Need-returns Inv-loop μ-loop
 returns c = sym (ap not (turn-over (c .before .before .before .before) (c .if1 .taken)))
@@ -112,12 +113,13 @@ loop-less c =
 loop-again : tie.Need-loop-again Inv-loop μ-loop
 loop-again c =
     let a = c .before .before .before .before in
-    let d = a .before .before .before .before .before in
-    (omega (arith, d .loop-test .taken)
-    , a .list-runs .kept .1 .1 .0 ∙ d .before .loop .inv .1
-    , a .list-runs .kept .1 .1 .1 .0 ∙ d .before .loop .inv .2
-    , a .list-runs .kept .1 .1 .1 .1 .0 ∙ d .before .loop .inv .3
-    , turn-few a (c .if1 .left))
+    let d = a .before .before .before .before .before in (
+      omega (arith, d .loop-test .taken),
+      a .list-runs .kept .1 .1 .0 ∙ d .before .loop .inv .1,
+      a .list-runs .kept .1 .1 .1 .0 ∙ d .before .loop .inv .2,
+      a .list-runs .kept .1 .1 .1 .1 .0 ∙ d .before .loop .inv .3,
+      turn-few a (c .if1 .left),
+    )
 
 returns-2 : tie.Need-returns-2 Inv-loop μ-loop
 returns-2 c = sym (ap not (c .before .loop .inv .4 ∙ any-end (c .before .before .args .t1 .trains) _ _ (c .loop-test .left) _))

@@ -61,7 +61,7 @@ enum-known-next-2 c = search needs
 -- the next place, and that it is further on
 onward : (c : tie.After-book Inv-loop μ-loop)
     → OnWay (c .before .before .before .before .before .before .before .before .args .s .now)
-        (c .before .before .before .before .step .result .book) (c .before .before .next2 .given .0 .1 .0) (c .before .before .next2 .given .0 .0)
+    (c .before .before .before .before .step .result .book) (c .before .before .next2 .given .0 .1 .0) (c .before .before .next2 .given .0 .0)
     × (c .before .before .before .before .before .loop .at < c .before .before .next2 .given .0 .0)
 onward c =
     let at-step = c .before .before .before .before in

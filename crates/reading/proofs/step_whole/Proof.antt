@@ -63,9 +63,11 @@ part-add-frame-end c = search needs
 add-frame-requires : tie.Need-add-frame-requires
 add-frame-requires c κs =
     let st = c .before .before .before .before .before .before in
-    let known : rank (st .args .kind) ≢ 9 = λ e. c .before .before .before .if1 .left (c .before .before .before .before .rank .ensures ∙ e) in
-    (st .pre .0, rank-below (st .args .kind) known
-    , growing-here (st .args .last) (st .args .kind) _ _ (st .pre .1) (sym (c .before .before .out-of-order .ensures) ∙ c .before .if2 .left))
+    let known : rank (st .args .kind) ≢ 9 = λ e. c .before .before .before .if1 .left (c .before .before .before .before .rank .ensures ∙ e) in (
+      st .pre .0,
+      rank-below (st .args .kind) known,
+      growing-here (st .args .last) (st .args .kind) _ _ (st .pre .1) (sym (c .before .before .out-of-order .ensures) ∙ c .before .if2 .left),
+    )
 
 enum-known-checked : tie.Need-enum-known-checked
 enum-known-checked c = search needs
@@ -92,7 +94,7 @@ returns-4 c =
     let order = sym (c .before .before .before .before .before .before .before .out-of-order .ensures) ∙ c .before .before .before .before .before .before .if2 .left in
     let fine = c .before .enum-told .given .1 in
     let none′ = none-here (st .args .b) (st .pre .0) (st .args .last) (st .args .s .now) (st .args .at) (st .args .kind) (st .args .len) (st .pre .2)
-        known order (c .before .before .before .before .add-frame .result) (c .before .before .before .before .add-frame .ensures) fine in
+    known order (c .before .before .before .before .add-frame .result) (c .before .before .before .before .add-frame .ensures) fine in
     ends-here (st .args .b) (st .pre .0) (st .args .last) (st .args .s .now) (st .args .at) (st .args .kind) (st .args .len) (st .pre .2) (c .if3 .taken) none′
 
 returns-5 : tie.Need-returns-5
@@ -102,9 +104,9 @@ returns-5 c =
     let order = sym (c .before .before .before .before .before .before .before .out-of-order .ensures) ∙ c .before .before .before .before .before .before .if2 .left in
     let fine = c .before .enum-told .given .1 in
     let none′ = none-here (st .args .b) (st .pre .0) (st .args .last) (st .args .s .now) (st .args .at) (st .args .kind) (st .args .len) (st .pre .2)
-        known order (c .before .before .before .before .add-frame .result) (c .before .before .before .before .add-frame .ensures) fine in
+    known order (c .before .before .before .before .add-frame .result) (c .before .before .before .before .add-frame .ensures) fine in
     let book′ = book-here (st .args .b) (st .pre .0) (st .args .last) (st .args .s .now) (st .args .at) (st .args .kind) (st .args .len) (st .pre .2)
-        known order (c .before .before .before .before .add-frame .result) (c .before .before .before .before .add-frame .ensures) fine in
+    known order (c .before .before .before .before .add-frame .result) (c .before .before .before .before .add-frame .ensures) fine in
     goes-here (st .args .b) (st .pre .0) (st .args .last) (st .args .s .now) (st .args .at) (st .args .kind) (st .args .len) (st .pre .2) (c .if3 .left) none′
     _ (c .before .before .before .before .before .before .before .before .before .rank .ensures) _ book′
 
