@@ -1,6 +1,6 @@
 -- The end of the formula: variables and clauses behind those of the nine families, the condition on plans that they stand
--- for, and the values that a plan gives to the variables. Document 01 has none of these, so all are empty; the theorems are
--- stated over them, and over nothing else that a request for more clauses would change. Assumes nothing.
+-- for, and the values that a plan gives to the variables. Document 01 has none of these, so all are empty; the lemmas
+-- behind the demands are stated over them, and over nothing else that a request for more clauses would change. Assumes nothing.
 use mathlib.Core.Bool.{Bool, true}
 use Prim.Native.Nat.{ℕ}
 use mathlib.Core.List.{List, []}
