@@ -17,10 +17,9 @@ use Rattle.spec.specs.Lists.{any, all, upTo, count}
 use Rattle.spec.specs.Book.{Book, Segment, segmentAt, nodeKindAt, deniesBorder, touches, shareNode}
 use Rattle.spec.specs.Read.{segmentFits, mayDivide}
 use Rattle.spec.specs.Held.{held, zeroSegment}
-use Rattle.laws.proofs.Tests.{meaning, and-iff, or-iff, eqb-iff, any-upTo, bool-ext, le-or-lt, decide, true-of, denied-of}
+use Rattle.laws.proofs.Tests.{meaning, and-iff, or-iff, eqb-iff, any-upTo, bool-ext, le-or-lt, decide, true-of, denied-of, all-at}
 use Rattle.laws.proofs.Rows.{any-append, any-one}
 use Rattle.laws.proofs.Parts.{upTo-suc}
-use Rattle.track.proofs.Walks.{all-at}
 use Rattle.track.proofs.Held.{segment-at}
 
 -- a segment's ends are what it touches
@@ -115,7 +114,7 @@ module _ (b : Book) (ttd : ℕ) where
   module _ (fits : T (all (segmentFits b) (b .segments))) (t : ℕ) (l : t < length (b .segments)) where
     ends : (segmentAt b t .a < length (b .nodes)) × (segmentAt b t .b < length (b .nodes))
     unfolding segmentAt segmentFits
-    ends = let f = simp meaning at (all-at (segmentFits b) (b .segments) t (record { a = 0; b = 0; ttd = 0 }) l fits) in f .0 .0
+    ends = let f = simp meaning at (all-at (segmentFits b) (b .segments) t (record { a = 0; b = 0; ttd = 0 }) fits l) in f .0 .0
 
     pub end-a : segmentAt b t .a < length (b .nodes)
     end-a = ends .0

@@ -40,15 +40,6 @@ pub picked-end {ℓ} : {A : Type ℓ} (f : A → Bool) (xs : List A) (n i : ℕ)
 unfolding pick
 picked-end f xs n i l = ap (λ ys. length (pick f ys)) (slice-end xs n i l)
 
--- a row that is filled: the next element goes behind those that are there
-pub padded-next {ℓ} : {A : Type ℓ} (n m : ℕ) (z x : A) (xs : List A) → length xs ≡ m → m < n
-    → set (padded n z xs) m x ≡ padded n z (xs ++ one x)
-unfolding padded
-padded-next n m z x xs e l =
-    let k : n - length xs ≡ suc (n - suc m) = omega arith in
-    let j : n - length (xs ++ one x) ≡ n - suc m = omega (arith, length-append xs (one x)) in
-    rw (k, j) (set-at xs z (replicate (n - suc m) z) x m e ∙ sym (append-snoc xs x (replicate (n - suc m) z)))
-
 -- a test over the numbers from i up to n
 module _ (f : ℕ → Bool) (n i : ℕ) where
   pub any-range-next : i < n → any f (range i n) ≡ (f i || any f (range (i + 1) n))

@@ -1,5 +1,6 @@
 -- The struct that holds a book: a book comes back from its struct, an entry more in an array is an entry more in the row it holds,
 -- and an answer of the code is the specification's where the table of faults and the book behind it are. Assumes nothing.
+use Rattle.laws.proofs.Arrays.{take-padded, padded-next}
 use mathlib.Core.Path.{_≡_, refl, sym, ap, ap₂, _∙_}
 use mathlib.Core.Option.{none, some}
 use Prim.Native.Nat.{ℕ, suc, _+_, _*_, _-_, _≤_, _<_}
@@ -22,28 +23,11 @@ use Rattle.content.specs.Added.{added, Packed}
 -- ---- rows in arrays
 
 module _ {ℓ} {A : Type ℓ} where
-  -- the row comes back
-  pub take-padded : (n : ℕ) (z : A) (xs : List A) → take (length xs) (padded n z xs) ≡ xs
-  unfolding padded
-  take-padded n z xs = take-append-seam xs _
-
-  pub take-padded-at : (n k : ℕ) (z : A) (xs : List A) → length xs ≡ k → take k (padded n z xs) ≡ xs
-  unfolding padded
-  take-padded-at n k z xs e = take-at xs _ k e
-
-  -- one more entry
-  pub set-padded : (n : ℕ) (z : A) (xs : List A) (x : A) → length xs < n → set (padded n z xs) (length xs) x ≡ padded n z (xs ++ one x)
-  unfolding padded
-  set-padded n z xs x h =
-      let m : n - length xs ≡ suc (n - (length xs + 1)) = omega arith in
-      let e : n - length (xs ++ one x) ≡ n - (length xs + 1) = rw length-append in
-      rw (m, set-append-seam, e) (sym (append-snoc xs x _))
-
   -- the same, by an array and its count
   pub set-row : {n count : ℕ} {row : List A} (z x : A) (xs : List A) → count ≡ length xs → row ≡ padded n z xs → count < n
       → set row count x ≡ padded n z (xs ++ one x)
   set-row {n} z x xs e f h =
-      let l : length xs < n = omega arith in ap₂ (λ (r : List A) (c : ℕ). set r c x) f e ∙ set-padded n z xs x l
+      let l : length xs < n = omega arith in ap₂ (λ (r : List A) (c : ℕ). set r c x) f e ∙ padded-next n (length xs) z x xs refl l
 
   pub count-row : {count : ℕ} (x : A) (xs : List A) → count ≡ length xs → count + 1 ≡ length (xs ++ one x)
   count-row x xs e = rw length-append (omega arith)

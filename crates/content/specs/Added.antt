@@ -4,13 +4,13 @@ use mathlib.Core.Option.{Option, none, some}
 use Prim.Native.Nat.{ℕ, _≤_, _<_}
 use Rattle.model.specs.declared.Book.{Book as BookStruct}
 use Rattle.model.specs.declared.Train.{Train as TrainStruct}
-use lib.ListN.{length}
+use lib.ListN.{length, replicate}
 use lib.Dec.{T, ltb}
 use Rattle.spec.specs.Lists.{Bytes, all, firstFault}
 use Rattle.spec.specs.Numbers.{field}
 use Rattle.spec.specs.Frames.{Kind, timeWidth}
 use Rattle.spec.specs.Book.{Book, callsOf}
-use Rattle.spec.specs.Read.{kindFaults, add, maxCalls, maxTrains}
+use Rattle.spec.specs.Read.{kindFaults, add, maxCalls, maxReach, maxTrains}
 use Rattle.spec.specs.Held.{held, packed, CountsFit, NumbersFit}
 use Rattle.content.specs.declared.Checked.{Checked}
 use Rattle.content.specs.declared.Checked.the-variants.{Fine, Refused}
@@ -42,10 +42,12 @@ pub record CallsFew (b : Book) : Type 0 where
   pub few : (i : ℕ) → length (callsOf b i) ≤ maxCalls
   pub trains : length (b .trains) ≤ maxTrains
 
--- the train's numbers are those of a Train's payload
+-- the train's numbers are those of a Train's payload; its place is still to be read
 pub record NumbersOf (p : Bytes) (t : TrainStruct) : Type 0 where
   pub metres : t .metres ≡ field p 0 2
   pub speed : t .speed ≡ field p 2 2
   pub departure : t .departure ≡ field p 4 timeWidth
   pub metresFit : t .metres < 65536
   pub speedFit : t .speed < 65536
+  pub size : t .size ≡ 0
+  pub place : t .place ≡ replicate maxReach 0

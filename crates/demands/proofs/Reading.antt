@@ -43,12 +43,12 @@ pub record GoesOn (r : Reading) (s : Bytes) (r′ : Reading) (s′ : Bytes) : Ty
   pub rest : s′ ≡ behind s
 
 module _ (r : Reading) (s : Bytes) where
-  -- what the two ends of a readFrame mean
+  -- what the two ends of a step mean
   Meaning : FrameRead → Type 0
   Meaning (stop v) = Ends r s v
   Meaning (more r′ s′) = GoesOn r s r′ s′
 
-  -- a readFrame is what it means
+  -- a step is what it means
   step-means : Meaning (readFrame r s)
   unfolding readFrame frameReadAt Meaning refuseOr
   step-means = go (firstFault (frameFaults r s)) refl
@@ -76,14 +76,14 @@ module _ (r : Reading) (s : Bytes) where
   unfolding Meaning
   goes-on r′ s′ e = subst Meaning e step-means
 
-  -- and back: where reading ends so, the readFrame is that verdict
+  -- and back: where reading ends so, the step is that verdict
   stops : (v : Verdict Book) → Ends r s v → readFrame r s ≡ stop v
   unfolding readFrame frameReadAt refuseOr
   stops v (frame n h e) = rw (holds-first n _ h, e)
   stops v (book n c t h e) = rw (clear-first _ c, true-of (isEnd (kindField s)) t, frameReadAt, holds-first n _ h, e)
   stops v (pass c t d e) = rw (clear-first _ c, true-of (isEnd (kindField s)) t, frameReadAt, clear-first _ d, e)
 
-  -- and the readFrame goes on exactly where the frame has no fault and is not the End
+  -- and the step goes on exactly where the frame has no fault and is not the End
   pub goes-iff : (r′ : Reading) (s′ : Bytes) → (readFrame r s ≡ more r′ s′) ↔ GoesOn r s r′ s′
   unfolding readFrame frameReadAt
   goes-iff r′ s′ = (
@@ -109,7 +109,7 @@ less-left r r′ s s′ e = let g = goes-on r s r′ s′ e in rw (g .rest) (ome
 
 -- ---- the whole file
 
--- reading with fuel left stops, or goes on, where the readFrame does
+-- reading with fuel left stops, or goes on, where the step does
 stops-reading : (f : ℕ) (r : Reading) (s : Bytes) (v : Verdict Book) → readFrame r s ≡ stop v → readFrom (suc f) r s ≡ v
 unfolding readFrom
 stops-reading f r s v e = rw (e, readFrom)

@@ -21,7 +21,7 @@ use Rattle.spec.specs.Refutation.{Hinted, proves, makes, useless, hinted, goThr
 use Rattle.spec.specs.Refutation.{AllFalse, Forces, Proves, atLast, onward, TakenFalse}
 use Rattle.spec.specs.Refutation.{stepFaults, stepDetail, checkSteps, checkFile}
 use Rattle.demands.proofs.Faults.{passes, first-none, clear-first}
-use Rattle.laws.proofs.Tests.{and-iff, leb-iff, ltb-iff, eqb-iff, any-iff, decide, true-of, false-of, from-true, neither-iff, not-not-iff}
+use Rattle.laws.proofs.Tests.{and-iff, leb-iff, ltb-iff, eqb-iff, any-iff, decide, true-of, false-of, from-true, neither-iff, not-not-iff, all-at}
 use Rattle.laws.proofs.Rows.{all-append, all-one}
 use Rattle.laws.proofs.Frames.{length-behind}
 
@@ -267,13 +267,6 @@ valuation α = λ v. valueOf (α v)
 Agrees : (ℕ → Bool) → Values → Type 0
 Agrees α known = (v : ℕ) → (known v ≡ open′) ⊎ (known v ≡ valueOf (α v))
 
--- all elements pass, so the one at a place does too
-all-at {ℓ} : {A : Type ℓ} (f : A → Bool) (d : A) (xs : List A) (i : ℕ) → T (all f xs) → i < length xs → T (f (getD xs i d))
-unfolding all
-all-at f d [] i h l = absurd (omega arith)
-all-at f d (x ∷ xs) zero h l = and-iff (f x) (all f xs) .0 h .0
-all-at f d (x ∷ xs) (suc i) h l = all-at f d xs i (and-iff (f x) (all f xs) .0 h .1) (omega arith)
-
 yes-is : (v : Value) → T (isYes v) → v ≡ yes′
 unfolding isYes
 yes-is open′ h = absurd h
@@ -352,7 +345,7 @@ module _ (α : ℕ → Bool) where
     -- a clause that a hint may name is true
     named-true : (h : ℕ) → T (leb 1 h) × T (ltb h (length cs + 1)) → T (holds α (clauseAt cs h))
     unfolding clauseAt satisfies
-    named-true h b = let p = simp leb-iff at b in all-at (holds α) [] cs (h - 1) sat (omega arith)
+    named-true h b = let p = simp leb-iff at b in all-at (holds α) cs (h - 1) [] sat (omega arith)
 
     -- hints never prove a step from values that agree with a valuation of all the clauses
     never-proves : {known : Values} {hs : List ℕ} → Proves cs known hs → T (hintsFit (length cs + 1) hs) → Agrees α known → ⊥

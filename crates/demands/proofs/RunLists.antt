@@ -14,9 +14,8 @@ use lib.Dec.{T, ltb, eqb}
 use Rattle.spec.specs.Lists.{all, any, count, upTo, each, one, lastOr, different, has}
 use Rattle.spec.specs.Book.{Book, Train, segmentOf, lengthInSegments, speedInSegments}
 use Rattle.spec.specs.Runs.{leadsTo, linked, isPath, directed, goesOn, extend, pathsOf, runsOf}
-use Rattle.laws.proofs.Tests.{and-iff, neither-iff, ltb-iff, eqb-sym, upTo-mem, count-iff}
+use Rattle.laws.proofs.Tests.{and-iff, neither-iff, ltb-iff, eqb-sym, upTo-mem, count-iff, getD-mem}
 use Rattle.laws.proofs.Rows.{all-append, all-nil, all-one}
-use Rattle.demands.proofs.Wellformed.{getD-mem}
 
 -- ---- membership
 

@@ -11,9 +11,9 @@ use lib.Dec.{T, leb, ltb, eqb}
 use Rattle.spec.specs.Lists.{all, upTo, only, one, pick, empty}
 use Rattle.spec.specs.Book.{Book, Train, greatestNodeKind, nodeKindAt, trainAt, callsOf, noCall, deniesBorder, forcesBorder, segmentOf, lengthInSegments}
 use Rattle.spec.specs.Runs.{directed, goesOn, extend, pathsOf, runsOf}
-use Rattle.spec.specs.Read.{wellFormed, headFits, segmentFits, joinFits, joinsOnce, trainFits, reachFits, placeFits, callFits, between}
+use Rattle.spec.specs.Read.{wellFormed, headFits, segmentFits, joinFits, joinsOnce, trainFits, reachFits, placeFits, callFits, between, maxNodes, maxSegments, maxJoins, maxTrains, maxCalls, maxRuns}
 use Rattle.spec.specs.Instance.{Instance, instanceOf, compile, runLists, runAt, callAt}
-use Rattle.laws.proofs.Tests.{and-iff, eqb-iff, ltb-iff, leb-iff, all-iff, all-upTo}
+use Rattle.laws.proofs.Tests.{and-iff, eqb-iff, ltb-iff, leb-iff, all-iff, all-upTo, getD-mem, all-at}
 use Rattle.laws.proofs.Rows.{all-append, all-cons, all-each}
 
 -- What holds of the instance of a well-formed book.
@@ -21,7 +21,7 @@ pub record Sound (I : Instance) : Type 0 where
   -- a train departs before the last time
   pub departs : (i : ℕ) → i < I .trains → I .departure i < I .intervals
   -- a train has few enough runs for a plan's two bytes
-  pub fewRuns : (i : ℕ) → i < I .trains → I .runs i ≤ 256
+  pub fewRuns : (i : ℕ) → i < I .trains → I .runs i ≤ maxRuns
   -- a run's segments are segments of the book
   pub inside : (i r : ℕ) → i < I .trains → r < I .runs i → (s : ℕ) → List·Memᴰ s (I .path i r) → s < I .segments
   -- a call's window is no empty one, and ends by the last time
@@ -33,18 +33,18 @@ pub record Sound (I : Instance) : Type 0 where
 -- What well-formedness says, part by part.
 pub record Parts (b : Book) : Type 0 where
   pub head : T (headFits b)
-  pub fewNodes : length (b .nodes) ≤ 96
+  pub fewNodes : length (b .nodes) ≤ maxNodes
   pub nodes : T (all (λ k. leb k greatestNodeKind) (b .nodes))
-  pub fewSegments : length (b .segments) ≤ 64
+  pub fewSegments : length (b .segments) ≤ maxSegments
   pub segments : T (all (segmentFits b) (b .segments))
-  pub fewJoins : length (b .joins) ≤ 128
+  pub fewJoins : length (b .joins) ≤ maxJoins
   pub joins : T (all (joinFits b) (b .joins))
   pub once : T (joinsOnce (b .joins))
-  pub fewTrains : length (b .trains) ≤ 8
+  pub fewTrains : length (b .trains) ≤ maxTrains
   pub someTrain : T (not (empty (b .trains)))
-  pub trains : T (all (λ t. trainFits b t && reachFits b t && placeFits b t && leb (length (runsOf b t)) 256) (b .trains))
+  pub trains : T (all (λ t. trainFits b t && reachFits b t && placeFits b t && leb (length (runsOf b t)) maxRuns) (b .trains))
   pub calls : T (all (callFits b) (b .calls))
-  pub counts : T (all (λ i. between 1 4 (length (callsOf b i))) (upTo (length (b .trains))))
+  pub counts : T (all (λ i. between 1 maxCalls (length (callsOf b i))) (upTo (length (b .trains))))
 
 -- the parts of a well-formed book
 pub parts : (b : Book) → T (wellFormed b) → Parts b
@@ -66,17 +66,6 @@ parts b h = let p = simp (and-iff, leb-iff) at h in record {
 }
 
 -- ---- rows
-
--- what stands at a number in a row is in the row
-pub getD-mem {ℓ} : {A : Type ℓ} (xs : List A) (i : ℕ) (d : A) → i < length xs → List·Memᴰ (getD xs i d) xs
-getD-mem [] i d h = absurd (not-suc-le-zero h)
-getD-mem (x ∷ xs) zero d h = List·Memᴰ·head refl
-getD-mem (x ∷ xs) (suc i) d h = List·Memᴰ·tail (getD-mem xs i d (le-of-suc-le-suc h))
-
--- a test of the whole row holds of what stands at a number
-pub all-at {ℓ} : {A : Type ℓ} (f : A → Bool) (xs : List A) (i : ℕ) (d : A) → T (all f xs) → i < length xs
-    → T (f (getD xs i d))
-all-at f xs i d h l = all-iff f xs .0 h (getD xs i d) (getD-mem xs i d l)
 
 -- what stands at a number in a mapped row
 pub map-at {ℓ κ} : {A : Type ℓ} {B : Type κ} (f : A → B) (xs : List A) (i : ℕ) (d : A) (e : B) → i < length xs

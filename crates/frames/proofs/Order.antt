@@ -21,7 +21,7 @@ pub agrees : (n k : ℕ) → n ≡ k → eqb n k ≡ true
 agrees n k e = true-of (eqb n k) (eqb-iff n k .1 e)
 
 -- a number that is no kind's stands behind all kinds
-rank-none : (n : ℕ) (ks : List Kind) → T (all (λ k. not (eqb n (kindNumber k))) ks) → rankIn n ks ≡ suc (length ks)
+pub rank-none : (n : ℕ) (ks : List Kind) → T (all (λ k. not (eqb n (kindNumber k))) ks) → rankIn n ks ≡ suc (length ks)
 unfolding rankIn all
 rank-none n [] h = refl
 rank-none n (k ∷ ks) h =

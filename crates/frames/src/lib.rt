@@ -198,14 +198,6 @@ pub fn pair(s: &[u8], at: usize) -> usize
     low + 256 * high
 }
 
-// The number in the byte at `at`.
-pub fn single(s: &[u8], at: usize) -> usize
-    requires { ⌜ at + 1 ≤ length (now s) ⌝ }
-    ensures { λ r. ⌜ (r ≡ field (now (s .entry)) at 1) × (r < 256) ⌝ }
-{
-    s[at] as usize
-}
-
 // What stands at a place of a file: a whole frame, with its kind and its payload's length, or no
 // whole one.
 pub enum Framed {

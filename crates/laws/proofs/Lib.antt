@@ -3,3 +3,4 @@ pub mod Rows
 pub mod Numbers
 pub mod Frames
 pub mod Parts
+pub mod Arrays

@@ -8,8 +8,9 @@ use native.Mathlib.Omega.{arith}
 use native.Mathlib.Nat.{lt-of-not-le}
 use native.Mathlib.Decide.{decLe}
 use mathlib.Core.List.{List, [], _∷_, _++_, map, List·Memᴰ, List·Memᴰ·head, List·Memᴰ·tail}
+use lib.ListN.{length, getD}
 use lib.Dec.{T, leb, ltb, eqb, leb→le, le→leb, ltb→lt, lt→ltb, eqb→eq, eqb-refl, T-not, not-T}
-use Rattle.spec.specs.Lists.{all, any, upTo, range, count, has, same}
+use Rattle.spec.specs.Lists.{all, any, upTo, range, count, has, same, empty}
 
 -- ---- Bool
 
@@ -114,6 +115,22 @@ any-iff {A = A} f xs = (to xs, λ h. back xs (h .0) (h .1) (h .2))
     back : (xs : List A) (x : A) → List·Memᴰ x xs → T (f x) → T (any f xs)
     back (y ∷ ys) x (List·Memᴰ·head e) h = or-iff (f y) (any f ys) .1 (inl (subst (λ (z : A). T (f z)) e h))
     back (y ∷ ys) x (List·Memᴰ·tail m) h = or-iff (f y) (any f ys) .1 (inr (back ys x m h))
+
+-- what stands at a number in a row is in the row
+pub getD-mem {ℓ} : {A : Type ℓ} (xs : List A) (i : ℕ) (d : A) → i < length xs → List·Memᴰ (getD xs i d) xs
+getD-mem [] i d h = let no′ : ⊥ = omega arith in absurd no′
+getD-mem (x ∷ xs) zero d h = List·Memᴰ·head refl
+getD-mem (x ∷ xs) (suc i) d h = List·Memᴰ·tail (getD-mem xs i d (omega arith))
+
+-- a test of the whole row holds of what stands at a number
+pub all-at {ℓ} : {A : Type ℓ} (f : A → Bool) (xs : List A) (i : ℕ) (d : A) → T (all f xs) → i < length xs → T (f (getD xs i d))
+all-at f xs i d h l = all-iff f xs .0 h (getD xs i d) (getD-mem xs i d l)
+
+-- a row is empty exactly where its length is 0
+pub empty-length {ℓ} : {A : Type ℓ} (xs : List A) → empty xs ≡ eqb (length xs) 0
+unfolding empty
+empty-length [] = refl
+empty-length (x ∷ xs) = sym (false-of (eqb (suc (length xs)) 0) (λ t. let e = eqb-iff (suc (length xs)) 0 .0 t in omega arith))
 
 -- ---- rows of numbers
 

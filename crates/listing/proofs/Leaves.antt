@@ -1,5 +1,6 @@
 -- What grows by one: a run of stores by a store, the path that a struct holds by a directed segment, and the tables of runs by a
 -- run, where there is room. Assumes nothing.
+use Rattle.laws.proofs.Arrays.{padded-next}
 use mathlib.Core.Path.{_≡_, refl, sym, ap, ap₂, _∙_}
 use Prim.Native.Nat.{ℕ, suc, _+_, _*_, _-_, _≤_, _<_}
 use native.Mathlib.Nat.{add-zero, add-suc, suc-add}
@@ -41,21 +42,6 @@ module _ {ℓ} {A : Type ℓ} where
       ∙ sets-next (map f (upTo i)) l base (f i)
       ∙ ap (sets l base) (sym (map-append f (upTo i) (one i)) ∙ ap (map f) (sym (upTo-suc i) ∙ ap upTo (sym (add-one i))))
 
--- ---- a row in an array
-
-module _ {ℓ} {A : Type ℓ} where
-  -- the element that is stored behind the row is the row's next
-  pub padded-next : (n : ℕ) (z : A) (xs : List A) (x : A) → length xs < n
-      → set (padded n z xs) (length xs) x ≡ padded n z (xs ++ one x)
-  unfolding padded
-  padded-next n z xs x l =
-      let here : n - length xs ≡ suc (n - suc (length xs)) = omega arith in
-      let next : n - suc (length xs) ≡ n - length (xs ++ one x) = rw length-append (omega arith) in
-      ap (λ (k : ℕ). set (xs ++ replicate k z) (length xs) x) here
-      ∙ set-append-seam xs z (replicate (n - suc (length xs)) z) x
-      ∙ sym (append-snoc xs x (replicate (n - suc (length xs)) z))
-      ∙ ap (λ (k : ℕ). (xs ++ one x) ++ replicate k z) next
-
 -- ---- a path by value
 
 -- the last element of a row that has grown, and of the first n of an array
@@ -81,7 +67,7 @@ path-next p ds d e l =
     let size : p .n ≡ length ds = ap (λ (q : Path). q .n) e in
     let row : p .at ≡ padded 16 0 ds = ap (λ (q : Path). q .at) e in
     let sized : p .n + 1 ≡ length (ds ++ one d) = rw (size, length-append) in
-    let stored : set (p .at) (p .n) d ≡ padded 16 0 (ds ++ one d) = rw (row, size) (padded-next 16 0 ds d (omega arith)) in
+    let stored : set (p .at) (p .n) d ≡ padded 16 0 (ds ++ one d) = rw (row, size) (padded-next 16 (length ds) 0 d ds refl (omega arith)) in
     ap₂ (λ (a : List ℕ) (k : ℕ). record { at = a; n = k }) stored sized
 
 -- ---- the tables of runs

@@ -8,7 +8,7 @@ use native.Mathlib.Omega.{arith}
 use mathlib.Core.List.{List, [], _∷_}
 use lib.ListN.{length, getD, take}
 use lib.Dec.{T, ltb, eqb}
-use Rattle.laws.proofs.Tests.{and-iff, ltb-iff, leb-iff, eqb-iff, true-of, false-of}
+use Rattle.laws.proofs.Tests.{and-iff, ltb-iff, leb-iff, eqb-iff, true-of, false-of, empty-length}
 use Rattle.laws.proofs.Rows.{any-map, all-map}
 use Rattle.model.specs.declared.Book.{Book as BookStruct}
 use Rattle.model.specs.declared.Train.{Train as TrainStruct}
@@ -28,12 +28,6 @@ use Rattle.reading.specs.declared.BookRead.{BookRead}
 use Rattle.reading.specs.BookAnswers.{bookReadOf}
 
 -- ---- rows
-
--- a row is empty exactly where its length is 0
-empty-length {ℓ} : {A : Type ℓ} (xs : List A) → empty xs ≡ eqb (length xs) 0
-unfolding empty
-empty-length [] = refl
-empty-length (x ∷ xs) = sym (false-of (eqb (suc (length xs)) 0) (λ t. let e = eqb-iff (suc (length xs)) 0 .0 t in omega arith))
 
 pub empty-counted {ℓ} : {A : Type ℓ} (xs : List A) (n : ℕ) → length xs ≡ n → empty xs ≡ eqb n 0
 empty-counted xs n e = empty-length xs ∙ ap (λ (m : ℕ). eqb m 0) e

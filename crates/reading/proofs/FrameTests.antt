@@ -9,10 +9,12 @@ use native.Mathlib.Omega.{arith}
 use mathlib.Core.List.{List, [], _∷_}
 use lib.ListN.{length, drop}
 use lib.Dec.{T, eqb, T-not}
-use Rattle.laws.proofs.Tests.{decide, true-of, denied-of, false-of, or-iff, and-iff, eqb-iff, bool-ext}
+use Rattle.laws.proofs.Tests.{decide, true-of, denied-of, false-of, or-iff, and-iff, eqb-iff, bool-ext, empty-length}
 use Rattle.spec.specs.Lists.{Bytes, any, all, empty, Fault, _when_, firstFault}
 use Rattle.spec.specs.Frames.{Kind, kindNumber, kindOrder, rank, rankIn, findKind, kindField, payloadOf, behind, cutShort}
 use Rattle.spec.specs.Read.{Reading, unknownKind, outOfOrder, isHead, isEnd, kindFaults, frameFaults}
+use Rattle.demands.proofs.Growing.{none-iff}
+use Rattle.frames.proofs.Order.{rank-none}
 use Rattle.frames.specs.Framed.{outOfOrderBy}
 
 -- ---- the first fault of a table
@@ -55,30 +57,17 @@ rank-some n (k ∷ ks) h = decide (eqb n (kindNumber k))
     let m = rank-some n ks (rw e at h) in
     rw (e, rankIn) (omega arith))
 
-rank-none : (n : ℕ) (ks : List Kind) → (T (any (λ k. eqb n (kindNumber k)) ks) → ⊥) → rankIn n ks ≡ suc (length ks)
-unfolding any rankIn
-rank-none n [] h = refl
-rank-none n (k ∷ ks) h =
-    let e = false-of (eqb n (kindNumber k)) (λ t. h (or-iff (eqb n (kindNumber k)) _ .1 (mathlib.Core.Logic.inl t))) in
-    rw (e, rankIn) (ap suc (rank-none n ks (λ t. h (or-iff (eqb n (kindNumber k)) _ .1 (mathlib.Core.Logic.inr t)))))
-
 pub known-rank : (n : ℕ) → rank n ≢ 9 → unknownKind n ≡ false
 unfolding unknownKind rank kindOrder
 known-rank n h = decide (any (λ k. eqb n (kindNumber k)) kindOrder)
     (λ t. ap not (true-of (any (λ k. eqb n (kindNumber k)) kindOrder) t))
-    (λ f. absurd (h (rank-none n kindOrder (T-not (any (λ k. eqb n (kindNumber k)) kindOrder) f))))
+    (λ f. absurd (h (rank-none n kindOrder (none-iff (λ k. eqb n (kindNumber k)) kindOrder .0 f))))
 
 pub unknown-rank : (n : ℕ) → rank n ≡ 9 → unknownKind n ≡ true
 unfolding unknownKind rank kindOrder
 unknown-rank n e = decide (any (λ k. eqb n (kindNumber k)) kindOrder)
     (λ t. let m = rank-some n kindOrder t in let no′ : ⊥ = omega arith in absurd no′)
     (λ f. ap not (denied-of (any (λ k. eqb n (kindNumber k)) kindOrder) f))
-
--- bytes stand behind a frame exactly where there are more than none
-empty-length : (s : Bytes) → empty s ≡ eqb (length s) 0
-unfolding empty
-empty-length [] = refl
-empty-length (x ∷ xs) = sym (false-of (eqb (suc (length xs)) 0) (λ t. let e = eqb-iff (suc (length xs)) 0 .0 t in omega arith))
 
 pub order-by : (last : ℕ) (s : Bytes) → outOfOrder last s ≡ outOfOrderBy last (kindField s) (length (behind s))
 unfolding outOfOrder outOfOrderBy

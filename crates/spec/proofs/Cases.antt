@@ -5,7 +5,7 @@ use mathlib.Core.Bool.{Bool, true, false, not, _&&_, _||_, cond}
 use Prim.Native.Nat.{ℕ, zero, suc, _+_, _*_, _-_}
 use mathlib.Core.List.{List, [], _∷_, _++_, map}
 use mathlib.Core.Option.{Option, none, some}
-use lib.ListN.{length, getD}
+use lib.ListN.{length, getD, replicate}
 use lib.IntN.{ℤ, pos, negsuc}
 use lib.Dec.{eqb}
 use Rattle.spec.specs.Lists.{Bytes, Verdict, accepted, refused, one, count, upTo, range, each, only, all, any, pick, empty, lastOr, same, has, different, sumTo, firstFault, andThen}
@@ -22,6 +22,7 @@ use Rattle.spec.specs.Formula.{width, base, borderVar, runVar, goneVar, 
 use Rattle.spec.specs.Assignment.{deny, truth, isYes, valueOf, isTrue, holds, satisfies, firstFalse, assigned, assignmentFits, firstRun, chosen, decoded, decode, claims, encode}
 use Rattle.spec.specs.Refutation.{ProofStep, Lent, stepPayload, fileOf, literalCount, hintCount, stepIn, variableOf, risesFrom, literalsFit, hintsFit, makeTrue, makeFalse, refuting, isNo, isOpen, clauseAt, notFalse, hinted, goThrough, followsRule, clausesFit, stepFaults, stepDetail, checkSteps, checkFile}
 use Rattle.spec.specs.Entry.{demand, findNone, readInstance, formulaWritten, writeFormula, formulaText, judgeAssignment, checkAssignment, judgePlan, checkPlan, formulaFits, checkRefutation}
+use Rattle.spec.specs.Programs.{sliceBytes, sliceOf, programLent, unlessLong, isLong, acceptedLine, refusalLine, printed, printFormula, printAssignment, printPlan, printRefutation}
 
 -- An answer: rows of numbers, a text or a clause, or a refusal's number and detail.
 pub data Answer : Type 0 where
@@ -147,9 +148,6 @@ sections : Bytes → ℕ → Answer
 sections s n = answered (readInstance s) λ I.
     rows (map (λ t. pick (λ u. together I (eqb n) t u) (upTo (I .segments))) (upTo (I .segments)))
 
-printed : Bytes → Answer
-printed s = answered (formulaText s 16384) text
-
 clauseNumber : ℕ → Bytes → Answer
 clauseNumber n s = answered (readInstance s) λ I. clause (clauseAt (formula I) n)
 
@@ -158,7 +156,7 @@ emptyStep : List ℕ → Bytes
 emptyStep hints = fileOf (one (record { literals = []; hints = hints }))
 
 refuted : Bytes → Bytes → Answer
-refuted s r = answered (checkRefutation s r (record { words = 16384; clauses = 8192; values = 65536; trail = 8192 })) λ _. yes-accepted
+refuted s r = answered (checkRefutation s r programLent) λ _. yes-accepted
 
 totalsOf : Bytes → ℕ → Answer
 totalsOf s n = answered (writeFormula s n) λ w. rows ((w .variableCount ∷ w .clauseCount ∷ w .wordCount ∷ length (w .words) ∷ []) ∷ [])
@@ -198,7 +196,7 @@ starred =
     }
     -- *Book L's text: "p cnf 6 10", "-1 0", "-2 0", "3 4 5 0", "-3 -4 0", "-3 -5 0", "-4 -5 0", "-4 0", "-5 0", "-3 6 0", "-4 6 0"
     ∷ record {
-      asked = printed bookL;
+      asked = text (printFormula bookL);
       answer = text
           (112 ∷ 32 ∷ 99 ∷ 110 ∷ 102 ∷ 32 ∷ 54 ∷ 32 ∷ 49 ∷ 48 ∷ 10
           ∷ 45 ∷ 49 ∷ 32 ∷ 48 ∷ 10
@@ -224,7 +222,7 @@ starred =
     ∷ []
 
 -- Not starred: each refusal number once, and a book in which trains move, so that no family is empty. The answers are those of
--- the reference.
+-- the reference; the programs' are document 01's.
 pub further : List Case
 further =
     -- 1 to 11
@@ -304,6 +302,13 @@ further =
     ∷ record { asked = encodes bookN (0 ∷ 1 ∷ 0 ∷ 254 ∷ 255 ∷ 0 ∷ 0 ∷ 2 ∷ 0 ∷ 2 ∷ 0 ∷ 255 ∷ 255 ∷ 255 ∷ 255 ∷ []) 57; answer = refusal 16 4 }
     ∷ record { asked = encodes bookN (0 ∷ 1 ∷ 0 ∷ 254 ∷ 255 ∷ 0 ∷ 0 ∷ 0 ∷ 0 ∷ 2 ∷ 0 ∷ 255 ∷ 255 ∷ 255 ∷ 255 ∷ []) 57; answer = refusal 16 5 }
     ∷ record { asked = encodes bookN (0 ∷ 0 ∷ 0 ∷ 254 ∷ 255 ∷ 4 ∷ 0 ∷ 2 ∷ 0 ∷ 2 ∷ 0 ∷ 2 ∷ 0 ∷ 255 ∷ 255 ∷ []) 57; answer = refusal 16 6 }
+    -- the programs: "accepted", a refusal's number and detail, and 12 first where an input is longer than a slice
+    ∷ record { asked = text (printRefutation (bookM 1) (emptyStep (16 ∷ 17 ∷ 19 ∷ []))); answer = text (97 ∷ 99 ∷ 99 ∷ 101 ∷ 112 ∷ 116 ∷ 101 ∷ 100 ∷ 10 ∷ []) }
+    ∷ record { asked = text (printPlan bookN planN); answer = text (97 ∷ 99 ∷ 99 ∷ 101 ∷ 112 ∷ 116 ∷ 101 ∷ 100 ∷ 10 ∷ []) }
+    ∷ record { asked = text (printAssignment bookL (0 ∷ 0 ∷ 0 ∷ 0 ∷ 0 ∷ 0 ∷ [])); answer = text (49 ∷ 52 ∷ 32 ∷ 51 ∷ 10 ∷ []) }
+    ∷ record { asked = text (printFormula (replicate 65536 0)); answer = text (50 ∷ 32 ∷ 48 ∷ 10 ∷ []) }
+    ∷ record { asked = text (printFormula (replicate 65537 0)); answer = text (49 ∷ 50 ∷ 32 ∷ 48 ∷ 10 ∷ []) }
+    ∷ record { asked = text (printPlan bookN (replicate 65537 0)); answer = text (49 ∷ 50 ∷ 32 ∷ 48 ∷ 10 ∷ []) }
     ∷ []
 
 -- both tables
@@ -312,7 +317,7 @@ table = starred ++ further
 
 pub cases : map (λ c. c .asked) table ≡ map (λ c. c .answer) table
 unfolding
-    table starred further answered bookL headWith headFrame trainFrom callOf passingBook bookN planN assignmentN crowdedBook totalsOf decodes encodes nodeFrame segmentFrame trainFrame callFrame endFrame pairBook joinFrame bookM tripleBook reach runList sections printed clauseNumber emptyStep refuted
+    table starred further answered bookL headWith headFrame trainFrom callOf passingBook bookN planN assignmentN crowdedBook totalsOf decodes encodes nodeFrame segmentFrame trainFrame callFrame endFrame pairBook joinFrame bookM tripleBook reach runList sections clauseNumber emptyStep refuted
     count upTo range each only all any pick empty lastOr same has different sumTo firstFault andThen
     littleEndian number field signed unsigned digits decimal decimalZ
     frame payloadLength kindField payloadOf behind cutShort kindNumber stepKind kindOrder findKind rankIn rank timeWidth trainCountAt lengthFits stepLengthFits
@@ -327,4 +332,5 @@ unfolding
     deny truth isYes valueOf isTrue holds satisfies firstFalse assigned assignmentFits firstRun chosen decoded decode claims encode
     stepPayload fileOf literalCount hintCount stepIn variableOf risesFrom literalsFit hintsFit makeTrue makeFalse refuting isNo isOpen clauseAt notFalse hinted goThrough followsRule clausesFit stepFaults stepDetail checkSteps checkFile
     demand findNone readInstance formulaWritten writeFormula formulaText judgeAssignment checkAssignment judgePlan checkPlan formulaFits checkRefutation
+    sliceBytes sliceOf programLent unlessLong isLong acceptedLine refusalLine printed printFormula printAssignment printPlan printRefutation
 cases = refl

@@ -10,7 +10,7 @@ use lib.ListN.{length, getD, take, length-map, length-take, drop-of-length-le}
 use lib.Seq.{slice, slice-cons, getD-take}
 use lib.Dec.{T}
 use Rattle.spec.specs.Lists.{any, all}
-use Rattle.laws.proofs.Tests.{and-iff}
+use Rattle.laws.proofs.Tests.{and-iff, all-at}
 
 -- for `search (needs, length-of-map)`: an array of structs is as long as the list of its elements' values
 pub length-of-map {ℓ κ} : {A : Type ℓ} {B : Type κ} (f : A → B) (xs : List A) (n : ℕ) → length (map f xs) ≡ n → length xs ≡ n
@@ -44,13 +44,7 @@ module _ {ℓ} {A : Type ℓ} (xs : List A) (n i : ℕ) (l : n ≤ i) where
 
 -- a row that passes, passes at each place
 module _ {ℓ} {A : Type ℓ} (f : A → Bool) where
-  pub all-at : (xs : List A) (i : ℕ) (d : A) → i < length xs → T (all f xs) → T (f (getD xs i d))
-  unfolding all
-  all-at [] i d l h = let no : ⊥ = omega arith in absurd no
-  all-at (x ∷ xs) zero d l h = and-iff (f x) (all f xs) .0 h .0
-  all-at (x ∷ xs) (suc i) d l h = all-at xs i d (omega arith) (and-iff (f x) (all f xs) .0 h .1)
-
   pub all-take-at : (xs : List A) (n i : ℕ) (d : A) → i < n → n ≤ length xs → T (all f (take n xs)) → T (f (getD xs i d))
   all-take-at xs n i d l fits h =
       let room : i < length (take n xs) = rw length-take (omega arith) in
-      rw (getD-take n xs i d l) at (all-at (take n xs) i d room h)
+      rw (getD-take n xs i d l) at (all-at f (take n xs) i d h room)

@@ -10,7 +10,7 @@ use lib.ListN.{length, take, drop, getD, set, length-drop}
 use lib.Seq.{take-suc, take-all, getD-drop, length-take-le}
 use Rattle.spec.specs.Lists.{one}
 use Rattle.spec.specs.Held.{padded}
-use Rattle.checks.proofs.Rests.{padded-next}
+use Rattle.laws.proofs.Arrays.{padded-next}
 use Rattle.checks.proofs.row_of.Statement.{statement}
 use Rattle.checks.proofs.row_of.Tie as tie
 

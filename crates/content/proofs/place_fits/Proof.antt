@@ -4,7 +4,7 @@ use borrow.Author.Needs.{needs}
 use borrow.Author.Tests.{eq-eqb, ne-eqb}
 use mathlib.Core.Path.{_≡_, ap, _∙_}
 use lib.ListN.{length, take, drop, length-drop}
-use Rattle.content.proofs.Packing.{take-padded-at}
+use Rattle.laws.proofs.Arrays.{take-padded-at}
 use Rattle.content.proofs.place_fits.Statement.{statement}
 use Rattle.content.proofs.place_fits.Tie as tie
 

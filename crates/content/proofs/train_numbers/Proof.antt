@@ -1,7 +1,7 @@
 -- `content::train_numbers` meets its contract: each number is its field of the payload. Assumes nothing.
 use borrow.Author.Needs.{needs}
 use native.Mathlib.Omega.{arith}
-use mathlib.Core.Path.{sym, _∙_}
+use mathlib.Core.Path.{refl, sym, _∙_}
 use Rattle.laws.proofs.Numbers.{field-one}
 use Rattle.spec.specs.Frames.{timeWidth}
 use Rattle.content.proofs.train_numbers.Statement.{statement}
@@ -25,7 +25,7 @@ returns c =
     let a = c .before .before .before .pair .ensures in
     let e = c .before .before .pair2 .ensures in
     let d = c .wide .ensures .0 ∙ sym (field-one (c .before .before .before .before .before .args .p .now) 4 (omega arith)) in
-    record { metres = a .0; speed = e .0; departure = d; metresFit = a .1; speedFit = e .1 }
+    record { metres = a .0; speed = e .0; departure = d; metresFit = a .1; speedFit = e .1; size = refl; place = refl }
 
 pub train-numbers-spec : {M : Type 1} → statement M
 train-numbers-spec =
