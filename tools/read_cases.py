@@ -3,17 +3,12 @@
 
     read_cases.py SEED
 """
-import os
 import random
-import struct
 import sys
 
+import cases
 import reference
 import samples
-
-CRATE = os.path.join(os.path.dirname(os.path.dirname(os.path.abspath(__file__))), "crates", "read_cases")
-# the program reads at most 64 KiB
-MOST_BYTES = 65536
 
 
 def answer(data):
@@ -43,18 +38,9 @@ def books(rng):
 
 
 def main(arguments):
-    cases, answers = b"", ""
-    for data in books(random.Random(int(arguments[0]))):
-        case = struct.pack("<H", len(data)) + data
-        if len(cases) + len(case) > MOST_BYTES:
-            break
-        cases += case
-        answers += answer(data)
-    with open(os.path.join(CRATE, "stdin"), "wb") as out:
-        out.write(cases)
-    with open(os.path.join(CRATE, "stdout"), "w") as out:
-        out.write(answers)
-    print("%d cases, %d bytes" % (answers.count("\n"), len(cases)))
+    found, answers = cases.gather(books(random.Random(int(arguments[0]))), answer)
+    cases.store("read_cases", found, answers)
+    print("%d cases, %d bytes" % (len(answers), len(found)))
 
 
 if __name__ == "__main__":

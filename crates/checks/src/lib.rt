@@ -1,6 +1,7 @@
 // Scans of a payload and of a book's rows that the content of a frame is checked by. One loop each.
 // Assumes nothing.
 use model::Book;
+use track::denies_border;
 use track::wide;
 ghost use mathlib.Core.Path.{_≡_};
 ghost use mathlib.Core.Bool.{not, _&&_};
@@ -78,7 +79,7 @@ pub fn some_has(b: Book, ttd: usize) -> bool
 fn divides(kind: u8, mark: u8) -> bool
     ensures { λ r. ⌜ r ≡ (not (book.deniesBorder kind) && eqb mark 1) ⌝ }
 {
-    kind != 0 && mark == 1
+    !denies_border(kind) && mark == 1
 }
 
 // 9: whether a node of kind 1 or 2 has two segments of the TTD. `seen` marks the nodes that a

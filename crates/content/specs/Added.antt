@@ -12,14 +12,8 @@ use Rattle.spec.specs.Frames.{Kind, timeWidth}
 use Rattle.spec.specs.Book.{Book, callsOf}
 use Rattle.spec.specs.Read.{kindFaults, add, maxCalls, maxReach, maxTrains}
 use Rattle.spec.specs.Held.{held, packed, CountsFit, NumbersFit}
-use Rattle.content.specs.declared.Checked.{Checked}
 use Rattle.content.specs.declared.Checked.the-variants.{Fine, Refused}
 use Rattle.content.specs.declared.Added.{Added}
-
--- the refusal's number of an answer
-abbrev pub checkedOf : Option ℕ → Checked
-checkedOf none = Fine
-checkedOf (some n) = Refused n
 
 -- the book with what the frame adds, or unchanged beside a refusal
 abbrev pub settled : Option ℕ → Book → Book → Added

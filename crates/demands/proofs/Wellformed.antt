@@ -116,7 +116,7 @@ noTrain : Train
 noTrain = record { metres = 0; speed = 0; departure = 0; place = [] }
 
 -- a train's run list, by its number
-runs-at : (b : Book) (i : ℕ) → i < length (b .trains) → getD (runLists b) i [] ≡ runsOf b (trainAt b i)
+pub runs-at : (b : Book) (i : ℕ) → i < length (b .trains) → getD (runLists b) i [] ≡ runsOf b (trainAt b i)
 unfolding runLists trainAt noTrain
 runs-at b i l = map-at (runsOf b) (b .trains) i noTrain [] l
 

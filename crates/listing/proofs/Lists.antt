@@ -54,11 +54,11 @@ module _ {ℓ} {A : Type ℓ} where
 abbrev pub short : List ℕ → Bool
 short run = leb (length run) 16
 
-length-padded : (run : List ℕ) → length run ≤ 16 → length (padded 16 0 run) ≡ 16
+pub length-padded : (run : List ℕ) → length run ≤ 16 → length (padded 16 0 run) ≡ 16
 unfolding padded
 length-padded run h = omega (arith, length-append run (replicate (16 - length run) 0), length-replicate {A = ℕ} (16 - length run) 0)
 
-length-rows : (xs : List (List ℕ)) → T (all short xs) → length (each xs (padded 16 0)) ≡ length xs * 16
+pub length-rows : (xs : List (List ℕ)) → T (all short xs) → length (each xs (padded 16 0)) ≡ length xs * 16
 unfolding all each
 length-rows [] h = refl
 length-rows (x ∷ xs) h =
@@ -113,7 +113,7 @@ module _ (n : ℕ) (xs ys : List (List ℕ)) where
     unfolding countAfter
     count-fits = omega arith
 
-    kept-first : keptOf n xs ≡ xs
+    pub kept-first : keptOf n xs ≡ xs
     unfolding keptOf
     kept-first = take-all (256 - n) xs (omega arith)
 

@@ -146,7 +146,8 @@ pub fn extend(
     found
 }
 
-// Lists the paths of `size` segments behind the first `count`.
+// Lists the paths of `size` segments behind the first `count`; answers how many runs there are then,
+// as far as 257.
 pub fn list_paths(
     table: &[u8],
     directed: usize,
@@ -175,8 +176,8 @@ pub fn list_paths(
     found
 }
 
-// Lists a train's runs: paths of l, l + 1, .. l + k segments. `table` is working memory for the
-// pairs. Answers how many runs there are, as far as 257.
+// Lists a train's runs: paths of l, l + 1, .. l + k segments. Where no path is so long, none is longer.
+// `table` is working memory for the pairs. Answers how many runs there are, as far as 257.
 pub fn list_runs(b: Book, t: Train, table: &mut [u8], rows: &mut [u8], sizes: &mut [u8]) -> usize
     requires { ⌜ CountsFit b × NumbersFit b × (1 ≤ b .«segment_metres») × (t .metres < 65536) × (t .speed < 65536)
         × T (reachFits (held b) (heldTrain t))
@@ -193,7 +194,11 @@ pub fn list_runs(b: Book, t: Train, table: &mut [u8], rows: &mut [u8], sizes: &m
     let mut found = 0;
     let mut j = 0;
     while j <= k {
-        found = list_paths(table, directed, rows, sizes, found, l + j);
+        let next = list_paths(table, directed, rows, sizes, found, l + j);
+        if next == found {
+            return next;
+        }
+        found = next;
         j += 1;
     }
     found

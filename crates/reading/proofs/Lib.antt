@@ -4,3 +4,4 @@ pub mod ByKind
 pub mod Ends
 pub mod Whole
 pub mod Way
+pub mod Accepted

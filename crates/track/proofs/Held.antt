@@ -1,12 +1,27 @@
--- What a book's struct holds, entry by entry: below the count, a row's entry is the array's element. Assumes nothing.
+-- What a book's struct holds, entry by entry: below the count, a row's entry is the array's element; so two segments share a node
+-- by their elements. Assumes nothing.
 use mathlib.Core.Path.{_≡_}
+use mathlib.Core.Bool.{Bool, not, _&&_}
 use Prim.Native.Nat.{ℕ, _<_}
 use lib.ListN.{getD}
 use lib.Seq.{getD-take}
+use lib.Dec.{eqb}
 use Rattle.model.specs.declared.Book.{Book as BookStruct}
-use Rattle.spec.specs.Book.{segmentAt}
+use Rattle.spec.specs.Book.{Segment, segmentAt, touches, shareNode}
 use Rattle.spec.specs.Held.{held, zeroSegment}
 
 pub segment-at : (b : BookStruct) (s : ℕ) → s < b .«segment_count» → segmentAt (held b) s ≡ getD (b .segments) s zeroSegment
 unfolding segmentAt held
 segment-at b s h = getD-take (b .«segment_count») (b .segments) s zeroSegment h
+
+module _ (b : BookStruct) (n s t : ℕ) (ls : s < b .«segment_count») (lt : t < b .«segment_count») where
+  abbrev first : Segment
+  first = getD (b .segments) s zeroSegment
+
+  abbrev second : Segment
+  second = getD (b .segments) t zeroSegment
+
+  pub share-at : {r : Bool} → r ≡ (not (eqb s t) && eqb (first .ttd) (second .ttd) && touches first n && touches second n)
+      → r ≡ shareNode (held b) n s t
+  unfolding shareNode
+  share-at e = let p = segment-at b s ls in let q = segment-at b t lt in simp (p, q) e

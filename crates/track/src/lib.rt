@@ -9,7 +9,8 @@ ghost use mathlib.Core.Path.{_≡_};
 ghost use Prim.Native.Nat.{_+_, _*_, _/_, _<_, _≤_};
 ghost use lib.ListN.{take};
 ghost use mathlib.Core.List.{map};
-ghost use lib.Dec.{T, ltb};
+ghost use mathlib.Core.Bool.{not, _&&_};
+ghost use lib.Dec.{T, ltb, eqb};
 ghost use Rattle.spec.specs.Lists as lists;
 ghost use Rattle.spec.specs.Book as book;
 ghost use Rattle.spec.specs.Runs as runs;
@@ -20,6 +21,20 @@ pub fn wide(x: u8) -> usize
     ensures { λ r. ⌜ (r ≡ x) × (r < 256) ⌝ }
 {
     x as usize
+}
+
+// Whether a node of this kind may never have a border.
+pub fn denies_border(kind: u8) -> bool
+    ensures { λ r. ⌜ r ≡ book.deniesBorder kind ⌝ }
+{
+    kind == 0
+}
+
+// Whether a node of this kind always has a border.
+pub fn forces_border(kind: u8) -> bool
+    ensures { λ r. ⌜ r ≡ book.forcesBorder kind ⌝ }
+{
+    kind == 2
 }
 
 // Whether the segment touches the node.
@@ -89,14 +104,19 @@ pub fn leads_to(b: Book, d: usize, e: usize) -> bool
     node == start_node(b, e) && joined(b, node, d / 2, e / 2)
 }
 
+// Whether s and t, with these records, are two different segments of one TTD that both touch the node.
+pub fn meet(node: usize, s: usize, first: Segment, t: usize, second: Segment) -> bool
+    ensures { λ r. ⌜ r ≡ (not (eqb s t) && eqb (first .ttd) (second .ttd) && book.touches first node && book.touches second node) ⌝ }
+{
+    s != t && first.ttd == second.ttd && touches(first, node) && touches(second, node)
+}
+
 // Whether two different segments of one TTD both touch the node.
 pub fn share_node(b: Book, node: usize, s: usize, t: usize) -> bool
     requires { ⌜ CountsFit b × (s < b .«segment_count») × (t < b .«segment_count») ⌝ }
     ensures { λ r. ⌜ r ≡ book.shareNode (held b) node s t ⌝ }
 {
-    let first = b.segments[s];
-    let second = b.segments[t];
-    s != t && first.ttd == second.ttd && touches(first, node) && touches(second, node)
+    meet(node, s, b.segments[s], t, b.segments[t])
 }
 
 // A train's length in segments, rounded up.

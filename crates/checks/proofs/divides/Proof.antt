@@ -1,16 +1,23 @@
--- `checks::divides` meets its contract: the code is the definition, test by test. Assumes nothing.
-use borrow.Author.Tests.{eq-eqb, ne-eqb}
-use Rattle.spec.specs.Book.{deniesBorder}
+-- `checks::divides` meets its contract: the two branches are the two ways of `&&`. Assumes nothing.
+use borrow.Author.Needs.{needs}
+use mathlib.Core.Path.{sym, ap, _∙_}
+use mathlib.Core.Bool.{Bool, not, _&&_}
+use lib.Dec.{eqb}
 use Rattle.checks.proofs.divides.Statement.{statement}
 use Rattle.checks.proofs.divides.Tie as tie
 
+denies-border-requires : tie.Need-denies-border-requires
+denies-border-requires c κs = search needs
+
 returns : tie.Need-returns
-unfolding deniesBorder
-returns c = let h = ne-eqb (c .before .args .kind) 0 (c .if1 .taken) in simp h
+returns c =
+    let h = ap not (sym (c .before .denies-border .ensures)) ∙ c .if1 .taken in
+    sym (ap (λ (t : Bool). t && eqb (c .before .before .args .mark) 1) h)
 
 returns-2 : tie.Need-returns-2
-unfolding deniesBorder
-returns-2 c = let h = eq-eqb (c .before .args .kind) 0 (c .if1 .left) in simp h
+returns-2 c =
+    let h = ap not (sym (c .before .denies-border .ensures)) ∙ c .if1 .left in
+    c .if1 .left ∙ sym (ap (λ (t : Bool). t && eqb (c .before .before .args .mark) 1) h)
 
 pub divides-spec : {M : Type 1} → statement M
-divides-spec = tie.close (tie.spec returns returns-2)
+divides-spec = tie.close (tie.spec denies-border-requires returns returns-2)

@@ -15,6 +15,7 @@ use Rattle.track.proofs.Walks.{length-of-map}
 use Rattle.listing.specs.Listed.{pathsBy}
 use Rattle.listing.proofs.Lists.{Listed, listed-none, listed-le, listed-rows, listed-sizes, listed-next}
 use Rattle.listing.proofs.Lists.{short, each-nothing, levels-short, runs-same, reach, held-segments}
+use Rattle.listing.proofs.Levels.{listed-all}
 use Rattle.listing.proofs.list_runs.Statement.{statement}
 use Rattle.listing.proofs.list_runs.Tie as tie
 
@@ -106,30 +107,55 @@ list-paths-requires c κs =
     )
 
 add-j : tie.Need-add-j Inv-loop μ-loop
-add-j c = omega (arith, bounds (c .before .before .before .before .before .before .before .before .before))
+add-j c = omega (arith, bounds (c .before .before .before .before .before .before .before .before .before .before))
 
 loop-less : tie.Need-loop-less Inv-loop μ-loop
 loop-less c = omega arith
 
 loop-again : tie.Need-loop-again Inv-loop μ-loop
 loop-again c =
-    let e = c .before .before .before .before .list-paths .ensures in
-    let a = c .before .before .before .before .before .before .before .before .before in (
-      omega (arith, c .before .before .before .before .before .before .before .before .loop-test .taken),
+    let e = c .before .before .before .before .before .list-paths .ensures in
+    let a = c .before .before .before .before .before .before .before .before .before .before in (
+      omega (arith, c .before .before .before .before .before .before .before .before .before .loop-test .taken),
       listed-next (level a) (a .loop .inv .1) (are-short a) (record { counted = e .0; filled = e .1; sized = e .2 }),
     )
 
+-- a level that added nothing: all runs are listed
+all-listed : (c : tie.Then1 Inv-loop μ-loop)
+    → Listed 0 (start (c .before .before .before .before .before .before .before .before .before .before) .args .rows .now) (start (c .before .before .before .before .before .before .before .before .before .before) .args .sizes .now)
+    (runsOf (held (start (c .before .before .before .before .before .before .before .before .before .before) .args .b)) (heldTrain (start (c .before .before .before .before .before .before .before .before .before .before) .args .t)))
+    (c .before .before .before .before .before .list-paths .result) (c .before .before .before .before .before .list-paths .last .1 .1 .0) (c .before .before .before .before .before .list-paths .last .1 .1 .1 .0)
+all-listed c =
+    let e = c .before .before .before .before .before .list-paths .ensures in
+    let a = c .before .before .before .before .before .before .before .before .before .before in
+    let fits = levels-short (table a) (directed a) (l a) (a .loop .j + 1) (bounds a .0) (omega (arith, bounds a, c .before .before .before .before .before .before .before .before .before .loop-test .taken)) in
+    rw (runs a) at
+    (listed-all (table a) (directed a) (l a) (bounds a .0) (a .loop .j) (k a) (omega (arith, c .before .before .before .before .before .before .before .before .before .loop-test .taken)) (a .loop .inv .1) (are-short a) fits
+    (record { counted = e .0; filled = e .1; sized = e .2 }) (c .if1 .taken))
+
 same-length : tie.Need-same-length Inv-loop μ-loop
-same-length c = c .before .before .before .before .fill-leads .kept .1 .0
+same-length c = c .before .before .before .before .before .before .before .before .before .before .before .before .before .fill-leads .kept .1 .0
 
 same-length-2 : tie.Need-same-length-2 Inv-loop μ-loop
-same-length-2 c = listed-rows (c .before .loop .inv .1)
+same-length-2 c = listed-rows (all-listed c)
 
 same-length-3 : tie.Need-same-length-3 Inv-loop μ-loop
-same-length-3 c = listed-sizes (c .before .loop .inv .1)
+same-length-3 c = listed-sizes (all-listed c)
 
 returns : tie.Need-returns Inv-loop μ-loop
-returns c =
+returns c = let r = all-listed c in (r .counted, r .filled, r .sized, c .before .before .before .before .before .before .before .before .before .before .before .before .before .fill-leads .ensures)
+
+same-length-4 : tie.Need-same-length-4 Inv-loop μ-loop
+same-length-4 c = c .before .before .before .before .fill-leads .kept .1 .0
+
+same-length-5 : tie.Need-same-length-5 Inv-loop μ-loop
+same-length-5 c = listed-rows (c .before .loop .inv .1)
+
+same-length-6 : tie.Need-same-length-6 Inv-loop μ-loop
+same-length-6 c = listed-sizes (c .before .loop .inv .1)
+
+returns-2 : tie.Need-returns-2 Inv-loop μ-loop
+returns-2 c =
     let a = c .before in
     let e : a .loop .j ≡ k a + 1 = omega arith in
     let r = rw (e, runs a) at (a .loop .inv .1) in
@@ -148,10 +174,14 @@ list-runs-spec =
     loop-holds
     add-list-paths
     list-paths-requires
-    add-j
-    loop-less
-    loop-again
     same-length
     same-length-2
     same-length-3
-    returns)
+    returns
+    add-j
+    loop-less
+    loop-again
+    same-length-4
+    same-length-5
+    same-length-6
+    returns-2)

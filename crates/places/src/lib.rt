@@ -1,0 +1,146 @@
+// Places of trains: what a run starts at and ends at, what a place contains, whether it serves a call,
+// who may leave, and which segments are neighbours under a set of borders. One function for each
+// rule. Places lie in tables of directed segments, as `listing::list_runs` fills them: the run with
+// number r has 16 bytes from 16 r on, and its length in a table beside. Assumes nothing.
+use model::Book;
+use model::Call;
+use model::Train;
+use track::share_node;
+use track::wide;
+ghost use mathlib.Core.Path.{_≡_};
+ghost use mathlib.Core.Bool.{not, _&&_};
+ghost use Prim.Native.Nat.{_+_, _*_, _≤_, _<_};
+ghost use lib.ListN.{length, getD};
+ghost use lib.Dec.{T};
+ghost use Rattle.spec.specs.Lists.{all, same};
+ghost use Rattle.spec.specs.Book.{goalOf, shareNode};
+ghost use Rattle.spec.specs.Runs as runs;
+ghost use Rattle.spec.specs.Read.{segmentFits};
+ghost use Rattle.spec.specs.Instance.{placeServes, mayLeave, instanceOf};
+ghost use Rattle.spec.specs.Sections as sections;
+ghost use Rattle.spec.specs.Held.{held, heldTrain, CountsFit};
+ghost use Rattle.places.specs.Placed.{placeAt, endAt, bordersOf};
+
+// Where the row of the run with a number begins in the table: the place that the run starts at.
+pub fn start_of(r: usize) -> usize
+    requires { ⌜ r < 256 ⌝ }
+    ensures { λ at. ⌜ at ≡ 16 * r ⌝ }
+{
+    16 * r
+}
+
+// Where the last l directed segments of a run begin: the place that the run ends at.
+pub fn end_of(sizes: &[u8], r: usize, l: usize) -> usize
+    requires { ⌜ (r < 256) × (r < length (now sizes)) × (l ≤ getD (now sizes) r 0) ⌝ }
+    ensures { λ at. ⌜ at ≡ endAt (now (sizes .entry)) r l ⌝ }
+{
+    16 * r + (wide(sizes[r]) - l)
+}
+
+// Whether two places of l directed segments are the same.
+pub fn same_places(rows: &[u8], at: usize, others: &[u8], from: usize, l: usize) -> bool
+    requires { ⌜ (at + l ≤ length (now rows)) × (from + l ≤ length (now others)) ⌝ }
+    ensures { λ r. ⌜ r ≡ same (placeAt (now (rows .entry)) at l) (placeAt (now (others .entry)) from l) ⌝ }
+{
+    let mut i = 0;
+    while i < l {
+        if rows[at + i] != others[from + i] {
+            return false;
+        }
+        i += 1;
+    }
+    true
+}
+
+// Whether a place of l directed segments is the one that the train is given.
+pub fn is_given(t: Train, rows: &[u8], at: usize, l: usize) -> bool
+    requires { ⌜ (at + l ≤ length (now rows)) × (t .size ≤ 8) ⌝ }
+    ensures { λ r. ⌜ r ≡ same (placeAt (now (rows .entry)) at l) (heldTrain t .place) ⌝ }
+{
+    let place = t.place;
+    t.size == l && same_places(rows, at, &place, 0, l)
+}
+
+// Whether a place of l directed segments contains the segment.
+pub fn contains(rows: &[u8], at: usize, l: usize, segment: usize) -> bool
+    requires { ⌜ at + l ≤ length (now rows) ⌝ }
+    ensures { λ r. ⌜ r ≡ runs.contains (placeAt (now (rows .entry)) at l) segment ⌝ }
+{
+    let end = at + l;
+    let mut i = at;
+    while i < end {
+        if segment == wide(rows[i]) / 2 {
+            return true;
+        }
+        i += 1;
+    }
+    false
+}
+
+// Whether a place of l directed segments serves the call.
+pub fn serves(b: Book, c: Call, rows: &[u8], at: usize, l: usize) -> bool
+    requires { ⌜ at + l ≤ length (now rows) ⌝ }
+    ensures { λ r. ⌜ r ≡ placeServes (held b) c (placeAt (now (rows .entry)) at l) ⌝ }
+{
+    contains(rows, at, l, wide(c.segment))
+}
+
+// Whether the place that the train is given serves the call.
+pub fn given_serves(b: Book, c: Call, t: Train) -> bool
+    requires { ⌜ t .size ≤ 8 ⌝ }
+    ensures { λ r. ⌜ r ≡ placeServes (held b) c (heldTrain t .place) ⌝ }
+{
+    let place = t.place;
+    serves(b, c, &place, 0, t.size)
+}
+
+// A train's goal: its last call in the file, or zeros where it has none.
+pub fn goal(b: Book, train: usize) -> Call
+    requires { ⌜ CountsFit b ⌝ }
+    ensures { λ r. ⌜ r ≡ goalOf (held b) train ⌝ }
+{
+    let n = b.call_count;
+    let mut last = Call {
+        train: 0,
+        segment: 0,
+        first: 0,
+        last: 0,
+    };
+    let mut i = 0;
+    while i < n {
+        let c = b.calls[i];
+        if wide(c.train) == train {
+            last = c;
+        }
+        i += 1;
+    }
+    last
+}
+
+// Whether a train with this goal that ends at a place of l directed segments may be gone after that.
+pub fn may_leave(b: Book, train: usize, to: Call, rows: &[u8], at: usize, l: usize) -> bool
+    requires { ⌜ (to ≡ goalOf (held b) train) × (at + l ≤ length (now rows)) ⌝ }
+    ensures { λ r. ⌜ r ≡ mayLeave (held b) train (placeAt (now (rows .entry)) at l) ⌝ }
+{
+    serves(b, to, rows, at, l)
+}
+
+// Whether the node is no border and both segments, of one TTD, touch it.
+pub fn open_between(b: Book, borders: &[u8], node: usize, s: usize, t: usize) -> bool
+    requires { ⌜ CountsFit b × (node < length (now borders)) × (s < b .«segment_count») × (t < b .«segment_count») ⌝ }
+    ensures { λ r. ⌜ r ≡ (not (bordersOf (now (borders .entry)) node) && shareNode (held b) node s t) ⌝ }
+{
+    borders[node] != 1 && share_node(b, node, s, t)
+}
+
+// Whether two segments are neighbours under a set of borders: they share a node that is none. Only
+// the two nodes of the first can be shared.
+pub fn neighbours(b: Book, borders: &[u8], s: usize, t: usize) -> bool
+    requires { ⌜ CountsFit b × T (all (segmentFits (held b)) (held b .segments)) × (b .«node_count» ≤ length (now borders))
+        × (s < b .«segment_count») × (t < b .«segment_count») ⌝ }
+    ensures { λ r. ⌜ r ≡ sections.neighbours (instanceOf (held b)) (bordersOf (now (borders .entry))) s t ⌝ }
+{
+    let one = wide(b.segments[s].a);
+    let other = wide(b.segments[s].b);
+    open_between(b, borders, one, s, t) || open_between(b, borders, other, s, t)
+}

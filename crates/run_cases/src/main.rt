@@ -1,0 +1,142 @@
+// Reads cases from standard input, two bytes of length and a book's bytes each, and prints the runs of
+// each train of each book: how many it has, and a line for each, its directed segments in path order,
+// then the numbers of the places that it starts at and ends at. A place's number is the first run that
+// starts there. Of a refused book a line has the refusal's number and detail.
+use frames::pair;
+use libc::STDOUT_FILENO;
+use model::Book;
+use reading::Answer;
+use reading::read_book;
+use tables::fill_trains;
+use track::wide;
+ghost use mathlib.Core.Path.{_≡_};
+ghost use Prim.Native.Nat.{_≤_, _<_};
+ghost use lib.ListN.{length};
+ghost use Rattle.tables.specs.Tables.{Passed};
+
+// A number in decimal, and a byte behind it.
+fn print_number(n: usize, end: u8) {
+    io::print_decimal(STDOUT_FILENO, n as u64);
+    let behind = [end];
+    io::write_all(STDOUT_FILENO, &behind);
+}
+
+// A path of n directed segments.
+fn print_path(path: &[u8], n: usize) {
+    let mut i = 0;
+    while i < path.len() && i < n {
+        print_number(wide(path[i]), b' ');
+        i += 1;
+    }
+}
+
+// The run whose entry in each table is number `at`.
+fn print_run(at: usize, rows: &[u8], sizes: &[u8], starts: &[usize], ends: &[usize])
+    requires { ⌜ (at < 2048) × (length (now rows) ≡ 32768) × (length (now sizes) ≡ 2048)
+        × (length (now starts) ≡ 2048) × (length (now ends) ≡ 2048) ⌝ }
+{
+    let row = at * 16;
+    print_path(&rows[row..row + 16], wide(sizes[at]));
+    io::write_all(STDOUT_FILENO, b"| ");
+    print_number(starts[at], b' ');
+    print_number(ends[at], b'\n');
+}
+
+fn print_head(train: usize, n: usize) {
+    io::write_all(STDOUT_FILENO, b"train ");
+    print_number(train, b':');
+    io::write_all(STDOUT_FILENO, b" ");
+    print_number(n, b' ');
+    io::write_all(STDOUT_FILENO, b"runs\n");
+}
+
+// A train of n runs.
+fn print_train(train: usize, n: usize, rows: &[u8], sizes: &[u8], starts: &[usize], ends: &[usize])
+    requires { ⌜ (train < 8) × (length (now rows) ≡ 32768) × (length (now sizes) ≡ 2048)
+        × (length (now starts) ≡ 2048) × (length (now ends) ≡ 2048) ⌝ }
+{
+    print_head(train, n);
+    let mut run = 0;
+    while run < 256 && run < n {
+        print_run(train * 256 + run, rows, sizes, starts, ends);
+        run += 1;
+    }
+}
+
+// The first n trains.
+fn print_trains(
+    n: usize,
+    counts: [usize; 8],
+    rows: &[u8],
+    sizes: &[u8],
+    starts: &[usize],
+    ends: &[usize],
+)
+    requires { ⌜ (length (now rows) ≡ 32768) × (length (now sizes) ≡ 2048)
+        × (length (now starts) ≡ 2048) × (length (now ends) ≡ 2048) ⌝ }
+{
+    let mut i = 0;
+    while i < 8 && i < n {
+        print_train(i, counts[i], rows, sizes, starts, ends);
+        i += 1;
+    }
+}
+
+// The trains of a book that passed, by the tables that are filled for it.
+fn print_book(b: Book)
+    requires { ⌜ Passed b ⌝ }
+{
+    let mut rows = [0u8; 32768];
+    let mut sizes = [0u8; 2048];
+    let mut starts = [0usize; 2048];
+    let mut ends = [0usize; 2048];
+    let counts = fill_trains(b, &mut rows, &mut sizes, &mut starts, &mut ends);
+    print_trains(b.train_count, counts, &rows, &sizes, &starts, &ends);
+}
+
+fn print_refusal(number: usize, detail: usize) {
+    io::write_all(STDOUT_FILENO, b"refused ");
+    print_number(number, b' ');
+    print_number(detail, b'\n');
+}
+
+fn report(s: &[u8]) {
+    let r = read_book(s);
+    let answer = r.answer;
+    let book = r.book;
+    match answer {
+        Answer::Accepted => print_book(book),
+        Answer::Refused(number, detail) => print_refusal(number, detail),
+    }
+}
+
+// One case at a place; answers the next place.
+fn one_case(s: &[u8], at: usize) -> usize
+    requires { ⌜ at < length (now s) ⌝ }
+    ensures { λ r. ⌜ (at < r) × (r ≤ length (now (s .entry))) ⌝ }
+{
+    if s.len() - at < 2 {
+        return s.len();
+    }
+    let start = at + 2;
+    let len = pair(s, at);
+    if s.len() - start < len {
+        return s.len();
+    }
+    let end = start + len;
+    report(&s[start..end]);
+    end
+}
+
+fn all_cases(s: &[u8]) {
+    let mut at = 0;
+    while at < s.len() {
+        at = one_case(s, at);
+    }
+}
+
+fn main() {
+    let mut buf = io::large_buffer();
+    let n = io::read_full(0, &mut buf);
+    all_cases(&buf[..n]);
+}

@@ -1,0 +1,4 @@
+pub mod Least
+pub mod Trains
+pub mod Lookups
+pub mod Passing
