@@ -1,0 +1,63 @@
+-- `clauses::deny_all` meets its contract. The loop's invariant: what is left to pass are the clauses from k on. Assumes nothing.
+use native.Mathlib.Omega.{arith}
+use Prim.Native.Nat.{ℕ, _+_, _-_}
+use mathlib.Core.List.{List}
+use lib.IntN.{ℤ}
+use Rattle.spec.specs.Lists.{range, each, one}
+use Rattle.spec.specs.Formula.{not′, wordsOf}
+use Rattle.clauses.proofs.Laws.{walks-same}
+use Rattle.clauses.proofs.Turns.{words-row, Ahead, ahead-start, turn, turned}
+use Rattle.clauses.proofs.deny_all.Statement.{statement}
+use Rattle.clauses.proofs.deny_all.Tie as tie
+
+-- the words of turn k
+abbrev words : ℕ → ℕ → List ℤ
+words from k = wordsOf (one (one (not′ (from + k))))
+
+abbrev Inv-loop : tie.InvT-loop
+Inv-loop from n values out₀ next₀ k₀ out next k =
+    Ahead values (each (range 0 n) (words from)) (each (range k n) (words from)) next₀ out₀ next out
+
+abbrev μ-loop : tie.MeasureT-loop
+μ-loop from n values out₀ next₀ k₀ out next k = n - k
+
+loop-holds : tie.Need-loop-holds Inv-loop μ-loop
+loop-holds c = ahead-start _ _ _ _
+
+add-unit-not : tie.Need-add-unit-not Inv-loop μ-loop
+add-unit-not c = omega arith
+
+unit-not-requires : tie.Need-unit-not-requires Inv-loop μ-loop
+unit-not-requires c κs = omega arith
+
+add-k : tie.Need-add-k Inv-loop μ-loop
+add-k c = omega arith
+
+loop-less : tie.Need-loop-less Inv-loop μ-loop
+loop-less c = omega arith
+
+loop-again : tie.Need-loop-again Inv-loop μ-loop
+loop-again c =
+    let t = c .before .before .before in
+    turn _ _ _ (t .before .loop .inv) (t .loop-test .taken) (c .before .unit-not .ensures)
+
+same-length : tie.Need-same-length Inv-loop μ-loop
+same-length c = c .before .loop .inv .size
+
+returns : tie.Need-returns Inv-loop μ-loop
+returns c = walks-same (words-row _ _) (turned _ _ _ (c .before .loop .inv) (c .loop-test .left))
+
+pub deny-all-spec : {M : Type 1} → statement M
+deny-all-spec =
+    tie.close
+    (tie.spec
+    Inv-loop
+    μ-loop
+    loop-holds
+    add-unit-not
+    unit-not-requires
+    add-k
+    loop-less
+    loop-again
+    same-length
+    returns)

@@ -1,0 +1,71 @@
+-- `clauses::some_of` meets its contract. The loop's invariant: what is left to pass are the literals from k on. Assumes nothing.
+use borrow.Author.Needs.{needs}
+use native.Mathlib.Omega.{arith}
+use Prim.Native.Nat.{ℕ, _+_, _-_}
+use mathlib.Core.List.{List}
+use lib.IntN.{ℤ}
+use Rattle.spec.specs.Lists.{range, each, one}
+use Rattle.spec.specs.Formula.{is}
+use Rattle.clauses.proofs.Laws.{walks-same, walks-behind, walks-length}
+use Rattle.clauses.proofs.Turns.{words-one, literals-row, Ahead, ahead-start, turn, turned}
+use Rattle.clauses.proofs.some_of.Statement.{statement}
+use Rattle.clauses.proofs.some_of.Tie as tie
+
+-- the words of turn k
+abbrev words : ℕ → ℕ → List ℤ
+words from k = one (is (from + k))
+
+abbrev Inv-loop : tie.InvT-loop
+Inv-loop from n values out₀ next₀ k₀ out next k =
+    Ahead values (each (range 0 n) (words from)) (each (range k n) (words from)) next₀ out₀ next out
+
+abbrev μ-loop : tie.MeasureT-loop
+μ-loop from n values out₀ next₀ k₀ out next k = n - k
+
+loop-holds : tie.Need-loop-holds Inv-loop μ-loop
+loop-holds c = ahead-start _ _ _ _
+
+add-affirm : tie.Need-add-affirm Inv-loop μ-loop
+add-affirm c = omega arith
+
+affirm-requires : tie.Need-affirm-requires Inv-loop μ-loop
+affirm-requires c κs = omega arith
+
+add-k : tie.Need-add-k Inv-loop μ-loop
+add-k c = omega arith
+
+loop-less : tie.Need-loop-less Inv-loop μ-loop
+loop-less c = omega arith
+
+loop-again : tie.Need-loop-again Inv-loop μ-loop
+loop-again c =
+    let t = c .before .before .before in
+    turn _ _ _ (t .before .loop .inv) (t .loop-test .taken) (c .before .affirm .ensures)
+
+close-requires : tie.Need-close-requires Inv-loop μ-loop
+close-requires c κs = search needs
+
+returns : tie.Need-returns Inv-loop μ-loop
+returns c =
+    let l = c .before .before .before in
+    let row = walks-same (literals-row _ _) (turned _ _ _ (l .before .loop .inv) (l .loop-test .left)) in
+    walks-same (words-one _) (walks-behind row (c .before .close .ensures))
+
+same-length : tie.Need-same-length Inv-loop μ-loop
+same-length c = walks-length (returns c)
+
+pub some-of-spec : {M : Type 1} → statement M
+some-of-spec =
+    tie.close
+    (tie.spec
+    Inv-loop
+    μ-loop
+    loop-holds
+    add-affirm
+    affirm-requires
+    add-k
+    loop-less
+    loop-again
+    close-requires
+    same-length
+    returns)

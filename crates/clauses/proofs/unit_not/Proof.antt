@@ -1,0 +1,23 @@
+-- `clauses::unit_not` meets its contract: the literal and the 0, one behind the other. Assumes nothing.
+use borrow.Author.Needs.{needs}
+use Rattle.spec.specs.Lists.{each}
+use Rattle.spec.specs.Formula.{wordsOf}
+use Rattle.clauses.proofs.Laws.{walks-behind, walks-length}
+use Rattle.clauses.proofs.unit_not.Statement.{statement}
+use Rattle.clauses.proofs.unit_not.Tie as tie
+
+deny-requires : tie.Need-deny-requires
+deny-requires c κs = search needs
+
+close-requires : tie.Need-close-requires
+close-requires c κs = search needs
+
+returns : tie.Need-returns
+unfolding wordsOf each
+returns c = walks-behind (c .before .before .before .before .deny .ensures) (c .before .close .ensures)
+
+same-length : tie.Need-same-length
+same-length c = walks-length (returns c)
+
+pub unit-not-spec : {M : Type 1} → statement M
+unit-not-spec = tie.close (tie.spec deny-requires close-requires same-length returns)

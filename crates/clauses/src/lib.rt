@@ -1,0 +1,298 @@
+// A walk over clauses: each word, a literal or the 0 behind a clause, is counted, stored in the output
+// where that has room, and judged by the values of the variables, a variable without a value being 0.
+// With an empty output the walk measures and judges; where nobody asks for the judgement, no values
+// are lent. Every family of the formula is one function over this walk. Each function answers the walk
+// after its words. Assumes nothing.
+ghost use mathlib.Core.Path.{_≡_};
+ghost use mathlib.Core.Bool.{not, _&&_, cond};
+ghost use mathlib.Core.List.{[], _∷_, _++_, map};
+ghost use Prim.Native.Nat.{_+_, _-_, _<_, _≤_};
+ghost use lib.ListN.{length, set};
+ghost use lib.IntN.{pos};
+ghost use lib.Dec.{eqb};
+ghost use Rattle.spec.specs.Lists.{upTo, range, each, only, one};
+ghost use Rattle.spec.specs.Formula.{is, not′, wordsOf};
+ghost use Rattle.spec.specs.Assignment.{assigned};
+ghost use Rattle.clauses.specs.Walked as walked;
+ghost use Rattle.clauses.specs.Walked.{Walks, most};
+
+// Where the counters stop; no formula is as long.
+pub const MOST: usize = 1152921504606846976;
+
+// A walk: how many words and clauses it has passed, whether the clause that it is in holds so far,
+// and the number of the first clause that did not, or 0.
+pub struct Walk {
+    pub words: usize,
+    pub clauses: usize,
+    pub holds: bool,
+    pub wrong: usize,
+}
+
+// The walk before the first clause.
+pub fn begin() -> Walk
+    ensures { λ r. ⌜ r ≡ walked.start ⌝ }
+{
+    Walk {
+        words: 0,
+        clauses: 0,
+        holds: false,
+        wrong: 0,
+    }
+}
+
+// A count with k more, as far as 2^60.
+pub fn more(n: usize, k: usize) -> usize
+    requires { ⌜ k ≤ most ⌝ }
+    ensures { λ r. ⌜ r ≡ walked.more n k ⌝ }
+{
+    if n <= MOST - k { n + k } else { MOST }
+}
+
+// Whether the variable has the value 1; one without a value has not.
+pub fn value(values: &[u8], v: usize) -> bool
+    ensures { λ r. ⌜ r ≡ assigned (now (values .entry)) v ⌝ }
+{
+    v < values.len() && values[v] == 1
+}
+
+// Stores a word where the output has room for it.
+pub fn store(out: &mut [i32], at: usize, word: i32)
+    ensures { λ _. ⌜ now (out .exit) ≡ set (now (out .entry)) at word ⌝ }
+{
+    if at < out.len() {
+        out[at] = word;
+    }
+}
+
+// The literal of a variable, counted from 0, that affirms it.
+pub fn positive(v: usize) -> i32
+    requires { ⌜ v < 1000000000 ⌝ }
+    ensures { λ r. ⌜ r ≡ is v ⌝ }
+{
+    (v + 1) as i32
+}
+
+// The literal that denies it.
+pub fn negative(v: usize) -> i32
+    requires { ⌜ v < 1000000000 ⌝ }
+    ensures { λ r. ⌜ r ≡ not′ v ⌝ }
+{
+    -((v + 1) as i32)
+}
+
+// Passes the literal that affirms a variable.
+pub fn affirm(w: Walk, v: usize, values: &[u8], out: &mut [i32]) -> Walk
+    requires { ⌜ v < 1000000000 ⌝ }
+    ensures { λ r. ⌜ Walks (now (values .entry)) (one (is v)) w (now (out .entry)) r (now (out .exit)) ⌝ }
+{
+    store(out, w.words, positive(v));
+    let mut next = w;
+    next.words = more(w.words, 1);
+    next.holds = w.holds || value(values, v);
+    next
+}
+
+// Passes the literal that denies a variable.
+pub fn deny(w: Walk, v: usize, values: &[u8], out: &mut [i32]) -> Walk
+    requires { ⌜ v < 1000000000 ⌝ }
+    ensures { λ r. ⌜ Walks (now (values .entry)) (one (not′ v)) w (now (out .entry)) r (now (out .exit)) ⌝ }
+{
+    store(out, w.words, negative(v));
+    let mut next = w;
+    next.words = more(w.words, 1);
+    next.holds = w.holds || !value(values, v);
+    next
+}
+
+// The number of the first clause that did not hold, or 0, after the clause with this number was closed.
+pub fn first_wrong(w: Walk, number: usize) -> usize
+    ensures { λ r. ⌜ r ≡ cond (eqb (w .wrong) 0 && not (w .holds)) number (w .wrong) ⌝ }
+{
+    if w.wrong != 0 {
+        return w.wrong;
+    }
+    if w.holds {
+        return w.wrong;
+    }
+    number
+}
+
+// Passes the 0 behind a clause.
+pub fn close(w: Walk, values: &[u8], out: &mut [i32]) -> Walk
+    ensures { λ r. ⌜ Walks (now (values .entry)) (one (pos 0)) w (now (out .entry)) r (now (out .exit)) ⌝ }
+{
+    store(out, w.words, 0);
+    let clauses = more(w.clauses, 1);
+    Walk {
+        words: more(w.words, 1),
+        clauses: clauses,
+        holds: false,
+        wrong: first_wrong(w, clauses),
+    }
+}
+
+// The clause that denies a variable.
+pub fn unit_not(w: Walk, v: usize, values: &[u8], out: &mut [i32]) -> Walk
+    requires { ⌜ v < 1000000000 ⌝ }
+    ensures { λ r. ⌜ Walks (now (values .entry)) (wordsOf (one (one (not′ v)))) w (now (out .entry)) r (now (out .exit)) ⌝ }
+{
+    let a = deny(w, v, values, out);
+    close(a, values, out)
+}
+
+// The clause that affirms a variable.
+pub fn unit_is(w: Walk, v: usize, values: &[u8], out: &mut [i32]) -> Walk
+    requires { ⌜ v < 1000000000 ⌝ }
+    ensures { λ r. ⌜ Walks (now (values .entry)) (wordsOf (one (one (is v)))) w (now (out .entry)) r (now (out .exit)) ⌝ }
+{
+    let a = affirm(w, v, values, out);
+    close(a, values, out)
+}
+
+// The clause of two variables: the first implies the second.
+pub fn implies(w: Walk, u: usize, v: usize, values: &[u8], out: &mut [i32]) -> Walk
+    requires { ⌜ (u < 1000000000) × (v < 1000000000) ⌝ }
+    ensures { λ r. ⌜ Walks (now (values .entry)) (wordsOf (one (not′ u ∷ one (is v)))) w (now (out .entry)) r (now (out .exit)) ⌝ }
+{
+    let a = deny(w, u, values, out);
+    let b = affirm(a, v, values, out);
+    close(b, values, out)
+}
+
+// The clause of two variables: not both.
+pub fn not_both(w: Walk, u: usize, v: usize, values: &[u8], out: &mut [i32]) -> Walk
+    requires { ⌜ (u < 1000000000) × (v < 1000000000) ⌝ }
+    ensures { λ r. ⌜ Walks (now (values .entry)) (wordsOf (one (not′ u ∷ one (not′ v)))) w (now (out .entry)) r (now (out .exit)) ⌝ }
+{
+    let a = deny(w, u, values, out);
+    let b = deny(a, v, values, out);
+    close(b, values, out)
+}
+
+// The clause of three variables: the first implies the second or the third.
+pub fn implies_either(w: Walk, u: usize, v: usize, x: usize, values: &[u8], out: &mut [i32]) -> Walk
+    requires { ⌜ (u < 1000000000) × (v < 1000000000) × (x < 1000000000) ⌝ }
+    ensures { λ r. ⌜ Walks (now (values .entry)) (wordsOf (one (not′ u ∷ is v ∷ one (is x)))) w (now (out .entry)) r (now (out .exit)) ⌝ }
+{
+    let a = deny(w, u, values, out);
+    let b = affirm(a, v, values, out);
+    let c = affirm(b, x, values, out);
+    close(c, values, out)
+}
+
+// Passes the literal that affirms a variable, where the test holds.
+pub fn affirm_if(w: Walk, test: bool, v: usize, values: &[u8], out: &mut [i32]) -> Walk
+    requires { ⌜ v < 1000000000 ⌝ }
+    ensures { λ r. ⌜ Walks (now (values .entry)) (only test (one (is v))) w (now (out .entry)) r (now (out .exit)) ⌝ }
+{
+    if test {
+        return affirm(w, v, values, out);
+    }
+    w
+}
+
+// The clause that denies a variable, where the test holds.
+pub fn unit_not_if(w: Walk, test: bool, v: usize, values: &[u8], out: &mut [i32]) -> Walk
+    requires { ⌜ v < 1000000000 ⌝ }
+    ensures { λ r. ⌜ Walks (now (values .entry)) (wordsOf (only test (one (one (not′ v))))) w (now (out .entry)) r (now (out .exit)) ⌝ }
+{
+    if test {
+        return unit_not(w, v, values, out);
+    }
+    w
+}
+
+// The clause that affirms a variable, where the test holds.
+pub fn unit_is_if(w: Walk, test: bool, v: usize, values: &[u8], out: &mut [i32]) -> Walk
+    requires { ⌜ v < 1000000000 ⌝ }
+    ensures { λ r. ⌜ Walks (now (values .entry)) (wordsOf (only test (one (one (is v))))) w (now (out .entry)) r (now (out .exit)) ⌝ }
+{
+    if test {
+        return unit_is(w, v, values, out);
+    }
+    w
+}
+
+// The clauses that deny n variables in a row.
+pub fn deny_all(w: Walk, from: usize, n: usize, values: &[u8], out: &mut [i32]) -> Walk
+    requires { ⌜ from + n < 1000000000 ⌝ }
+    ensures { λ r. ⌜ Walks (now (values .entry)) (wordsOf (map (λ k. one (not′ (from + k))) (upTo n))) w (now (out .entry)) r (now (out .exit)) ⌝ }
+{
+    let mut next = w;
+    let mut k = 0;
+    while k < n {
+        next = unit_not(next, from + k, values, out);
+        k += 1;
+    }
+    next
+}
+
+// The clause that affirms one of n variables in a row.
+pub fn some_of(w: Walk, from: usize, n: usize, values: &[u8], out: &mut [i32]) -> Walk
+    requires { ⌜ from + n < 1000000000 ⌝ }
+    ensures { λ r. ⌜ Walks (now (values .entry)) (wordsOf (one (map (λ k. is (from + k)) (upTo n)))) w (now (out .entry)) r (now (out .exit)) ⌝ }
+{
+    let mut next = w;
+    let mut k = 0;
+    while k < n {
+        next = affirm(next, from + k, values, out);
+        k += 1;
+    }
+    close(next, values, out)
+}
+
+// Clauses of two literals that hold, k of them, at once: nothing is stored.
+pub fn skip_pairs(w: Walk, k: usize) -> Walk
+    requires { ⌜ k ≤ 1000000 ⌝ }
+    ensures { λ r. ⌜ r ≡ walked.skipped k w ⌝ }
+{
+    if k == 0 {
+        return w;
+    }
+    Walk {
+        words: more(w.words, 3 * k),
+        clauses: more(w.clauses, k),
+        holds: false,
+        wrong: w.wrong,
+    }
+}
+
+// The clauses "not both" of the variable at m in a row and each behind it up to n.
+pub fn each_pair(w: Walk, from: usize, m: usize, n: usize, values: &[u8], out: &mut [i32]) -> Walk
+    requires { ⌜ (from + n < 1000000000) × (m < n) ⌝ }
+    ensures { λ r. ⌜ Walks (now (values .entry)) (wordsOf (map (λ k. not′ (from + m) ∷ one (not′ (from + k))) (range (m + 1) n))) w (now (out .entry)) r (now (out .exit)) ⌝ }
+{
+    let mut next = w;
+    let mut k = m + 1;
+    while k < n {
+        next = not_both(next, from + m, from + k, values, out);
+        k += 1;
+    }
+    next
+}
+
+// The same clauses; where nothing is stored and the variable at m is not 1 they all hold, and are
+// passed at once.
+pub fn pairs_of(w: Walk, from: usize, m: usize, n: usize, values: &[u8], out: &mut [i32]) -> Walk
+    requires { ⌜ (from + n < 1000000000) × (m < n) × (n ≤ 1000000) ⌝ }
+    ensures { λ r. ⌜ Walks (now (values .entry)) (wordsOf (map (λ k. not′ (from + m) ∷ one (not′ (from + k))) (range (m + 1) n))) w (now (out .entry)) r (now (out .exit)) ⌝ }
+{
+    if out.len() == 0 && !value(values, from + m) {
+        return skip_pairs(w, n - m - 1);
+    }
+    each_pair(w, from, m, n, values, out)
+}
+
+// The clauses "not both" of each two of n variables in a row.
+pub fn no_two(w: Walk, from: usize, n: usize, values: &[u8], out: &mut [i32]) -> Walk
+    requires { ⌜ (from + n < 1000000000) × (n ≤ 1000000) ⌝ }
+    ensures { λ r. ⌜ Walks (now (values .entry)) (wordsOf (each (upTo n) λ m. map (λ k. not′ (from + m) ∷ one (not′ (from + k))) (range (m + 1) n))) w (now (out .entry)) r (now (out .exit)) ⌝ }
+{
+    let mut next = w;
+    let mut m = 0;
+    while m < n {
+        next = pairs_of(next, from, m, n, values, out);
+        m += 1;
+    }
+    next
+}

@@ -1,0 +1,116 @@
+-- `families::claims_of` meets its contract. The loop's invariant: what is left to pass are the clauses of the directed segments
+-- from k on, and k is not before `at`. Assumes nothing.
+use native.Mathlib.Omega.{arith}
+use borrow.Author.Needs.{needs}
+use mathlib.Core.Path.{_≡_, ap, _∙_}
+use Prim.Native.Nat.{ℕ, _+_, _-_, _/_, _≤_, _<_}
+use mathlib.Core.List.{List, [], _∷_, _++_, map}
+use lib.IntN.{ℤ}
+use lib.ListN.{length, getD}
+use lib.Seq.{slice}
+use Rattle.spec.specs.Lists.{Bytes, each, one}
+use Rattle.spec.specs.Book.{segmentOf}
+use Rattle.spec.specs.Formula.{Clause, is, not′, wordsOf}
+use Rattle.clauses.proofs.Laws.{walks-same}
+use Rattle.clauses.proofs.Turns.{words-append, Ahead, ahead-start, ahead-same, ahead-pass, ahead-done}
+use Rattle.track.proofs.Walks.{slice-next, slice-end}
+use Rattle.places.specs.Placed.{placeAt}
+use Rattle.families.proofs.claims_of.Statement.{statement}
+use Rattle.families.proofs.claims_of.Tie as tie
+
+-- the clause of a segment
+abbrev clause : ℕ → ℕ → ℕ → ℕ → Clause
+clause base n r s = not′ (base + r) ∷ one (is (base + (n + 1 + s)))
+
+-- the words of the directed segments from k on
+abbrev behind : ℕ → ℕ → ℕ → Bytes → ℕ → ℕ → List ℤ
+behind base n r rows end k = wordsOf (map (clause base n r) (map segmentOf (slice k end rows)))
+
+behind-next : (base n r : ℕ) (rows : Bytes) (end k : ℕ) → k < end → end ≤ length rows
+    → behind base n r rows end k
+    ≡ wordsOf (one (clause base n r (segmentOf (getD rows k 0)))) ++ behind base n r rows end (k + 1)
+behind-next base n r rows end k h fits =
+    ap (λ (ds : List ℕ). wordsOf (map (clause base n r) (map segmentOf ds))) (slice-next rows end k 0 h fits)
+    ∙ words-append (one (clause base n r (segmentOf (getD rows k 0)))) (map (clause base n r) (map segmentOf (slice (k + 1) end rows)))
+
+behind-end : (base n r : ℕ) (rows : Bytes) (end k : ℕ) → end ≤ k → behind base n r rows end k ≡ []
+unfolding wordsOf each
+behind-end base n r rows end k h =
+    ap (λ (ds : List ℕ). wordsOf (map (clause base n r) (map segmentOf ds))) (slice-end rows end k h)
+
+abbrev Inv-loop : tie.InvT-loop
+Inv-loop base n r rows at size values out₀ end next₀ k₀ out next k =
+    (at ≤ k) × Ahead values (behind base n r rows end at) (behind base n r rows end k) next₀ out₀ next out
+
+abbrev μ-loop : tie.MeasureT-loop
+μ-loop base n r rows at size values out₀ end next₀ k₀ out next k = end - k
+
+add-end : tie.Need-add-end Inv-loop μ-loop
+add-end c = omega arith
+
+loop-holds : tie.Need-loop-holds Inv-loop μ-loop
+loop-holds c = (omega arith, ahead-start _ _ _ _)
+
+add-implies : tie.Need-add-implies Inv-loop μ-loop
+add-implies c = omega arith
+
+add-implies-2 : tie.Need-add-implies-2 Inv-loop μ-loop
+add-implies-2 c = omega arith
+
+shared-slice-read-wide : tie.Need-shared-slice-read-wide Inv-loop μ-loop
+shared-slice-read-wide c = omega arith
+
+wide-requires : tie.Need-wide-requires Inv-loop μ-loop
+wide-requires c κs = search needs
+
+add-implies-3 : tie.Need-add-implies-3 Inv-loop μ-loop
+add-implies-3 c = omega arith
+
+add-implies-4 : tie.Need-add-implies-4 Inv-loop μ-loop
+add-implies-4 c = omega arith
+
+implies-requires : tie.Need-implies-requires Inv-loop μ-loop
+implies-requires c κs = (omega arith, omega arith)
+
+add-k : tie.Need-add-k Inv-loop μ-loop
+add-k c = omega arith
+
+loop-less : tie.Need-loop-less Inv-loop μ-loop
+loop-less c = omega arith
+
+loop-again : tie.Need-loop-again Inv-loop μ-loop
+unfolding segmentOf
+loop-again c =
+    let t = c .before .before .before .before .before in
+    let a = t .before .before .before .before .args in
+    let segment = ap (λ (x : ℕ). wordsOf (one (clause (a .base) (a .n) (a .r) (x / 2)))) (c .before .before .before .wide .ensures .0) in
+    let ahead = ahead-same (behind-next _ _ _ _ _ _ (t .loop-test .taken) (omega arith)) (t .before .loop .inv .1) in
+    (omega arith, ahead-pass ahead (walks-same segment (c .before .implies .ensures)))
+
+same-length : tie.Need-same-length Inv-loop μ-loop
+same-length c = c .before .loop .inv .1 .size
+
+returns : tie.Need-returns Inv-loop μ-loop
+unfolding placeAt
+returns c = ahead-done (ahead-same (behind-end _ _ _ _ _ _ (c .loop-test .left)) (c .before .loop .inv .1))
+
+pub claims-of-spec : {M : Type 1} → statement M
+claims-of-spec =
+    tie.close
+    (tie.spec
+    Inv-loop
+    μ-loop
+    add-end
+    loop-holds
+    add-implies
+    add-implies-2
+    shared-slice-read-wide
+    wide-requires
+    add-implies-3
+    add-implies-4
+    implies-requires
+    add-k
+    loop-less
+    loop-again
+    same-length
+    returns)

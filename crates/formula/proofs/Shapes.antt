@@ -1,0 +1,75 @@
+-- The parts that the loops pass make up the families of the specification. Assumes nothing.
+use mathlib.Core.Path.{_≡_, refl, sym, ap, ap₂, _∙_}
+use Prim.Native.Nat.{ℕ, zero, suc, _+_, _*_, _-_, _≤_, _<_}
+use native.Mathlib.Nat.{le-refl, suc-mul}
+use native.Mathlib.Numerals.{add-one}
+use native.Mathlib.Omega.{arith}
+use mathlib.Core.List.{List, [], _∷_, _++_, map, append-nil}
+use Rattle.spec.specs.Lists.{upTo, range, each, one}
+use Rattle.spec.specs.Instance.{Instance}
+use Rattle.spec.specs.Formula.{Clause, is, not′, width, base, runVar, goneVar, claimVar, borderVar, familyB, familyC, familyD, familyE, familyF, familyG, familyH, familyI}
+use Rattle.laws.proofs.Parts.{each-mem-same, each-same, map-same}
+use Rattle.clauses.proofs.Turns.{upTo-range, range-next, range-end}
+use Rattle.families.specs.Rows.{rowsB, rowsC, rowsI, rowsD, followersE, clauseE, rowsE, serversF, claimsG, rowsG, rowsH}
+use Rattle.formula.specs.declared.Family.{Family}
+use Rattle.formula.specs.declared.Family.the-variants.{B, C, D, E, G, H}
+use Rattle.formula.specs.Families.{trainRows, familyRows, callRuns, callRows, pairsBehind}
+
+module _ (I : Instance) where
+  -- the next interval's first variable
+  pub base-next : (i t : ℕ) → base I i (t + 1) ≡ base I i t + width I i
+  unfolding base
+  base-next i t = omega (arith, succ-mul t (width I i))
+    where
+      succ-mul : (a b : ℕ) → (a + 1) * b ≡ a * b + b
+      succ-mul a b = ap (λ (k : ℕ). k * b) (add-one a) ∙ suc-mul a b
+
+  -- from 0 on
+  from-start : (f : ℕ → List Clause) (n : ℕ) → each (range 0 n) f ≡ each (upTo n) f
+  from-start f n = ap (λ (ks : List ℕ). each ks f) (sym (upTo-range n))
+
+  pub shape-b : familyRows I B ≡ familyB I
+  unfolding familyRows trainRows familyB rowsB runVar goneVar
+  shape-b = each-same _ _ (I .trains) (λ i _. from-start (λ t. rowsB (I .runs i) (base I i t)) (I .departure i))
+
+  pub shape-c : familyRows I C ≡ familyC I
+  unfolding familyRows trainRows familyC rowsC runVar goneVar
+  shape-c = refl
+
+  pub shape-d : familyRows I D ≡ familyD I
+  unfolding familyRows trainRows familyD rowsD runVar goneVar each
+  shape-d = each-same _ _ (I .trains) (λ i _. only-one (λ t. rowsD I i (base I i t)) (I .departure i))
+    where
+      only-one : (f : ℕ → List Clause) (d : ℕ) → each (range d (d + 1)) f ≡ f d
+      only-one f d =
+          ap (λ (ks : List ℕ). each ks f) (range-next d (d + 1) (omega arith) ∙ ap (λ (ks : List ℕ). d ∷ ks) (range-end (d + 1) (d + 1) (le-refl (d + 1))))
+          ∙ append-nil (f d)
+
+  pub shape-e : familyRows I E ≡ familyE I
+  unfolding familyRows trainRows familyE rowsE clauseE followersE runVar goneVar
+  shape-e = each-same _ _ (I .trains) (λ i _.
+      each-mem-same _ _ (range (I .departure i) (I .intervals - 1)) (λ t _. ap (rowsE I i (base I i t)) (sym (base-next i t))))
+
+  pub shape-f : (each (upTo (I .trains)) λ i. each (upTo (I .calls i)) λ c. callRows I i c) ≡ familyF I
+  unfolding familyF callRows callRuns serversF runVar
+  shape-f = refl
+
+  pub shape-g : familyRows I G ≡ familyG I
+  unfolding familyRows trainRows familyG rowsG claimsG runVar claimVar
+  shape-g = each-same _ _ (I .trains) (λ i _. from-start (λ t. rowsG I i (base I i t)) (I .intervals))
+
+  pub shape-h : familyRows I H ≡ familyH I
+  unfolding familyRows trainRows familyH rowsH claimVar borderVar
+  shape-h = each-same _ _ (I .trains) (λ i _. from-start (λ t. rowsH I i (base I i t)) (I .intervals))
+
+  -- claims lie one behind the other
+  pub claim-shift : (i t s : ℕ) → claimVar I i t 0 + s ≡ claimVar I i t s
+  unfolding claimVar
+  claim-shift i t s = omega arith
+
+  pub shape-i : (each (upTo (I .intervals)) λ t. each (upTo (I .trains)) λ i. pairsBehind I t i) ≡ familyI I
+  unfolding familyI pairsBehind rowsI
+  shape-i =
+      each-same _ _ (I .intervals) (λ t _. each-same _ _ (I .trains) (λ i _. each-mem-same _ _ (range (i + 1) (I .trains)) (λ j _.
+      map-same _ _ (I .segments) (λ s _.
+      ap₂ (λ (a b : ℕ). not′ a ∷ one (not′ b)) (claim-shift i t s) (claim-shift j t s)))))

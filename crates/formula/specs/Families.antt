@@ -1,0 +1,60 @@
+-- The parts of the families that the code's loops pass: those that go by train and interval in one table, from which interval to
+-- which, and the rows of one interval; the calls of F and the pairs of I. That these parts make up the families of the
+-- specification is a lemma. Assumes nothing.
+use mathlib.Core.Bool.{not}
+use Prim.Native.Nat.{ℕ, _+_, _-_}
+use mathlib.Core.List.{List}
+use lib.IntN.{ℤ}
+use Rattle.spec.specs.Lists.{upTo, range, each, only, one}
+use Rattle.spec.specs.Instance.{Instance, inWindow, servedAtDeparture}
+use Rattle.spec.specs.Formula.{Clause, width, base, claimVar}
+use Rattle.families.specs.Rows.{rowsB, rowsC, rowsD, rowsE, serversF, rowsG, rowsH, rowsI}
+use Rattle.formula.specs.declared.Family.{Family}
+use Rattle.formula.specs.declared.Family.the-variants.{B, C, D, E, G, H}
+
+-- the first interval, and the one behind the last, of a train that departs in d, of T intervals
+abbrev pub fromBy : Family → ℕ → ℕ
+fromBy B d = 0
+fromBy C d = d
+fromBy D d = d
+fromBy E d = d
+fromBy G d = 0
+fromBy H d = 0
+
+abbrev pub toBy : Family → ℕ → ℕ → ℕ
+toBy B d T = d
+toBy C d T = T
+toBy D d T = d + 1
+toBy E d T = T - 1
+toBy G d T = T
+toBy H d T = T
+
+-- the rows of an interval whose first variable is x
+abbrev pub rowsOf : Instance → Family → ℕ → ℕ → List Clause
+rowsOf I B i x = rowsB (I .runs i) x
+rowsOf I C i x = rowsC (I .runs i) x
+rowsOf I D i x = rowsD I i x
+rowsOf I E i x = rowsE I i x (x + width I i)
+rowsOf I G i x = rowsG I i x
+rowsOf I H i x = rowsH I i x
+
+-- the rows of a train
+unfoldable pub trainRows : Instance → Family → ℕ → List Clause
+trainRows I f i = each (range (fromBy f (I .departure i)) (toBy f (I .departure i) (I .intervals))) λ t. rowsOf I f i (base I i t)
+
+unfoldable pub familyRows : Instance → Family → List Clause
+familyRows I f = each (upTo (I .trains)) λ i. trainRows I f i
+
+-- ---- F and I
+
+-- the literals of a call's clause, by time
+unfoldable pub callRuns : Instance → ℕ → ℕ → List ℤ
+callRuns I i c = each (range (I .departure i) (I .intervals)) λ t. only (inWindow I i c (t + 1)) (serversF I i c (base I i t))
+
+-- the clause of a call
+unfoldable pub callRows : Instance → ℕ → ℕ → List Clause
+callRows I i c = only (not (servedAtDeparture I i c)) (one (callRuns I i c))
+
+-- a train and each behind it, in an interval
+unfoldable pub pairsBehind : Instance → ℕ → ℕ → List Clause
+pairsBehind I t i = each (range (i + 1) (I .trains)) λ j. rowsI (I .segments) (claimVar I i t 0) (claimVar I j t 0)

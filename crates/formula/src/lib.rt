@@ -1,0 +1,586 @@
+// The formula of a book: one walk over its families, in their order, that measures, writes and judges
+// (`clauses::Walk`). Families B, C, D, E, G and H go by train and interval through the same two
+// loops. Assumes nothing.
+use checks::calls_of;
+use clauses::Walk;
+use clauses::begin;
+use clauses::close;
+use families::family_a;
+use families::rows_b;
+use families::rows_c;
+use families::rows_d;
+use families::rows_e;
+use families::rows_g;
+use families::rows_h;
+use families::rows_i;
+use families::servers;
+use model::Book;
+use model::Call;
+use places::given_serves;
+use tables::call_at;
+use track::length_in_segments;
+ghost use mathlib.Core.Path.{_≡_};
+ghost use mathlib.Core.Bool.{_&&_};
+ghost use Prim.Native.Nat.{_≤_, _<_};
+ghost use lib.Dec.{leb};
+ghost use Rattle.spec.specs.Lists.{upTo, each};
+ghost use Rattle.spec.specs.Instance.{instanceOf, callAt, trainLength};
+ghost use Rattle.spec.specs.Formula.{claimVar, familyF, familyI, formula, wordsOf};
+ghost use Rattle.spec.specs.Held.{held};
+ghost use Rattle.clauses.specs.Walked.{Walks, start};
+ghost use Rattle.tables.specs.Tables.{Passed};
+ghost use Rattle.families.specs.TrainHeld.{TrainHeld};
+ghost use Rattle.formula.specs.Families.{fromBy, toBy, rowsOf, trainRows, familyRows, callRuns, callRows, pairsBehind};
+ghost use Rattle.formula.specs.Ready.{firstVar, Counted, TrainReady, MeetsReady, Ready};
+
+// The families that go by train and interval.
+pub enum Family {
+    B,
+    C,
+    D,
+    E,
+    G,
+    H,
+}
+
+// The first interval of the family's rows, for a train that departs in interval d.
+pub fn first_interval(family: Family, d: usize) -> usize
+    ensures { λ r. ⌜ r ≡ fromBy family d ⌝ }
+{
+    match family {
+        Family::B => 0,
+        Family::C => d,
+        Family::D => d,
+        Family::E => d,
+        Family::G => 0,
+        Family::H => 0,
+    }
+}
+
+// The interval behind the last of the family's rows, of `all` intervals. E's rows are those of the
+// interval before.
+pub fn end_interval(family: Family, d: usize, all: usize) -> usize
+    requires { ⌜ (d < all) × (all < 65536) ⌝ }
+    ensures { λ r. ⌜ r ≡ toBy family d all ⌝ }
+{
+    match family {
+        Family::B => d,
+        Family::C => all,
+        Family::D => d + 1,
+        Family::E => all - 1,
+        Family::G => all,
+        Family::H => all,
+    }
+}
+
+// The first variable of a train: those of the borders and of the trains before come before it.
+pub fn first_variable(b: Book, runs: [usize; 8], train: usize) -> usize
+    requires { ⌜ Counted b runs × (train ≤ b .«train_count») ⌝ }
+    ensures { λ r. ⌜ r ≡ firstVar (instanceOf (held b)) train ⌝ }
+{
+    let mut first = b.node_count;
+    let mut j = 0;
+    while j < train {
+        first += b.intervals * (runs[j] + 1 + b.segment_count);
+        j += 1;
+    }
+    first
+}
+
+// The rows of a family in one interval of a train, whose first variable is `base`.
+pub fn interval_rows(
+    family: Family,
+    b: Book,
+    train: usize,
+    n: usize,
+    l: usize,
+    w: Walk,
+    base: usize,
+    rows: &[u8],
+    sizes: &[u8],
+    starts: &[usize],
+    ends: &[usize],
+    meets: &[u8],
+    end: usize,
+    values: &[u8],
+    out: &mut [i32],
+) -> Walk
+    requires { ⌜ Passed b × (train < b .«train_count») × (n ≡ instanceOf (held b) .runs train) × (base < 900000000)
+        × (l ≡ trainLength (held b) train) × (l ≤ 8) × TrainHeld (held b) train (now rows) (now sizes) (now starts) (now ends)
+        × MeetsReady b (now meets) end ⌝ }
+    ensures { λ r. ⌜ Walks (now (values .entry)) (wordsOf (rowsOf (instanceOf (held b)) family train base)) w (now (out .entry)) r (now (out .exit)) ⌝ }
+{
+    let after = base + (n + 1 + b.segment_count);
+    match family {
+        Family::B => rows_b(w, base, n, values, out),
+        Family::C => rows_c(w, base, n, values, out),
+        Family::D => rows_d(b, train, w, base, n, l, rows, values, out),
+        Family::E => rows_e(
+            b,
+            train,
+            w,
+            base,
+            after,
+            n,
+            l,
+            rows,
+            sizes,
+            starts,
+            ends,
+            values,
+            out,
+        ),
+        Family::G => rows_g(b, train, w, base, n, rows, sizes, values, out),
+        Family::H => rows_h(b, train, w, base, n, meets, end, values, out),
+    }
+}
+
+// The rows of a family for one train: its intervals in order.
+pub fn train_rows(
+    family: Family,
+    b: Book,
+    train: usize,
+    n: usize,
+    first: usize,
+    w: Walk,
+    rows: &[u8],
+    sizes: &[u8],
+    starts: &[usize],
+    ends: &[usize],
+    meets: &[u8],
+    end: usize,
+    values: &[u8],
+    out: &mut [i32],
+) -> Walk
+    requires { ⌜ TrainReady b train n first (now rows) (now sizes) (now starts) (now ends) × MeetsReady b (now meets) end ⌝ }
+    ensures { λ r. ⌜ Walks (now (values .entry)) (wordsOf (trainRows (instanceOf (held b)) family train)) w (now (out .entry)) r (now (out .exit)) ⌝ }
+{
+    let t = b.trains[train];
+    let l = length_in_segments(b, t);
+    let d = t.departure;
+    let width = n + 1 + b.segment_count;
+    let to = end_interval(family, d, b.intervals);
+    let mut next = w;
+    let mut interval = first_interval(family, d);
+    while interval < to {
+        next = interval_rows(
+            family,
+            b,
+            train,
+            n,
+            l,
+            next,
+            first + interval * width,
+            rows,
+            sizes,
+            starts,
+            ends,
+            meets,
+            end,
+            values,
+            out,
+        );
+        interval += 1;
+    }
+    next
+}
+
+// A family that goes by train and interval: the trains in order.
+pub fn by_train(
+    family: Family,
+    b: Book,
+    runs: [usize; 8],
+    w: Walk,
+    rows: &[u8],
+    sizes: &[u8],
+    starts: &[usize],
+    ends: &[usize],
+    meets: &[u8],
+    end: usize,
+    values: &[u8],
+    out: &mut [i32],
+) -> Walk
+    requires { ⌜ Ready b runs (now rows) (now sizes) (now starts) (now ends) × MeetsReady b (now meets) end ⌝ }
+    ensures { λ r. ⌜ Walks (now (values .entry)) (wordsOf (familyRows (instanceOf (held b)) family)) w (now (out .entry)) r (now (out .exit)) ⌝ }
+{
+    let trains = b.train_count;
+    let mut next = w;
+    let mut i = 0;
+    while i < trains {
+        let row = i * 4096;
+        let at = i * 256;
+        next = train_rows(
+            family,
+            b,
+            i,
+            runs[i],
+            first_variable(b, runs, i),
+            next,
+            &rows[row..row + 4096],
+            &sizes[at..at + 256],
+            &starts[at..at + 256],
+            &ends[at..at + 256],
+            meets,
+            end,
+            values,
+            out,
+        );
+        i += 1;
+    }
+    next
+}
+
+// Whether the time is in the call's window.
+pub fn in_window(c: Call, time: usize) -> bool
+    ensures { λ r. ⌜ r ≡ (leb (c .first) time && leb time (c .last)) ⌝ }
+{
+    c.first <= time && time <= c.last
+}
+
+// F: the literals of a call's clause: by time, the runs whose end serves it.
+pub fn call_runs(
+    b: Book,
+    train: usize,
+    number: usize,
+    c: Call,
+    n: usize,
+    first: usize,
+    w: Walk,
+    rows: &[u8],
+    sizes: &[u8],
+    starts: &[usize],
+    ends: &[usize],
+    values: &[u8],
+    out: &mut [i32],
+) -> Walk
+    requires { ⌜ TrainReady b train n first (now rows) (now sizes) (now starts) (now ends) × (c ≡ callAt (held b) train number) ⌝ }
+    ensures { λ r. ⌜ Walks (now (values .entry)) (callRuns (instanceOf (held b)) train number) w (now (out .entry)) r (now (out .exit)) ⌝ }
+{
+    let t = b.trains[train];
+    let l = length_in_segments(b, t);
+    let width = n + 1 + b.segment_count;
+    let mut next = w;
+    let mut interval = t.departure;
+    while interval < b.intervals {
+        if in_window(c, interval + 1) {
+            next = servers(
+                b,
+                train,
+                number,
+                c,
+                next,
+                first + interval * width,
+                n,
+                l,
+                rows,
+                sizes,
+                values,
+                out,
+            );
+        }
+        interval += 1;
+    }
+    next
+}
+
+// F: the clause of a call, or none where the train's given place serves it at its departure.
+pub fn call_clause(
+    b: Book,
+    train: usize,
+    number: usize,
+    n: usize,
+    first: usize,
+    w: Walk,
+    rows: &[u8],
+    sizes: &[u8],
+    starts: &[usize],
+    ends: &[usize],
+    values: &[u8],
+    out: &mut [i32],
+) -> Walk
+    requires { ⌜ TrainReady b train n first (now rows) (now sizes) (now starts) (now ends) ⌝ }
+    ensures { λ r. ⌜ Walks (now (values .entry)) (wordsOf (callRows (instanceOf (held b)) train number)) w (now (out .entry)) r (now (out .exit)) ⌝ }
+{
+    let c = call_at(b, train, number);
+    let t = b.trains[train];
+    if in_window(c, t.departure) && given_serves(b, c, t) {
+        return w;
+    }
+    let all = call_runs(
+        b,
+        train,
+        number,
+        c,
+        n,
+        first,
+        w,
+        rows,
+        sizes,
+        starts,
+        ends,
+        values,
+        out,
+    );
+    close(all, values, out)
+}
+
+// F: the calls of a train, in file order.
+pub fn train_calls(
+    b: Book,
+    train: usize,
+    n: usize,
+    first: usize,
+    w: Walk,
+    rows: &[u8],
+    sizes: &[u8],
+    starts: &[usize],
+    ends: &[usize],
+    values: &[u8],
+    out: &mut [i32],
+) -> Walk
+    requires { ⌜ TrainReady b train n first (now rows) (now sizes) (now starts) (now ends) ⌝ }
+    ensures { λ r. ⌜ Walks (now (values .entry)) (wordsOf (each (upTo (instanceOf (held b) .calls train)) λ c. callRows (instanceOf (held b)) train c)) w (now (out .entry)) r (now (out .exit)) ⌝ }
+{
+    let calls = calls_of(b, train);
+    let mut next = w;
+    let mut number = 0;
+    while number < calls {
+        next = call_clause(
+            b,
+            train,
+            number,
+            n,
+            first,
+            next,
+            rows,
+            sizes,
+            starts,
+            ends,
+            values,
+            out,
+        );
+        number += 1;
+    }
+    next
+}
+
+// F: the calls of every train.
+pub fn family_f(
+    b: Book,
+    runs: [usize; 8],
+    w: Walk,
+    rows: &[u8],
+    sizes: &[u8],
+    starts: &[usize],
+    ends: &[usize],
+    values: &[u8],
+    out: &mut [i32],
+) -> Walk
+    requires { ⌜ Ready b runs (now rows) (now sizes) (now starts) (now ends) ⌝ }
+    ensures { λ r. ⌜ Walks (now (values .entry)) (wordsOf (familyF (instanceOf (held b)))) w (now (out .entry)) r (now (out .exit)) ⌝ }
+{
+    let trains = b.train_count;
+    let mut next = w;
+    let mut i = 0;
+    while i < trains {
+        let row = i * 4096;
+        let at = i * 256;
+        next = train_calls(
+            b,
+            i,
+            runs[i],
+            first_variable(b, runs, i),
+            next,
+            &rows[row..row + 4096],
+            &sizes[at..at + 256],
+            &starts[at..at + 256],
+            &ends[at..at + 256],
+            values,
+            out,
+        );
+        i += 1;
+    }
+    next
+}
+
+// The first of a train's claims in an interval.
+pub fn first_claim(b: Book, runs: [usize; 8], train: usize, interval: usize) -> usize
+    requires { ⌜ Counted b runs × (train < b .«train_count») × (interval < b .intervals) ⌝ }
+    ensures { λ r. ⌜ (r ≡ claimVar (instanceOf (held b)) train interval 0) × (r < 900000000) ⌝ }
+{
+    let n = runs[train];
+    first_variable(b, runs, train) + interval * (n + 1 + b.segment_count) + (n + 1)
+}
+
+// I: a train and each behind it, in an interval.
+pub fn pairs_behind(
+    b: Book,
+    runs: [usize; 8],
+    interval: usize,
+    train: usize,
+    w: Walk,
+    values: &[u8],
+    out: &mut [i32],
+) -> Walk
+    requires { ⌜ Counted b runs × (train < b .«train_count») × (interval < b .intervals) ⌝ }
+    ensures { λ r. ⌜ Walks (now (values .entry)) (wordsOf (pairsBehind (instanceOf (held b)) interval train)) w (now (out .entry)) r (now (out .exit)) ⌝ }
+{
+    let lower = first_claim(b, runs, train, interval);
+    let trains = b.train_count;
+    let mut next = w;
+    let mut j = train + 1;
+    while j < trains {
+        next = rows_i(
+            next,
+            lower,
+            first_claim(b, runs, j, interval),
+            b.segment_count,
+            values,
+            out,
+        );
+        j += 1;
+    }
+    next
+}
+
+// I: the pairs of trains in an interval.
+pub fn interval_pairs(
+    b: Book,
+    runs: [usize; 8],
+    interval: usize,
+    w: Walk,
+    values: &[u8],
+    out: &mut [i32],
+) -> Walk
+    requires { ⌜ Counted b runs × (interval < b .intervals) ⌝ }
+    ensures { λ r. ⌜ Walks (now (values .entry)) (wordsOf (each (upTo (instanceOf (held b) .trains)) λ i. pairsBehind (instanceOf (held b)) interval i)) w (now (out .entry)) r (now (out .exit)) ⌝ }
+{
+    let trains = b.train_count;
+    let mut next = w;
+    let mut i = 0;
+    while i < trains {
+        next = pairs_behind(b, runs, interval, i, next, values, out);
+        i += 1;
+    }
+    next
+}
+
+// I: in every interval.
+pub fn family_i(b: Book, runs: [usize; 8], w: Walk, values: &[u8], out: &mut [i32]) -> Walk
+    requires { ⌜ Counted b runs ⌝ }
+    ensures { λ r. ⌜ Walks (now (values .entry)) (wordsOf (familyI (instanceOf (held b)))) w (now (out .entry)) r (now (out .exit)) ⌝ }
+{
+    let intervals = b.intervals;
+    let mut next = w;
+    let mut t = 0;
+    while t < intervals {
+        next = interval_pairs(b, runs, t, next, values, out);
+        t += 1;
+    }
+    next
+}
+
+// The whole formula: what the walk passed, and the output.
+pub fn walk_formula(
+    b: Book,
+    runs: [usize; 8],
+    rows: &[u8],
+    sizes: &[u8],
+    starts: &[usize],
+    ends: &[usize],
+    meets: &[u8],
+    end: usize,
+    values: &[u8],
+    out: &mut [i32],
+) -> Walk
+    requires { ⌜ Ready b runs (now rows) (now sizes) (now starts) (now ends) × MeetsReady b (now meets) end ⌝ }
+    ensures { λ r. ⌜ Walks (now (values .entry)) (wordsOf (formula (instanceOf (held b)))) start (now (out .entry)) r (now (out .exit)) ⌝ }
+{
+    let wa = family_a(b, begin(), values, out);
+    let wb = by_train(
+        Family::B,
+        b,
+        runs,
+        wa,
+        rows,
+        sizes,
+        starts,
+        ends,
+        meets,
+        end,
+        values,
+        out,
+    );
+    let wc = by_train(
+        Family::C,
+        b,
+        runs,
+        wb,
+        rows,
+        sizes,
+        starts,
+        ends,
+        meets,
+        end,
+        values,
+        out,
+    );
+    let wd = by_train(
+        Family::D,
+        b,
+        runs,
+        wc,
+        rows,
+        sizes,
+        starts,
+        ends,
+        meets,
+        end,
+        values,
+        out,
+    );
+    let we = by_train(
+        Family::E,
+        b,
+        runs,
+        wd,
+        rows,
+        sizes,
+        starts,
+        ends,
+        meets,
+        end,
+        values,
+        out,
+    );
+    let wf = family_f(b, runs, we, rows, sizes, starts, ends, values, out);
+    let wg = by_train(
+        Family::G,
+        b,
+        runs,
+        wf,
+        rows,
+        sizes,
+        starts,
+        ends,
+        meets,
+        end,
+        values,
+        out,
+    );
+    let wh = by_train(
+        Family::H,
+        b,
+        runs,
+        wg,
+        rows,
+        sizes,
+        starts,
+        ends,
+        meets,
+        end,
+        values,
+        out,
+    );
+    family_i(b, runs, wh, values, out)
+}

@@ -1,0 +1,95 @@
+-- `writing::write_by` meets its contract: the first walk measures, the second writes. Assumes nothing.
+use borrow.Author.Needs.{needs}
+use native.Mathlib.Nat.{le-refl}
+use native.Mathlib.Omega.{arith}
+use mathlib.Core.Path.{_≡_, refl, sym, ap, _∙_}
+use Prim.Native.Nat.{ℕ, _≤_, _<_}
+use denote.Ref.{now}
+use lib.ListN.{length}
+use Rattle.spec.specs.Instance.{instanceOf}
+use Rattle.spec.specs.Formula.{formula, wordsOf}
+use Rattle.spec.specs.Held.{held}
+use Rattle.formula.specs.Ready.{firstVar}
+use Rattle.formula.proofs.Small.{trains-is}
+use Rattle.writing.proofs.Answers.{nothing-ahead, walks-from, walk-words, walk-clauses, answer-short, output-short, answer-fits, output-fits}
+use Rattle.writing.proofs.write_by.Statement.{statement}
+use Rattle.writing.proofs.write_by.Tie as tie
+
+sub-none : tie.Need-sub-none
+sub-none c = search needs
+
+part-none-start : tie.Need-part-none-start
+part-none-start c = search needs
+
+part-none-end : tie.Need-part-none-end
+part-none-end c = search needs
+
+sub-walk-formula : tie.Need-sub-walk-formula
+sub-walk-formula c = search needs
+
+part-walk-formula-start : tie.Need-part-walk-formula-start
+part-walk-formula-start c = search needs
+
+part-walk-formula-end : tie.Need-part-walk-formula-end
+part-walk-formula-end c = search needs
+
+walk-formula-requires : tie.Need-walk-formula-requires
+walk-formula-requires c κs = search needs
+
+same-length : tie.Need-same-length
+same-length c = search needs
+
+returns : tie.Need-returns
+returns c =
+    let m = c .before .before .before in
+    let s = m .before .before .before .before .before .before .before .before in
+    let p = s .pre .0 .counted .passed in
+    let out = now (s .args .out) in
+    let e = nothing-ahead (m .walk-formula .ensures) refl out in
+    let n = walk-words (s .args .b) p (m .walk-formula .ensures) in
+    let h : length out < length (wordsOf (formula (instanceOf (held (s .args .b))))) = omega (arith, c .if1 .taken, ap length e, n) in
+    (answer-short (s .args .b) p (length out) h, e ∙ output-short (s .args .b) p out h)
+
+walk-formula-requires-2 : tie.Need-walk-formula-requires-2
+walk-formula-requires-2 c κs = search needs
+
+first-variable-requires : tie.Need-first-variable-requires
+first-variable-requires c κs = (c .before .before .before .before .before .before .before .before .before .before .before .before .before .before .pre .0 .counted, le-refl _)
+
+same-length-2 : tie.Need-same-length-2
+same-length-2 c = search needs
+
+returns-2 : tie.Need-returns-2
+returns-2 c =
+    let w = c .before .before in
+    let m = w .before .before .before .before .before in
+    let s = m .before .before .before .before .before .before .before .before in
+    let a = s .args in
+    let p = s .pre .0 .counted .passed in
+    let out = now (a .out) in
+    let e = nothing-ahead (m .walk-formula .ensures) refl out in
+    let k = walks-from e (w .walk-formula2 .ensures) in
+    let n = walk-words (a .b) p (m .walk-formula .ensures) in
+    let h : length (wordsOf (formula (instanceOf (held (a .b))))) ≤ length out = omega (arith, w .before .before .if1 .left, ap length e, n) in (
+      answer-fits (a .b) p (length out) h (c .first-variable .ensures ∙ ap (firstVar _) (sym (trains-is (a .b) p))) (walk-clauses (a .b) p k)
+          (walk-words (a .b) p k),
+      output-fits (a .b) p h k,
+    )
+
+pub write-by-spec : {M : Type 1} → statement M
+write-by-spec =
+    tie.close
+    (tie.spec
+    sub-none
+    part-none-start
+    part-none-end
+    sub-walk-formula
+    part-walk-formula-start
+    part-walk-formula-end
+    walk-formula-requires
+    same-length
+    returns
+    walk-formula-requires-2
+    first-variable-requires
+    same-length-2
+    returns-2)

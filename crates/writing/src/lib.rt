@@ -1,0 +1,98 @@
+// Writing a book's formula. `write_formula` is the entry point: it takes any bytes and any output, and
+// answers the totals, with the words written, or one numbered refusal, with the output as it was.
+// The words are measured before anything is written. Assumes nothing.
+use formula::first_variable;
+use formula::walk_formula;
+use meets::list_meets;
+use model::Book;
+use reading::Answer;
+use reading::read_book;
+use tables::fill_trains;
+ghost use mathlib.Core.Path.{_≡_};
+ghost use lib.ListN.{length};
+ghost use Rattle.spec.specs.Instance.{instanceOf};
+ghost use Rattle.spec.specs.Held.{held};
+ghost use Rattle.spec.specs.Entry.{writeFormula, formulaOutput};
+ghost use Rattle.tables.specs.Tables.{Passed};
+ghost use Rattle.formula.specs.Ready.{MeetsReady, Ready};
+ghost use Rattle.writing.specs.FormulaAnswers.{formulaAnswer, writtenFor, outputFor};
+
+// The totals of a formula that was written, or a refusal's number and detail.
+pub enum FormulaAnswer {
+    Totals {
+        variables: usize,
+        clauses: usize,
+        words: usize,
+    },
+    Refused(usize, usize),
+}
+
+// 12, then the words, by the tables of a book: measured with an empty output, then written.
+pub fn write_by(
+    b: Book,
+    runs: [usize; 8],
+    rows: &[u8],
+    sizes: &[u8],
+    starts: &[usize],
+    ends: &[usize],
+    meets: &[u8],
+    end: usize,
+    out: &mut [i32],
+) -> FormulaAnswer
+    requires { ⌜ Ready b runs (now rows) (now sizes) (now starts) (now ends) × MeetsReady b (now meets) end ⌝ }
+    ensures { λ r. ⌜ (r ≡ formulaAnswer (writtenFor (instanceOf (held b)) (length (now (out .entry)))))
+        × (now (out .exit) ≡ outputFor (instanceOf (held b)) (now (out .entry))) ⌝ }
+{
+    let none = &rows[0..0];
+    let measured = walk_formula(
+        b,
+        runs,
+        rows,
+        sizes,
+        starts,
+        ends,
+        meets,
+        end,
+        none,
+        &mut out[0..0],
+    );
+    if out.len() < measured.words {
+        return FormulaAnswer::Refused(12, 0);
+    }
+    let w = walk_formula(b, runs, rows, sizes, starts, ends, meets, end, none, out);
+    FormulaAnswer::Totals {
+        variables: first_variable(b, runs, b.train_count),
+        clauses: w.clauses,
+        words: w.words,
+    }
+}
+
+// The formula of a book that passed: its tables are filled, then its words are written.
+pub fn write_words(b: Book, out: &mut [i32]) -> FormulaAnswer
+    requires { ⌜ Passed b ⌝ }
+    ensures { λ r. ⌜ (r ≡ formulaAnswer (writtenFor (instanceOf (held b)) (length (now (out .entry)))))
+        × (now (out .exit) ≡ outputFor (instanceOf (held b)) (now (out .entry))) ⌝ }
+{
+    let mut rows = [0u8; 32768];
+    let mut sizes = [0u8; 2048];
+    let mut starts = [0usize; 2048];
+    let mut ends = [0usize; 2048];
+    let mut meets = [0u8; 24192];
+    let runs = fill_trains(b, &mut rows, &mut sizes, &mut starts, &mut ends);
+    let end = list_meets(b, &mut meets);
+    write_by(b, runs, &rows, &sizes, &starts, &ends, &meets, end, out)
+}
+
+// The entry point: the formula of the book that the bytes hold.
+pub fn write_formula(book: &[u8], out: &mut [i32]) -> FormulaAnswer
+    ensures { λ r. ⌜ (r ≡ formulaAnswer (writeFormula (now (book .entry)) (length (now (out .entry)))))
+        × (now (out .exit) ≡ formulaOutput (now (book .entry)) (now (out .entry))) ⌝ }
+{
+    let r = read_book(book);
+    let answer = r.answer;
+    let b = r.book;
+    match answer {
+        Answer::Refused(number, detail) => FormulaAnswer::Refused(number, detail),
+        Answer::Accepted => write_words(b, out),
+    }
+}
