@@ -8,6 +8,7 @@ use mathlib.Core.List.{List, [], _∷_, map}
 use lib.ListN.{length}
 use lib.IntN.{ℤ}
 use lib.Dec.{eqb}
+use Rattle.laws.proofs.Tests.{and-false, nil-of-length}
 use Rattle.spec.specs.Lists.{Bytes, count, range, each, one}
 use Rattle.spec.specs.Formula.{not′, wordsOf}
 use Rattle.spec.specs.Assignment.{assigned}
@@ -18,11 +19,7 @@ use Rattle.clauses.proofs.Laws.{length-stored, walked-append}
 
 -- an output without room stays as it is
 empty-stored : (at : ℕ) (ls out : List ℤ) → length out ≡ 0 → out ≡ stored at ls out
-empty-stored at ls out e = nil out e ∙ sym (nil (stored at ls out) (length-stored at ls out ∙ e))
-  where
-    nil : (xs : List ℤ) → length xs ≡ 0 → xs ≡ []
-    nil [] h = refl
-    nil (x ∷ xs) h = let no′ : ⊥ = omega arith in absurd no′
+empty-stored at ls out e = nil-of-length out e ∙ sym (nil-of-length (stored at ls out) (length-stored at ls out ∙ e))
 
 -- some true literal
 or-true : (a b : Bool) → a ≡ true → (a || b) ≡ true
@@ -37,12 +34,9 @@ closed-held : (w : Walk) → w .holds ≡ true
     → closed w ≡ record { words = more (w .words) 1; clauses = more (w .clauses) 1; holds = false; wrong = w .wrong }
 unfolding closed
 closed-held w e =
-    let h : (eqb (w .wrong) 0 && not (w .holds)) ≡ false = ap (λ (t : Bool). eqb (w .wrong) 0 && not t) e ∙ never (eqb (w .wrong) 0) in
+    let h : (eqb (w .wrong) 0 && not (w .holds)) ≡ false =
+    ap (λ (t : Bool). eqb (w .wrong) 0 && not t) e ∙ and-false (eqb (w .wrong) 0) in
     simp h
-  where
-    never : (t : Bool) → (t && false) ≡ false
-    never true = refl
-    never false = refl
 
 -- counts that grow twice
 more-more : (n j k m : ℕ) → j + k ≡ m → more (more n j) k ≡ more n m

@@ -11,14 +11,10 @@ use Rattle.laws.proofs.Tests.{and-iff, ltb-iff, true-of, le-or-lt}
 use Rattle.spec.specs.Lists.{all, one, only, pick, sumTo}
 use Rattle.spec.specs.Book.{Book, Call, callsOf}
 use Rattle.spec.specs.Read.{maxCalls, maxTrains}
+use Rattle.laws.proofs.Parts.{sum-add}
 use Rattle.content.specs.Added.{CallsFew}
 
 -- ---- sums
-
-sum-add : (f g : ℕ → ℕ) (n : ℕ) → sumTo (λ i. f i + g i) n ≡ sumTo f n + sumTo g n
-unfolding sumTo
-sum-add f g zero = refl
-sum-add f g (suc n) = let e = sum-add f g n in omega arith
 
 -- one part is at most the whole
 sum-part : (f : ℕ → ℕ) (n i : ℕ) → i < n → f i ≤ sumTo f n

@@ -17,7 +17,7 @@ use Rattle.spec.specs.Plan.{Plan, IsPlan, planFits, planOf, planLength, brokenR
 use Rattle.spec.specs.Formula.{formula, variables, wordsOf}
 use Rattle.spec.specs.Assignment.{satisfies, assigned, assignmentFits, decode, encode}
 use Rattle.spec.specs.Refutation.{ProofStep, Lent, fileOf, InFields, GoodSteps, clausesFit}
-use Rattle.spec.specs.Entry.{overwrite, written, formulaWritten, writeFormula, formulaOutput, checkAssignment, checkPlan, checkRefutation, formulaFits}
+use Rattle.spec.specs.Entry.{overwrite, written, formulaWritten, writeFormula, formulaOutput, checkAssignment, checkPlan, checkRefutation, formulaFits, wordsAfter}
 use Rattle.demands.proofs.Encoding.{shape}
 use Rattle.demands.proofs.Extra.{no-condition}
 use Rattle.demands.proofs.Plans.{plan-satisfies, plan-fits, decoded-fits, decoded-coded, decoded-keeps, decode-encoded}
@@ -39,7 +39,7 @@ pub formula-written : (book : Bytes) (b : Book) (old : List ℤ) → readBook bo
       words = wordsOf (formula (instanceOf b));
     }))
     × (formulaOutput book old ≡ wordsOf (formula (instanceOf b)) ++ drop (length (wordsOf (formula (instanceOf b)))) old)
-unfolding formulaOutput overwrite formulaWritten written andThen
+unfolding formulaOutput wordsAfter overwrite formulaWritten written andThen
 formula-written book b old read room =
     let w = wordsOf (formula (instanceOf b)) in
     let e = write-formula book b read (length old) room in

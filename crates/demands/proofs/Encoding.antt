@@ -19,7 +19,7 @@ use Rattle.spec.specs.Lists.{Bytes, all, upTo, each, one, sumTo}
 use Rattle.spec.specs.Numbers.{littleEndian, field, number}
 use Rattle.spec.specs.Instance.{Instance}
 use Rattle.spec.specs.Plan.{Plan, Move, run, absent, gone, absentCode, goneCode, isGone, runs, bit, isBit, isMove, moveCode, moveOf, moveAt, planBytes, planLength, planOf, planFits}
-use Rattle.spec.specs.Formula.{width, base, borderVar, runVar, goneVar, claimVar, ownVariables, variables}
+use Rattle.spec.specs.Formula.{width, base, borderVar, runVar, goneVar, claimVar, ownVariables, variables, firstVar}
 use Rattle.spec.specs.Extra.{extraVariables, extraValues}
 use Rattle.spec.specs.Assignment.{assigned, encode, claims, decoded}
 use Rattle.demands.proofs.Coding.{Codes, Agree}
@@ -65,7 +65,7 @@ module _ (I : Instance) (p : Plan) where
 
   -- an assignment has a byte a variable
   pub length-encode : length (extraValues I p) ≡ extraVariables I → length (encode I p) ≡ variables I
-  unfolding encode variables ownVariables row
+  unfolding encode variables ownVariables firstVar row
   length-encode extra =
       length-append (map (λ n. bit (p .border n)) (upTo (I .nodes))) _
       ∙ ap₂ _+_ length-borders
@@ -82,7 +82,7 @@ module _ (I : Instance) (p : Plan) where
 
   -- where the bytes of a train's interval stand
   part-row : (i : ℕ) → i < I .trains → (t : ℕ) → t < I .intervals → Part (encode I p) (base I i t) (row i t)
-  unfolding encode base row
+  unfolding encode base firstVar row
   part-row i l t h =
       part-move (ap₂ (λ (a b : ℕ). a + (0 + (sumTo (λ j. I .intervals * width I j) i + b))) length-borders (sum-constant (width I i) t) ∙ omega arith)
       (part-in (part-behind (map (λ n. bit (p .border n)) (upTo (I .nodes))) _)

@@ -17,7 +17,7 @@ use Rattle.spec.specs.Plan.{Plan, planFits, planOf, planLength, rule1, rule2, r
 use Rattle.spec.specs.Formula.{Clause, formula, variables, wordsOf}
 use Rattle.spec.specs.Assignment.{satisfies, holds, firstFalse, assigned, assignmentFits, decode, encode}
 use Rattle.spec.specs.Refutation.{Lent, checkFile}
-use Rattle.spec.specs.Entry.{demand, findNone, readInstance, formulaWritten, writeFormula, judgeAssignment, judgePlan, checkAssignment, checkPlan, checkRefutation, formulaFits}
+use Rattle.spec.specs.Entry.{demand, findNone, readInstance, formulaWritten, writeFormula, judgeAssignment, judgePlan, checkAssignment, checkPlan, checkRefutation, formulaFits, writtenFor}
 use Rattle.demands.proofs.Faults.{passes, first-none, clear-first}
 
 -- ---- the parts of a check
@@ -117,7 +117,7 @@ module _ (book : Bytes) (b : Book) (read : readBook book ≡ accepted b) where
   read-instance = then-goes _ read
 
   pub write-formula : (n : ℕ) → length (wordsOf (formula (instanceOf b))) ≤ n → writeFormula book n ≡ accepted (formulaWritten (instanceOf b))
-  unfolding writeFormula
+  unfolding writeFormula writtenFor
   write-formula n room =
       then-goes _ read-instance ∙ then-goes _ (demand-iff _ 12 .1 (leb-iff (length (wordsOf (formula (instanceOf b)))) n .1 room))
 

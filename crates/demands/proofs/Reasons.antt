@@ -22,7 +22,7 @@ use Rattle.spec.specs.Plan.{planFits, planOf, planLength, ruleFaults, brokenRul
 use Rattle.spec.specs.Formula.{Clause, formula, variables, wordsOf}
 use Rattle.spec.specs.Assignment.{holds, firstFalse, assigned, assignmentFits}
 use Rattle.spec.specs.Refutation.{Lent, clauseAt, stepFaults, stepDetail, checkSteps, checkFile}
-use Rattle.spec.specs.Entry.{demand, findNone, overwrite, written, readInstance, writeFormula, formulaText, judgeAssignment, judgePlan, checkAssignment, checkPlan, checkRefutation, formulaFits}
+use Rattle.spec.specs.Entry.{demand, findNone, overwrite, written, readInstance, writeFormula, formulaText, judgeAssignment, judgePlan, checkAssignment, checkPlan, checkRefutation, formulaFits, writtenFor}
 use Rattle.demands.proofs.Faults.{passes, FirstHolds, first-none, first-some}
 use Rattle.demands.proofs.Reading.{refusal-has-reason}
 use Rattle.demands.proofs.Refuting.{stepAt, added}
@@ -114,7 +114,7 @@ judge-refused fits found m n e =
 -- Refused only by the book, or by 12 where the formula has more words than the slice; the detail is 0.
 pub formula-refusal : (book : Bytes) (n k d : ℕ) → writeFormula book n ≡ refused k d
     → Refusal book (λ I. n < length (wordsOf (formula I))) (λ I k d. ⊥) k d
-unfolding writeFormula
+unfolding writeFormula writtenFor
 formula-refusal book n k d e =
     in-order book _ _ (λ I. leb (length (wordsOf (formula I))) n) _ (λ I. short-iff (length (wordsOf (formula I))) n)
     (λ I r. accepted≢refused r) e

@@ -14,7 +14,7 @@ use Rattle.laws.proofs.Tests.{meaning, and-iff, leb-iff, le-or-lt, all-iff}
 use Rattle.laws.proofs.Rows.{rows, all-append, all-cons}
 use Rattle.spec.specs.Lists.{all, each, one, sumTo}
 use Rattle.spec.specs.Instance.{Instance}
-use Rattle.spec.specs.Formula.{Literal, Clause, is, not′, width, base, borderVar, runVar, goneVar, claimVar, ownVariables, variables, familyA, familyB, familyC, familyD, familyE, familyF, familyG, familyH, familyI, formula, wordsOf}
+use Rattle.spec.specs.Formula.{Literal, Clause, is, not′, width, firstVar, base, borderVar, runVar, goneVar, claimVar, ownVariables, variables, familyA, familyB, familyC, familyD, familyE, familyF, familyG, familyH, familyI, formula, wordsOf}
 use Rattle.spec.specs.Extra.{extraClauses}
 use Rattle.spec.specs.Refutation.{variableOf}
 use Rattle.demands.proofs.Wellformed.{Sound}
@@ -62,12 +62,12 @@ sum-below f (suc n) i h =
 module _ (I : Instance) where
   -- the variables of a train's interval are below the count
   base-below : (i : ℕ) → i < I .trains → (t : ℕ) → t < I .intervals → (j : ℕ) → j < width I i → base I i t + j < variables I
-  unfolding base variables ownVariables
+  unfolding base variables ownVariables firstVar
   base-below i l t h j k = omega (arith, sum-below (λ j. I .intervals * width I j) (I .trains) i l, digits-lt h k)
 
   -- a border's variable is one of the formula's
   border-below : (n : ℕ) → n < I .nodes → borderVar I n < variables I
-  unfolding borderVar variables ownVariables
+  unfolding borderVar variables ownVariables firstVar
   border-below n h = omega arith
 
   -- a run's is, and the one behind the runs

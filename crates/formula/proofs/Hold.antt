@@ -5,16 +5,16 @@ use Prim.Native.Nat.{ℕ, suc, _+_, _*_, _≤_, _<_}
 use native.Mathlib.Nat.{mul-le-mul-right, suc-mul}
 use native.Mathlib.Omega.{arith}
 use mathlib.Core.List.{List, [], map}
-use lib.ListN.{length, getD, take, length-map, length-take, List·getD-append}
+use lib.ListN.{length, getD, take, length-map, List·getD-append}
 use lib.Seq.{slice, sets, length-sets, length-slice}
 use lib.Dec.{eqb, leb→le}
 use Rattle.model.specs.declared.Book.{Book as BookStruct}
 use Rattle.spec.specs.Lists.{Bytes, upTo}
 use Rattle.spec.specs.Instance.{instanceOf, compile, runAt}
-use Rattle.spec.specs.Held.{held, heldTrain, padded}
+use Rattle.spec.specs.Held.{held, padded}
 use Rattle.laws.proofs.Tests.{all-at}
 use Rattle.laws.proofs.Parts.{map-at, length-upTo}
-use Rattle.content.proofs.Packing.{trains-counted, segments-counted}
+use Rattle.content.proofs.Packing.{segments-counted}
 use Rattle.listing.specs.Listed.{rowsAfter, sizesAfter}
 use Rattle.listing.proofs.Lists.{short, length-rowsAfter, length-sizesAfter}
 use Rattle.places.proofs.Tables.{size-held, run-held}
@@ -24,6 +24,7 @@ use Rattle.tables.specs.Tables.{Passed, runsAt, startNumbers, endNumbers, fille
 use Rattle.tables.proofs.Trains.{Filled, few, are-short, are-long, starts, ends, take-sets}
 use Rattle.tables.proofs.Lookups.{length-filled, filled-part, starts-held, ends-held, follows-held}
 use Rattle.families.specs.TrainHeld.{TrainHeld}
+use Rattle.formula.proofs.Trains.{trains-fit}
 use Rattle.formula.specs.Ready.{Counted, MeetsReady, Ready}
 
 -- ---- one train
@@ -91,17 +92,6 @@ module _ {f : ℕ → List ℕ → List ℕ} {width n : ℕ} {old table : List �
 -- ---- all trains
 
 module _ (b : BookStruct) (p : Passed b) where
-  -- no more trains than the array has
-  trains-fit : b .«train_count» ≤ length (b .trains)
-  unfolding held
-  trains-fit =
-      omega (
-        arith,
-        trains-counted (p .packed),
-        length-map (take (b .«train_count») (b .trains)) heldTrain,
-        length-take (b .«train_count») (b .trains),
-      )
-
   -- the counts of runs
   counts-ready : {counts : List ℕ} → counts ≡ padded 8 0 (map (λ i. length (runsAt (held b) i)) (upTo (b .«train_count»)))
       → Counted b counts
@@ -133,7 +123,7 @@ module _ (b : BookStruct) (p : Passed b) where
       (record {
         passed = p;
         below = l;
-        fits = trains-fit;
+        fits = trains-fit b p;
         room = part-long r i l;
         space = part-long s i l;
         reached = refl;

@@ -12,14 +12,14 @@ use Rattle.spec.specs.Lists.{sumTo}
 use Rattle.spec.specs.Book.{Book, segmentOf, callsOf, trainAt}
 use Rattle.spec.specs.Read.{wellFormed, between, maxCalls}
 use Rattle.spec.specs.Instance.{Instance, instanceOf, compile, runLists, runAt}
-use Rattle.spec.specs.Formula.{width, base}
+use Rattle.spec.specs.Formula.{width, firstVar, base}
 use Rattle.spec.specs.Held.{held, CountsFit}
 use Rattle.demands.proofs.Wellformed.{parts, sound, runs-at}
 use Rattle.laws.proofs.Tests.{and-iff, leb-iff, all-at, all-upTo, getD-mem}
 use Rattle.tables.proofs.Trains.{run-length}
 use Rattle.content.proofs.Packing.{nodes-counted, segments-counted, trains-counted}
 use Rattle.tables.specs.Tables.{Passed}
-use Rattle.formula.specs.Ready.{firstVar, Counted}
+use Rattle.formula.specs.Ready.{Counted}
 
 -- an instance with few of each
 pub record Few (I : Instance) : Type 0 where
@@ -58,7 +58,7 @@ module _ (I : Instance) (few : Few I) where
 
   -- the first variable of a train's interval
   pub base-is : (i t : ℕ) → base I i t ≡ firstVar I i + t * width I i
-  unfolding base firstVar
+  unfolding base
   base-is i t = refl
 
   pub base-small : (i t : ℕ) → i < I .trains → t ≤ I .intervals → base I i t ≤ 189333600

@@ -14,7 +14,7 @@ use Rattle.model.specs.declared.Train.{Train as TrainStruct}
 use Rattle.spec.specs.Lists.{Bytes, each, one}
 use Rattle.spec.specs.Book.{Call, Train, trainAt, lengthInSegments}
 use Rattle.spec.specs.Instance.{Instance, instanceOf, compile, callAt, trainLength, placeServes, inWindow, servedAtDeparture}
-use Rattle.spec.specs.Formula.{base, wordsOf}
+use Rattle.spec.specs.Formula.{firstVar, base, wordsOf}
 use Rattle.spec.specs.Held.{held, heldTrain, NumbersFit}
 use Rattle.clauses.proofs.Laws.{only-true, only-false}
 use Rattle.clauses.proofs.Turns.{words-one}
@@ -25,7 +25,7 @@ use Rattle.tables.specs.Tables.{Passed}
 use Rattle.tables.proofs.Lookups.{slice-tail}
 use Rattle.tables.proofs.Trains.{metres-some, numbers-here, reach-here}
 use Rattle.formula.specs.Families.{callRuns, callRows}
-use Rattle.formula.specs.Ready.{firstVar, TrainReady, Ready}
+use Rattle.formula.specs.Ready.{TrainReady, Ready}
 use Rattle.formula.proofs.Small.{trains-is, intervals-is, width-is, passed-few, base-is, base-small}
 
 -- past the end of an array of trains

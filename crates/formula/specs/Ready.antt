@@ -5,17 +5,13 @@ use mathlib.Core.List.{List}
 use lib.ListN.{length, getD, take}
 use lib.Seq.{slice}
 use Rattle.model.specs.declared.Book.{Book as BookStruct}
-use Rattle.spec.specs.Lists.{Bytes, sumTo}
-use Rattle.spec.specs.Instance.{Instance, instanceOf}
-use Rattle.spec.specs.Formula.{width}
+use Rattle.spec.specs.Lists.{Bytes}
+use Rattle.spec.specs.Instance.{instanceOf}
+use Rattle.spec.specs.Formula.{firstVar}
 use Rattle.spec.specs.Held.{held}
 use Rattle.tables.specs.Tables.{Passed}
 use Rattle.meets.specs.Meets.{meetBytes}
 use Rattle.families.specs.TrainHeld.{TrainHeld}
-
--- the first variable of a train
-unfoldable pub firstVar : Instance → ℕ → ℕ
-firstVar I i = I .nodes + sumTo (λ j. I .intervals * width I j) i
 
 -- of each train: its number of runs
 pub record Counted (b : BookStruct) (counts : List ℕ) : Type 0 where

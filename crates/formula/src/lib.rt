@@ -25,13 +25,13 @@ ghost use Prim.Native.Nat.{_≤_, _<_};
 ghost use lib.Dec.{leb};
 ghost use Rattle.spec.specs.Lists.{upTo, each};
 ghost use Rattle.spec.specs.Instance.{instanceOf, callAt, trainLength};
-ghost use Rattle.spec.specs.Formula.{claimVar, familyF, familyI, formula, wordsOf};
+ghost use Rattle.spec.specs.Formula.{firstVar, claimVar, familyF, familyI, formula, wordsOf};
 ghost use Rattle.spec.specs.Held.{held};
 ghost use Rattle.clauses.specs.Walked.{Walks, start};
 ghost use Rattle.tables.specs.Tables.{Passed};
 ghost use Rattle.families.specs.TrainHeld.{TrainHeld};
 ghost use Rattle.formula.specs.Families.{fromBy, toBy, rowsOf, trainRows, familyRows, callRuns, callRows, pairsBehind};
-ghost use Rattle.formula.specs.Ready.{firstVar, Counted, TrainReady, MeetsReady, Ready};
+ghost use Rattle.formula.specs.Ready.{Counted, TrainReady, MeetsReady, Ready};
 
 // The families that go by train and interval.
 pub enum Family {

@@ -104,6 +104,12 @@ module _ {ℓ} {B : Type ℓ} (f : ℕ → List B) (w : ℕ → ℕ) (sized : (i
     place = length-each i;
   }
 
+-- sums, term by term
+pub sum-add : (f g : ℕ → ℕ) (n : ℕ) → sumTo (λ i. f i + g i) n ≡ sumTo f n + sumTo g n
+unfolding sumTo
+sum-add f g zero = refl
+sum-add f g (suc n) = omega (arith, sum-add f g n)
+
 pub sum-constant : (w n : ℕ) → sumTo (λ _. w) n ≡ n * w
 unfolding sumTo
 sum-constant w zero = sym (zero-mul w)

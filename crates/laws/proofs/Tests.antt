@@ -14,6 +14,10 @@ use Rattle.spec.specs.Lists.{all, any, upTo, range, count, has, same, empty}
 
 -- ---- Bool
 
+pub and-false : (t : Bool) → (t && false) ≡ false
+and-false true = refl
+and-false false = refl
+
 pub and-iff : (a b : Bool) → T (a && b) ↔ (T a × T b)
 and-iff true b = (λ h. (tt, h), λ h. h .1)
 and-iff false b = (λ h. absurd h, λ h. h .0)
@@ -125,6 +129,11 @@ getD-mem (x ∷ xs) (suc i) d h = List·Memᴰ·tail (getD-mem xs i d (omega ari
 -- a test of the whole row holds of what stands at a number
 pub all-at {ℓ} : {A : Type ℓ} (f : A → Bool) (xs : List A) (i : ℕ) (d : A) → T (all f xs) → i < length xs → T (f (getD xs i d))
 all-at f xs i d h l = all-iff f xs .0 h (getD xs i d) (getD-mem xs i d l)
+
+-- a row without elements
+pub nil-of-length {ℓ} : {A : Type ℓ} (xs : List A) → length xs ≡ 0 → xs ≡ []
+nil-of-length [] h = refl
+nil-of-length (x ∷ xs) h = let no′ : ⊥ = omega arith in absurd no′
 
 -- a row is empty exactly where its length is 0
 pub empty-length {ℓ} : {A : Type ℓ} (xs : List A) → empty xs ≡ eqb (length xs) 0

@@ -11,15 +11,10 @@ use mathlib.Core.List.{List, [], _∷_, _++_, append-nil}
 use lib.ListN.{length, length-append}
 use lib.Dec.{T}
 use Rattle.spec.specs.Lists.{Bytes, upTo, range, each, one, all}
-use Rattle.laws.proofs.Tests.{le-or-lt}
+use Rattle.laws.proofs.Tests.{le-or-lt, nil-of-length}
 use Rattle.laws.proofs.Parts.{upTo-split, each-append}
 use Rattle.listing.specs.Listed.{goesOnBy, extendBy, pathsBy, countAfter}
 use Rattle.listing.proofs.Lists.{Listed, listed-next, listed-end, each-nothing, each-next, chosen, onward, short}
-
--- a row without elements
-nil : {A : Type 0} (xs : List A) → length xs ≡ 0 → xs ≡ []
-nil [] h = refl
-nil (x ∷ xs) h = let no′ : ⊥ = omega arith in absurd no′
 
 module _ {A : Type 0} (f : ℕ → List A) where
   -- rows that are empty together are empty each
@@ -28,7 +23,7 @@ module _ {A : Type 0} (f : ℕ → List A) where
   part-none n d l h =
       let e : each (upTo n) f ≡ each (upTo d) f ++ (f d ++ each (range (suc d) n) f) =
       ap (λ (ks : List ℕ). each ks f) (upTo-split n d l) ∙ each-append (upTo d) (d ∷ range (suc d) n) f in
-      nil (f d)
+      nil-of-length (f d)
       (omega (
         arith,
         ap length (sym e ∙ h),
@@ -98,7 +93,7 @@ module _ (table : Bytes) (n : ℕ) where
 
       nothing-new : found < 257 → level j ≡ []
       unfolding countAfter
-      nothing-new f = nil (level j) (omega (arith, more .counted))
+      nothing-new f = nil-of-length (level j) (omega (arith, more .counted))
 
       pub listed-all : Listed 0 rows₀ sizes₀ (each (upTo (k + 1)) level) next rows′ sizes′
       listed-all =

@@ -11,16 +11,11 @@ use Rattle.spec.specs.Lists.{sumTo}
 use Rattle.spec.specs.Book.{Book, segmentAt, touches, shareNode}
 use Rattle.spec.specs.Instance.{instanceOf, compile}
 use Rattle.laws.proofs.Tests.{and-iff, eqb-iff, not-iff, true-of, false-of, le-or-lt, decide, denied-of}
-use Rattle.laws.proofs.Parts.{sum-constant}
+use Rattle.laws.proofs.Parts.{sum-add, sum-constant}
 use Rattle.meets.specs.Meets.{meetsOf, meetsAt, meetBytes}
 use Rattle.meets.proofs.Rows.{sum-le, each-sum, pair, pair-most, pair-none, of-none}
 
 -- ---- sums
-
-sum-add : (f g : ℕ → ℕ) (n : ℕ) → sumTo (λ i. f i + g i) n ≡ sumTo f n + sumTo g n
-unfolding sumTo
-sum-add f g zero = refl
-sum-add f g (suc n) = omega (arith, sum-add f g n)
 
 -- by rows or by columns
 sum-swap : (f : ℕ → ℕ → ℕ) (n m : ℕ) → sumTo (λ i. sumTo (f i) m) n ≡ sumTo (λ j. sumTo (λ i. f i j) n) m

@@ -8,13 +8,13 @@ use mathlib.Core.List.{List, [], _∷_, _++_, append-nil}
 use lib.ListN.{length, take, drop, length-drop}
 use lib.IntN.{ℤ}
 use lib.Dec.{T, leb}
-use lib.Seq.{sets, sets-eq, take-append-seam, drop-append-seam}
+use lib.Seq.{sets, sets-eq, take-append-seam}
 use Rattle.spec.specs.Lists.{Bytes, Verdict, accepted, refused, andThen, each}
 use Rattle.spec.specs.Book.{Book}
 use Rattle.spec.specs.Read.{readBook}
 use Rattle.spec.specs.Instance.{Instance, instanceOf}
 use Rattle.spec.specs.Formula.{formula, variables, wordsOf, dimacsText}
-use Rattle.spec.specs.Entry.{Written, demand, readInstance, formulaWritten, writeFormula, formulaText, formulaOutput, overwrite, written}
+use Rattle.spec.specs.Entry.{Written, demand, readInstance, formulaWritten, writtenFor, writeFormula, wordsAfter, formulaText, formulaOutput, overwrite, written}
 use Rattle.spec.specs.Programs.{printed, refusalLine}
 use Rattle.laws.proofs.Tests.{leb-iff}
 use Rattle.demands.proofs.Entries.{then-accepted, then-goes, demand-iff, instance-read, read-instance}
@@ -29,7 +29,7 @@ use Rattle.writing.specs.FormulaAnswers.{formulaAnswer}
 
 -- ---- the line
 
--- text that was stored at the front of a line stands there, and what is behind it is as it was
+-- text that was stored at the front of a line stands there
 module _ (old text : Bytes) (full : length old ≡ 64) {n : ℕ} (e : n ≡ length text) (few : n ≤ 60) {new : Bytes}
     (s : new ≡ sets old 0 text) where
   front : new ≡ text ++ drop (length text) old
@@ -37,12 +37,6 @@ module _ (old text : Bytes) (full : length old ≡ 64) {n : ℕ} (e : n ≡ leng
 
   pub line-front : take n new ≡ text
   line-front = ap₂ (λ (k : ℕ) (l : Bytes). take k l) e front ∙ take-append-seam text (drop (length text) old)
-
-  pub line-behind : drop n new ≡ drop n old
-  line-behind =
-      ap₂ (λ (k : ℕ) (l : Bytes). drop k l) e front
-      ∙ drop-append-seam text (drop (length text) old)
-      ∙ ap (λ (k : ℕ). drop k old) (sym e)
 
 -- ---- what an answer says
 
@@ -78,7 +72,7 @@ refusal-text s room {n} {d} e =
 
 written-book : (s : Bytes) (room : ℕ) (w : Written) → writeFormula s room ≡ accepted w
     → (b : Book) × (readBook s ≡ accepted b) × (w ≡ formulaWritten (instanceOf b)) × (length (wordsOf (formula (instanceOf b))) ≤ room)
-unfolding writeFormula
+unfolding writeFormula writtenFor
 written-book s room w e =
     let k = then-accepted (readInstance s) _ w e in
     let r = instance-read s (k .0) (k .1) in
@@ -109,7 +103,7 @@ module _ (s : Bytes) (old : List ℤ) (w : Written) (e : writeFormula s (length 
       then-goes _ e ∙ then-goes _ (read-instance s (written-book s (length old) w e .0) (written-book s (length old) w e .1))
 
   output-is : formulaOutput s old ≡ overwrite old words
-  unfolding formulaOutput andThen written formulaWritten
+  unfolding formulaOutput wordsAfter andThen written formulaWritten
   output-is =
       ap (λ (v : Verdict Written). overwrite old (written (andThen v λ w. accepted (w .words)))) e
       ∙ ap (λ (w : Written). overwrite old (w .words)) is-written

@@ -10,10 +10,12 @@ use writing::write_formula;
 ghost use mathlib.Core.Path.{_≡_};
 ghost use mathlib.Core.List.{_++_};
 ghost use Prim.Native.Nat.{_≤_};
-ghost use lib.ListN.{length, take, drop};
-ghost use Rattle.spec.specs.Entry.{formulaText, formulaOutput};
+ghost use lib.ListN.{length, take};
+ghost use lib.Seq.{sets};
+ghost use Rattle.spec.specs.Entry.{writeFormula, formulaText, formulaOutput};
 ghost use Rattle.spec.specs.Programs.{printed};
 ghost use Rattle.dimacs.specs.Text.{wordsText};
+ghost use Rattle.printing.specs.Opening.{firstLine, wordsBehind};
 
 // How many bytes are printed first, and how many words follow them.
 pub struct Opened {
@@ -27,8 +29,12 @@ pub fn open_text(book: &[u8], words: &mut [i32], line: &mut [u8]) -> Opened
     requires { ⌜ length (now line) ≡ 64 ⌝ }
     ensures { λ r. ⌜ (take (r .len) (now (line .exit)) ++ wordsText (take (r .words) (now (words .exit)))
         ≡ printed (λ t. t) (formulaText (now (book .entry)) (length (now (words .entry)))))
-        × (drop (r .len) (now (line .exit)) ≡ drop (r .len) (now (line .entry))) × (r .len ≤ 64)
-        × (now (words .exit) ≡ formulaOutput (now (book .entry)) (now (words .entry))) × (r .words ≤ length (now (words .entry))) ⌝ }
+        × (now (line .exit) ≡ sets (now (line .entry)) 0 (firstLine (writeFormula (now (book .entry)) (length (now (words .entry))))))
+        × (r .len ≤ 64)
+        × (now (words .exit) ≡ formulaOutput (now (book .entry)) (now (words .entry)))
+        × (r .words ≤ length (now (words .entry)))
+        × (r .len ≡ length (firstLine (writeFormula (now (book .entry)) (length (now (words .entry))))))
+        × (r .words ≡ wordsBehind (writeFormula (now (book .entry)) (length (now (words .entry))))) ⌝ }
 {
     let r = write_formula(book, words);
     match r {

@@ -18,10 +18,10 @@ use Rattle.spec.specs.Instance.{Instance, placeServes, mayLeave, trainLe
 use Rattle.spec.specs.Sections.{neighbours, togetherBelow, together, shareSection}
 use Rattle.spec.specs.Plan.{isAbsent, isGone, runs, ifRun, ofRun, moveCode, moveOf, bit, planBytes, planLength, moveAt, planOf, isBit, isMove, planFits, rule1, rule2, rule3, rule4, servedBy, rule5, rule6, ruleFaults, brokenRule, keepsRules}
 use Rattle.spec.specs.Extra.{extraVariables, extraClauses, extraCondition, extraValues}
-use Rattle.spec.specs.Formula.{width, base, borderVar, runVar, goneVar, claimVar, ownVariables, variables, familyA, familyB, familyC, familyD, familyE, familyF, familyG, familyH, familyI, formula, wordsOf, dimacsOpening, dimacsLine, dimacsText}
+use Rattle.spec.specs.Formula.{width, firstVar, base, borderVar, runVar, goneVar, claimVar, ownVariables, variables, familyA, familyB, familyC, familyD, familyE, familyF, familyG, familyH, familyI, formula, wordsOf, dimacsOpening, dimacsLine, dimacsText}
 use Rattle.spec.specs.Assignment.{deny, truth, isYes, valueOf, isTrue, holds, satisfies, firstFalse, assigned, assignmentFits, firstRun, chosen, decoded, decode, claims, encode}
 use Rattle.spec.specs.Refutation.{ProofStep, Lent, stepPayload, fileOf, literalCount, hintCount, stepIn, variableOf, risesFrom, literalsFit, hintsFit, makeTrue, makeFalse, refuting, isNo, isOpen, clauseAt, notFalse, hinted, goThrough, followsRule, clausesFit, stepFaults, stepDetail, checkSteps, checkFile}
-use Rattle.spec.specs.Entry.{demand, findNone, readInstance, formulaWritten, writeFormula, formulaText, judgeAssignment, checkAssignment, judgePlan, checkPlan, formulaFits, checkRefutation}
+use Rattle.spec.specs.Entry.{demand, findNone, readInstance, formulaWritten, writtenFor, writeFormula, formulaText, judgeAssignment, checkAssignment, judgePlan, checkPlan, formulaFits, checkRefutation}
 use Rattle.spec.specs.Programs.{sliceBytes, sliceOf, programLent, unlessLong, isLong, acceptedLine, refusalLine, printed, printFormula, printAssignment, printPlan, printRefutation}
 
 -- An answer: rows of numbers, a text or a clause, or a refusal's number and detail.
@@ -328,9 +328,9 @@ unfolding
     neighbours togetherBelow together shareSection
     isAbsent isGone runs ifRun ofRun moveCode moveOf bit planBytes planLength moveAt planOf isBit isMove planFits rule1 rule2 rule3 rule4 servedBy rule5 rule6 ruleFaults brokenRule keepsRules
     extraVariables extraClauses extraCondition extraValues
-    width base borderVar runVar goneVar claimVar ownVariables variables familyA familyB familyC familyD familyE familyF familyG familyH familyI formula wordsOf dimacsOpening dimacsLine dimacsText
+    width firstVar base borderVar runVar goneVar claimVar ownVariables variables familyA familyB familyC familyD familyE familyF familyG familyH familyI formula wordsOf dimacsOpening dimacsLine dimacsText
     deny truth isYes valueOf isTrue holds satisfies firstFalse assigned assignmentFits firstRun chosen decoded decode claims encode
     stepPayload fileOf literalCount hintCount stepIn variableOf risesFrom literalsFit hintsFit makeTrue makeFalse refuting isNo isOpen clauseAt notFalse hinted goThrough followsRule clausesFit stepFaults stepDetail checkSteps checkFile
-    demand findNone readInstance formulaWritten writeFormula formulaText judgeAssignment checkAssignment judgePlan checkPlan formulaFits checkRefutation
+    demand findNone readInstance formulaWritten writtenFor writeFormula formulaText judgeAssignment checkAssignment judgePlan checkPlan formulaFits checkRefutation
     sliceBytes sliceOf programLent unlessLong isLong acceptedLine refusalLine printed printFormula printAssignment printPlan printRefutation
 cases = refl

@@ -59,15 +59,21 @@ formulaWritten I = record
   ; wordCount = length (wordsOf (formula I))
   ; words = wordsOf (formula I) }
 
-unfoldable pub writeFormula : Bytes → ℕ → Verdict Written
-writeFormula book outLength =
-    andThen (readInstance book) λ I.
+-- of an instance: 12, then its formula
+unfoldable pub writtenFor : Instance → ℕ → Verdict Written
+writtenFor I outLength =
     andThen (demand (leb (length (wordsOf (formula I))) outLength) 12) λ _.
     accepted (formulaWritten I)
 
+unfoldable pub writeFormula : Bytes → ℕ → Verdict Written
+writeFormula book outLength = andThen (readInstance book) λ I. writtenFor I outLength
+
 -- what the output holds after the call
+unfoldable pub wordsAfter : List ℤ → Verdict Written → List ℤ
+wordsAfter old v = overwrite old (written (andThen v λ w. accepted (w .words)))
+
 unfoldable pub formulaOutput : Bytes → List ℤ → List ℤ
-formulaOutput book old = overwrite old (written (andThen (writeFormula book (length old)) λ w. accepted (w .words)))
+formulaOutput book old = wordsAfter old (writeFormula book (length old))
 
 -- the text that the formula program prints
 unfoldable pub formulaText : Bytes → ℕ → Verdict Bytes

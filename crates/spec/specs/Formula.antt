@@ -31,9 +31,13 @@ module _ (I : Instance) where
   unfoldable pub width : ℕ → ℕ
   width i = I .runs i + 1 + I .segments
 
+  -- the first variable of a train
+  unfoldable pub firstVar : ℕ → ℕ
+  firstVar i = I .nodes + sumTo (λ j. I .intervals * width j) i
+
   -- the first variable of a train's interval
   unfoldable pub base : ℕ → ℕ → ℕ
-  base i t = I .nodes + sumTo (λ j. I .intervals * width j) i + t * width i
+  base i t = firstVar i + t * width i
 
   unfoldable pub borderVar : ℕ → ℕ
   borderVar n = n
@@ -50,7 +54,7 @@ module _ (I : Instance) where
 
   -- the variables of the nine families, and all variables
   unfoldable pub ownVariables : ℕ
-  ownVariables = I .nodes + sumTo (λ j. I .intervals * width j) (I .trains)
+  ownVariables = firstVar (I .trains)
 
   unfoldable pub variables : ℕ
   variables = ownVariables + extraVariables I

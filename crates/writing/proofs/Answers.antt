@@ -4,20 +4,21 @@ use mathlib.Core.Path.{_≡_, refl, sym, ap, _∙_, subst}
 use mathlib.Core.Bool.{Bool, true, false}
 use Prim.Native.Nat.{ℕ, zero, suc, _+_, _≤_, _<_}
 use native.Mathlib.Omega.{arith}
-use mathlib.Core.List.{List, [], _∷_, _++_}
+use mathlib.Core.List.{List, _++_}
 use borrow.Author.Tests.{le-leb, lt-leb}
 use lib.ListN.{length, drop}
 use lib.IntN.{ℤ}
 use lib.Dec.{T, leb}
 use Rattle.model.specs.declared.Book.{Book as BookStruct}
+use Rattle.laws.proofs.Tests.{nil-of-length}
 use Rattle.spec.specs.Lists.{Bytes, Verdict, accepted, refused, andThen, sumTo}
 use Rattle.spec.specs.Book.{Book}
 use Rattle.spec.specs.Read.{readBook}
 use Rattle.spec.specs.Instance.{Instance, instanceOf}
-use Rattle.spec.specs.Formula.{formula, wordsOf, variables, ownVariables}
+use Rattle.spec.specs.Formula.{firstVar, formula, wordsOf, variables, ownVariables}
 use Rattle.spec.specs.Extra.{extraVariables}
 use Rattle.spec.specs.Held.{held}
-use Rattle.spec.specs.Entry.{Written, demand, readInstance, formulaWritten, writeFormula, formulaOutput, overwrite, written}
+use Rattle.spec.specs.Entry.{Written, demand, readInstance, formulaWritten, writeFormula, formulaOutput, overwrite, written, writtenFor, wordsAfter}
 use Rattle.demands.proofs.Words.{formula-in-range, range-proper, proper}
 use Rattle.demands.proofs.Wellformed.{sound}
 use Rattle.clauses.specs.declared.Walk.{Walk}
@@ -25,26 +26,21 @@ use Rattle.clauses.specs.Walked.{start, totals, Walks, most}
 use Rattle.clauses.proofs.Laws.{walks-length}
 use Rattle.clauses.proofs.Totals.{totals-walked, stored-front}
 use Rattle.tables.specs.Tables.{Passed}
-use Rattle.formula.specs.Ready.{firstVar}
 use Rattle.formula.proofs.Small.{passed-few}
 use Rattle.formula.proofs.Size.{formula-small}
 use Rattle.writing.specs.declared.FormulaAnswer.{FormulaAnswer}
 use Rattle.writing.specs.declared.FormulaAnswer.the-variants.{Totals, Refused}
-use Rattle.writing.specs.FormulaAnswers.{formulaAnswer, writtenFor, outputFor}
+use Rattle.writing.specs.FormulaAnswers.{formulaAnswer}
 
 -- the variables are those before the train behind the last
 pub all-variables : (I : Instance) → firstVar I (I .trains) ≡ variables I
-unfolding firstVar variables ownVariables extraVariables
+unfolding variables ownVariables extraVariables
 all-variables I = omega arith
 
 -- an output without room leaves nothing behind
 pub nothing-ahead : {values : Bytes} {ls out out′ : List ℤ} {w w′ : Walk} → Walks values ls w out w′ out′ → length out ≡ 0
     → (xs : List ℤ) → out′ ++ xs ≡ xs
-nothing-ahead {out′ = out′} h e xs = ap (λ (o : List ℤ). o ++ xs) (nil out′ (walks-length h ∙ e))
-  where
-    nil : (ys : List ℤ) → length ys ≡ 0 → ys ≡ []
-    nil [] k = refl
-    nil (y ∷ ys) k = let no′ : ⊥ = omega arith in absurd no′
+nothing-ahead {out′ = out′} h e xs = ap (λ (o : List ℤ). o ++ xs) (nil-of-length out′ (walks-length h ∙ e))
 
 -- the same output, by another name
 pub walks-from : {values : Bytes} {ls out out₂ out′ : List ℤ} {w w′ : Walk} → out ≡ out₂ → Walks values ls w out w′ out′
@@ -60,9 +56,9 @@ module _ (s : Bytes) (b : Book) (e : readBook s ≡ accepted b) where
   write-read room =
       ap (λ (v : Verdict Book). andThen (andThen v λ b. accepted (instanceOf b)) λ I. writtenFor I room) e
 
-  pub output-read : (old : List ℤ) → formulaOutput s old ≡ outputFor (instanceOf b) old
-  unfolding formulaOutput outputFor
-  output-read old = ap (λ (v : Verdict Written). overwrite old (written (andThen v λ w. accepted (w .words)))) (write-read (length old))
+  pub output-read : (old : List ℤ) → formulaOutput s old ≡ wordsAfter old (writtenFor (instanceOf b) (length old))
+  unfolding formulaOutput
+  output-read old = ap (wordsAfter old) (write-read (length old))
 
 -- or stops with the book's refusal
 module _ (s : Bytes) (n d : ℕ) (e : readBook s ≡ refused n d) where
@@ -74,7 +70,7 @@ module _ (s : Bytes) (n d : ℕ) (e : readBook s ≡ refused n d) where
   write-refused room = ap formulaAnswer (sym (stops room))
 
   pub output-refused : (old : List ℤ) → old ≡ formulaOutput s old
-  unfolding formulaOutput andThen overwrite written
+  unfolding formulaOutput wordsAfter andThen overwrite written
   output-refused old = ap (λ (v : Verdict Written). overwrite old (written (andThen v λ w. accepted (w .words)))) (sym (stops (length old)))
 
 module _ (b : BookStruct) (p : Passed b) where
@@ -108,8 +104,8 @@ module _ (b : BookStruct) (p : Passed b) where
   answer-short room h =
       ap (λ (t : Bool). formulaAnswer (andThen (demand t 12) λ _. accepted (formulaWritten I))) (sym (lt-leb (length words) room h))
 
-  pub output-short : (old : List ℤ) → length old < length words → old ≡ outputFor I old
-  unfolding outputFor writtenFor demand andThen written overwrite
+  pub output-short : (old : List ℤ) → length old < length words → old ≡ wordsAfter old (writtenFor I (length old))
+  unfolding wordsAfter writtenFor demand andThen written overwrite
   output-short old h =
       ap (λ (t : Bool). overwrite old (written (andThen (andThen (demand t 12) λ _. accepted (formulaWritten I)) λ w. accepted (w .words))))
       (sym (lt-leb (length words) (length old) h))
@@ -127,8 +123,8 @@ module _ (b : BookStruct) (p : Passed b) where
       three a b c = simp (a, b, c)
 
   pub output-fits : {values : Bytes} {old new : List ℤ} {w : Walk} → length words ≤ length old → Walks values words start old w new
-      → new ≡ outputFor I old
-  unfolding outputFor writtenFor demand andThen written formulaWritten start
+      → new ≡ wordsAfter old (writtenFor I (length old))
+  unfolding wordsAfter writtenFor demand andThen written formulaWritten start
   output-fits {old = old} h k =
       k .output
       ∙ stored-front words old is-small h

@@ -12,10 +12,10 @@ ghost use mathlib.Core.Path.{_≡_};
 ghost use lib.ListN.{length};
 ghost use Rattle.spec.specs.Instance.{instanceOf};
 ghost use Rattle.spec.specs.Held.{held};
-ghost use Rattle.spec.specs.Entry.{writeFormula, formulaOutput};
+ghost use Rattle.spec.specs.Entry.{writtenFor, wordsAfter, writeFormula, formulaOutput};
 ghost use Rattle.tables.specs.Tables.{Passed};
 ghost use Rattle.formula.specs.Ready.{MeetsReady, Ready};
-ghost use Rattle.writing.specs.FormulaAnswers.{formulaAnswer, writtenFor, outputFor};
+ghost use Rattle.writing.specs.FormulaAnswers.{formulaAnswer};
 
 // The totals of a formula that was written, or a refusal's number and detail.
 pub enum FormulaAnswer {
@@ -41,7 +41,7 @@ pub fn write_by(
 ) -> FormulaAnswer
     requires { ⌜ Ready b runs (now rows) (now sizes) (now starts) (now ends) × MeetsReady b (now meets) end ⌝ }
     ensures { λ r. ⌜ (r ≡ formulaAnswer (writtenFor (instanceOf (held b)) (length (now (out .entry)))))
-        × (now (out .exit) ≡ outputFor (instanceOf (held b)) (now (out .entry))) ⌝ }
+        × (now (out .exit) ≡ wordsAfter (now (out .entry)) (writtenFor (instanceOf (held b)) (length (now (out .entry))))) ⌝ }
 {
     let none = &rows[0..0];
     let measured = walk_formula(
@@ -71,7 +71,7 @@ pub fn write_by(
 pub fn write_words(b: Book, out: &mut [i32]) -> FormulaAnswer
     requires { ⌜ Passed b ⌝ }
     ensures { λ r. ⌜ (r ≡ formulaAnswer (writtenFor (instanceOf (held b)) (length (now (out .entry)))))
-        × (now (out .exit) ≡ outputFor (instanceOf (held b)) (now (out .entry))) ⌝ }
+        × (now (out .exit) ≡ wordsAfter (now (out .entry)) (writtenFor (instanceOf (held b)) (length (now (out .entry))))) ⌝ }
 {
     let mut rows = [0u8; 32768];
     let mut sizes = [0u8; 2048];

@@ -1,10 +1,11 @@
 -- `clauses::first_wrong` meets its contract, case by case. Assumes nothing.
 use borrow.Author.Tests.{eq-eqb, ne-eqb}
-use mathlib.Core.Path.{_≡_, refl, sym, ap, _∙_}
+use mathlib.Core.Path.{_≡_, ap, _∙_}
 use mathlib.Core.Logic.{_≢_}
 use mathlib.Core.Bool.{Bool, true, false, not, _&&_, cond}
 use Prim.Native.Nat.{ℕ}
 use lib.Dec.{eqb}
+use Rattle.laws.proofs.Tests.{and-false}
 use Rattle.clauses.proofs.first_wrong.Statement.{statement}
 use Rattle.clauses.proofs.first_wrong.Tie as tie
 
@@ -16,12 +17,8 @@ module _ (wrong number : ℕ) (holds : Bool) where
   -- this clause holds
   passes : holds ≡ true → wrong ≡ cond (eqb wrong 0 && not holds) number wrong
   passes h =
-      let e : (eqb wrong 0 && not holds) ≡ false = ap (λ (t : Bool). eqb wrong 0 && not t) h ∙ never (eqb wrong 0) in
+      let e : (eqb wrong 0 && not holds) ≡ false = ap (λ (t : Bool). eqb wrong 0 && not t) h ∙ and-false (eqb wrong 0) in
       simp e
-    where
-      never : (t : Bool) → (t && false) ≡ false
-      never true = refl
-      never false = refl
 
   -- it is the first that does not
   found : wrong ≡ 0 → holds ≡ false → number ≡ cond (eqb wrong 0 && not holds) number wrong

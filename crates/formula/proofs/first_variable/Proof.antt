@@ -8,7 +8,8 @@ use lib.ListN.{getD}
 use Rattle.model.specs.declared.Book.{Book as BookStruct}
 use Rattle.spec.specs.Instance.{instanceOf}
 use Rattle.spec.specs.Held.{held}
-use Rattle.formula.specs.Ready.{firstVar, Counted}
+use Rattle.spec.specs.Formula.{firstVar}
+use Rattle.formula.specs.Ready.{Counted}
 use Rattle.formula.proofs.Small.{first-none, nodes-is, few-trains, few-runs, few-segments, product-small, first-below, first-then}
 use Rattle.formula.proofs.first_variable.Statement.{statement}
 use Rattle.formula.proofs.first_variable.Tie as tie

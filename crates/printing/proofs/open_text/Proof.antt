@@ -1,18 +1,20 @@
 -- `printing::open_text` meets its contract: the line and the words that it answers are the text of the book's formula, or the line of
 -- its refusal. Assumes nothing.
 use borrow.Author.Needs.{needs}
-use mathlib.Core.Path.{ap, ap₂, _∙_}
+use mathlib.Core.Path.{sym, ap, ap₂, _∙_}
 use Prim.Native.Nat.{ℕ}
 use native.Mathlib.Omega.{arith}
 use mathlib.Core.List.{List, [], _++_}
 use denote.Ref.{now}
 use lib.ListN.{length, take}
+use lib.Seq.{sets}
 use lib.IntN.{ℤ}
 use Rattle.spec.specs.Lists.{Bytes}
 use Rattle.spec.specs.Entry.{writeFormula}
 use Rattle.spec.specs.Programs.{refusalLine}
 use Rattle.dimacs.specs.Text.{wordsText, headerText}
-use Rattle.printing.proofs.Texts.{answer-refused, answer-totals, line-front, line-behind, refusal-text, formula-text, count-fits}
+use Rattle.printing.specs.Opening.{firstLine, wordsBehind}
+use Rattle.printing.proofs.Texts.{answer-refused, answer-totals, line-front, refusal-text, formula-text, count-fits}
 use Rattle.printing.proofs.open_text.Statement.{statement}
 use Rattle.printing.proofs.open_text.Tie as tie
 
@@ -47,10 +49,12 @@ returns c =
     let g = c .before .before .before .before .before .r .given .0 in
     let text = refusalLine (g .0) (g .1 .0) in (
       ap (λ (l : Bytes). l ++ wordsText []) (line-front line text (s .pre) (e .0) (e .1) (e .2)) ∙ refusal-text (now (s .args .book)) _ v,
-      line-behind line text (s .pre) (e .0) (e .1) (e .2),
+      e .2 ∙ ap (sets line 0) (sym (ap firstLine v)),
       omega (arith, e .1),
       w .1,
       omega arith,
+      e .0 ∙ ap length (sym (ap firstLine v)),
+      sym (ap wordsBehind v),
     )
 
 same-length-3 : tie.Need-same-length-3
@@ -69,15 +73,18 @@ returns-2 c =
     let a = answer-totals (writeFormula book (length old)) (w .0) (c .before .before .before .before .before .r2 .given .1) in
     let line = now (s .args .line) in
     let g = c .before .before .before .before .before .r2 .given .0 in
-    let text = headerText (g .0) (g .1 .0) in (
+    let text = headerText (g .0) (g .1 .0) in
+    let same = ap₂ headerText (a .2) (a .3) ∙ sym (ap firstLine (a .1)) in (
       ap₂ (λ (l : Bytes) (ls : List ℤ). l ++ wordsText ls)
           (line-front line text (s .pre) (e .0) (e .1) (e .2) ∙ ap₂ headerText (a .2) (a .3))
           (ap₂ (λ (n : ℕ) (ls : List ℤ). take n ls) (a .4) (w .1))
           ∙ formula-text book old (a .0) (a .1),
-      line-behind line text (s .pre) (e .0) (e .1) (e .2),
+      e .2 ∙ ap (sets line 0) same,
       omega (arith, e .1),
       w .1,
       omega (arith, a .4, count-fits book old (a .0) (a .1)),
+      e .0 ∙ ap length same,
+      a .4 ∙ sym (ap wordsBehind (a .1)),
     )
 
 pub open-text-spec : {M : Type 1} → statement M

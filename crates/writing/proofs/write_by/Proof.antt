@@ -7,9 +7,8 @@ use Prim.Native.Nat.{ℕ, _≤_, _<_}
 use denote.Ref.{now}
 use lib.ListN.{length}
 use Rattle.spec.specs.Instance.{instanceOf}
-use Rattle.spec.specs.Formula.{formula, wordsOf}
+use Rattle.spec.specs.Formula.{firstVar, formula, wordsOf}
 use Rattle.spec.specs.Held.{held}
-use Rattle.formula.specs.Ready.{firstVar}
 use Rattle.formula.proofs.Small.{trains-is}
 use Rattle.writing.proofs.Answers.{nothing-ahead, walks-from, walk-words, walk-clauses, answer-short, output-short, answer-fits, output-fits}
 use Rattle.writing.proofs.write_by.Statement.{statement}

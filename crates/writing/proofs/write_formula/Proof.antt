@@ -14,11 +14,11 @@ use Rattle.spec.specs.Book.{Book}
 use Rattle.spec.specs.Read.{readBook}
 use Rattle.spec.specs.Instance.{instanceOf}
 use Rattle.spec.specs.Held.{held, packed}
-use Rattle.spec.specs.Entry.{writeFormula, formulaOutput}
+use Rattle.spec.specs.Entry.{writtenFor, wordsAfter, writeFormula, formulaOutput}
 use Rattle.content.proofs.Packing.{held-packed}
 use Rattle.reading.specs.declared.Answer.the-variants as read
 use Rattle.tables.specs.Tables.{Passed}
-use Rattle.writing.specs.FormulaAnswers.{formulaAnswer, writtenFor, outputFor}
+use Rattle.writing.specs.FormulaAnswers.{formulaAnswer}
 use Rattle.reading.proofs.Accepted.{accepted-by, refused-by}
 use Rattle.reading.proofs.Way.{bytes-of}
 use Rattle.tables.proofs.Passing.{passed-read}
@@ -57,8 +57,8 @@ module _ (c : tie.After-read-book) (told : c .read-book .result .answer ≡ read
   answers : (room : ℕ) → writtenFor (instanceOf (held struct)) room ≡ writeFormula bytes room
   answers room = ap (λ (b : Book). writtenFor (instanceOf b) room) same-book ∙ sym (write-read bytes (found .0) (found .1) room)
 
-  outputs : (old : List ℤ) → outputFor (instanceOf (held struct)) old ≡ formulaOutput bytes old
-  outputs old = ap (λ (b : Book). outputFor (instanceOf b) old) same-book ∙ sym (output-read bytes (found .0) (found .1) old)
+  outputs : (old : List ℤ) → wordsAfter old (writtenFor (instanceOf (held struct)) (length old)) ≡ formulaOutput bytes old
+  outputs old = ap (λ (b : Book). wordsAfter old (writtenFor (instanceOf b) (length old))) same-book ∙ sym (output-read bytes (found .0) (found .1) old)
 
 write-words-requires : tie.Need-write-words-requires
 write-words-requires c κs = passed (c .before .before .before .before) (c .before .enum-told .given .1)
