@@ -1,5 +1,5 @@
 #!/usr/bin/env python3
-"""Make the cases of crates/run_cases: books good and bad, with the runs and their places or the refusal that the reference gives.
+"""Make the cases of crates/run_cases: books good and bad, with the runs and which follow each or the refusal that the reference gives.
 
     run_cases.py SEED [BYTES [TEXT]]
 
@@ -15,14 +15,19 @@ import samples
 MOST_TEXT = 300000
 
 
+def first_at(places, place, start):
+    """The first number from `start` on at which the place stands, or how many places there are."""
+    return next((at for at in range(start, len(places)) if places[at] == place), len(places))
+
+
 def train_lines(number, train, runs):
-    """How many runs a train has, and each with the numbers of its places: the first run that starts there."""
+    """How many runs a train has, and each with the first run that follows it and the next that starts where it does."""
     starts = [reference.start_place(train, run) for run in runs]
     lines = ["train %d: %d runs" % (number, len(runs))]
-    for run in runs:
+    for at, run in enumerate(runs):
         path = " ".join(map(str, run))
-        places = (starts.index(reference.start_place(train, run)), starts.index(reference.end_place(train, run)))
-        lines.append("%s | %d %d" % ((path,) + places))
+        first = first_at(starts, reference.end_place(train, run), 0)
+        lines.append("%s | %d %d" % (path, first, first_at(starts, starts[at], at + 1)))
     return lines
 
 

@@ -2,11 +2,11 @@
 -- once. Assumes nothing.
 use mathlib.Core.Path.{_≡_, refl, sym, ap, _∙_}
 use mathlib.Core.Bool.{Bool, true, false, not, _||_, _&&_, cond}
-use Prim.Native.Nat.{ℕ, zero, suc, _+_, _*_, _-_}
+use Prim.Native.Nat.{ℕ, zero, suc, _+_, _*_, _-_, _≤_, _<_, min}
 use native.Mathlib.Omega.{arith}
 use mathlib.Core.List.{List, [], _∷_, map}
-use lib.ListN.{length}
-use lib.IntN.{ℤ}
+use lib.ListN.{length, set}
+use lib.IntN.{ℤ, pos}
 use lib.Dec.{eqb}
 use Rattle.laws.proofs.Tests.{and-false, nil-of-length}
 use Rattle.spec.specs.Lists.{Bytes, count, range, each, one}
@@ -14,8 +14,9 @@ use Rattle.spec.specs.Formula.{not′, wordsOf}
 use Rattle.spec.specs.Assignment.{assigned}
 use Rattle.demands.proofs.Meaning.{denied′}
 use Rattle.clauses.specs.declared.Walk.{Walk}
-use Rattle.clauses.specs.Walked.{more, literal, closed, word, walked, stored, skipped, Walks}
+use Rattle.clauses.specs.Walked.{more, literal, closed, word, walked, stored, skipped, most, Walks}
 use Rattle.clauses.proofs.Laws.{length-stored, walked-append}
+use Rattle.clauses.proofs.Turns.{range-next, range-end}
 
 -- an output without room stays as it is
 empty-stored : (at : ℕ) (ls out : List ℤ) → length out ≡ 0 → out ≡ stored at ls out
@@ -85,13 +86,48 @@ module _ (values : Bytes) (u : ℕ) (no : assigned values u ≡ false) where
       clause : ℕ → List ℤ
       clause j = not′ u ∷ one (not′ (from + j))
 
-  -- a row of them, into an output without room
-  pub skipped-pairs : (from m n : ℕ) (w w′ : Walk) (out : List ℤ) → length out ≡ 0 → w′ ≡ skipped (n - m - 1) w
-      → Walks values (wordsOf (map (λ k. not′ u ∷ one (not′ (from + k))) (range (m + 1) n))) w out w′ out
+  -- a row of them, whatever the output
+  pub counted-pairs : (from m n : ℕ) (w w′ : Walk) (out out′ : List ℤ) → w′ ≡ skipped (n - m - 1) w
+      → out′ ≡ stored (w .words) (wordsOf (map (λ k. not′ u ∷ one (not′ (from + k))) (range (m + 1) n))) out
+      → Walks values (wordsOf (map (λ k. not′ u ∷ one (not′ (from + k))) (range (m + 1) n))) w out w′ out′
   unfolding range
-  skipped-pairs from m n w w′ out e h =
+  counted-pairs from m n w w′ out out′ h o =
       let k : n - m - 1 ≡ n - (m + 1) = omega arith in
       record {
         walk = h ∙ ap (λ (j : ℕ). skipped j w) k ∙ sym (all-pairs from (m + 1) (n - (m + 1)) w);
-        output = empty-stored _ _ out e;
+        output = o;
       }
+
+  -- into an output without room
+  pub skipped-pairs : (from m n : ℕ) (w w′ : Walk) (out : List ℤ) → length out ≡ 0 → w′ ≡ skipped (n - m - 1) w
+      → Walks values (wordsOf (map (λ k. not′ u ∷ one (not′ (from + k))) (range (m + 1) n))) w out w′ out
+  skipped-pairs from m n w w′ out e h = counted-pairs from m n w w′ out out h (empty-stored _ _ out e)
+
+-- ---- storing a row of them
+
+-- three words
+stored-three : (at : ℕ) (a b c : ℤ) (rest out : List ℤ) → at + 3 ≤ most
+    → stored at (a ∷ b ∷ c ∷ rest) out ≡ stored (at + 3) rest (set (set (set out at a) (at + 1) b) (at + 2) c)
+unfolding stored more
+stored-three at a b c rest out h =
+    let e₁ : min most (at + 1) ≡ at + 1 = omega arith in
+    let e₂ : min most (at + 1 + 1) ≡ at + 2 = omega arith in
+    let e₃ : min most (at + 2 + 1) ≡ at + 3 = omega arith in
+    simp (e₁, e₂, e₃)
+
+-- the next clause of a row
+pub stored-pair : (u from k n at : ℕ) (out : List ℤ) → k < n → at + 3 ≤ most
+    → stored at (wordsOf (map (λ j. not′ u ∷ one (not′ (from + j))) (range k n))) out
+    ≡ stored (at + 3) (wordsOf (map (λ j. not′ u ∷ one (not′ (from + j))) (range (k + 1) n)))
+    (set (set (set out at (not′ u)) (at + 1) (not′ (from + k))) (at + 2) (pos 0))
+unfolding wordsOf each
+stored-pair u from k n at out l h =
+    ap (λ (ks : List ℕ). stored at (wordsOf (map (λ j. not′ u ∷ one (not′ (from + j))) ks)) out) (range-next k n l)
+    ∙ stored-three at (not′ u) (not′ (from + k)) (pos 0) _ out h
+
+-- after the last
+pub stored-all : (u from k n at : ℕ) (out : List ℤ) → n ≤ k
+    → stored at (wordsOf (map (λ j. not′ u ∷ one (not′ (from + j))) (range k n))) out ≡ out
+unfolding wordsOf each stored
+stored-all u from k n at out l =
+    ap (λ (ks : List ℕ). stored at (wordsOf (map (λ j. not′ u ∷ one (not′ (from + j))) ks)) out) (range-end k n l)

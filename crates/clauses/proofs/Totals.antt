@@ -15,14 +15,14 @@ use lib.IntN.{ℤ, pos, negsuc}
 use lib.Dec.{T, leb, eqb}
 use Rattle.laws.proofs.Tests.{and-iff}
 use Rattle.laws.proofs.Rows.{all-cons}
-use Rattle.spec.specs.Lists.{Bytes, all, any, each, one}
+use Rattle.spec.specs.Lists.{Bytes, all, any, each, one, orZero}
 use Rattle.spec.specs.Formula.{Clause, wordsOf}
 use Rattle.spec.specs.Assignment.{isTrue, holds, assigned, firstFalse}
 use Rattle.spec.specs.Refutation.{variableOf}
 use Rattle.spec.specs.Entry.{overwrite}
 use Rattle.demands.proofs.Words.{proper}
 use Rattle.clauses.specs.declared.Walk.{Walk}
-use Rattle.clauses.specs.Walked.{most, more, start, literal, closed, word, walked, stored, orZero, totals}
+use Rattle.clauses.specs.Walked.{most, more, start, literal, closed, word, walked, stored, totals}
 use Rattle.clauses.proofs.Laws.{walked-append}
 
 -- a walk, by its four parts

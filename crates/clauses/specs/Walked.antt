@@ -4,11 +4,10 @@ use mathlib.Core.Path.{_≡_}
 use mathlib.Core.Bool.{Bool, true, false, not, _&&_, _||_, cond}
 use Prim.Native.Nat.{ℕ, zero, suc, _+_, _*_, min}
 use mathlib.Core.List.{List, [], _∷_}
-use mathlib.Core.Option.{Option, none, some}
 use lib.ListN.{length, set}
 use lib.IntN.{ℤ, pos, negsuc}
 use lib.Dec.{eqb}
-use Rattle.spec.specs.Lists.{Bytes}
+use Rattle.spec.specs.Lists.{Bytes, orZero}
 use Rattle.spec.specs.Formula.{Clause, wordsOf}
 use Rattle.spec.specs.Assignment.{isTrue, assigned, firstFalse}
 use Rattle.clauses.specs.declared.Walk.{Walk}
@@ -64,11 +63,6 @@ pub record Walks (values : Bytes) (ls : List ℤ) (w : Walk) (out : List ℤ) (w
   pub output : out′ ≡ stored (w .words) ls out
 
 -- ---- a walk over whole clauses
-
--- the number that was found, or 0
-unfoldable pub orZero : Option ℕ → ℕ
-orZero none = 0
-orZero (some n) = n
 
 -- the totals of clauses, and the first of them that does not hold
 unfoldable pub totals : Bytes → List Clause → Walk

@@ -6,7 +6,7 @@
 ghost use mathlib.Core.Path.{_≡_};
 ghost use mathlib.Core.Bool.{not, _&&_, cond};
 ghost use mathlib.Core.List.{[], _∷_, _++_, map};
-ghost use Prim.Native.Nat.{_+_, _-_, _<_, _≤_};
+ghost use Prim.Native.Nat.{_+_, _*_, _-_, _<_, _≤_};
 ghost use lib.ListN.{length, set};
 ghost use lib.IntN.{pos};
 ghost use lib.Dec.{eqb};
@@ -271,14 +271,41 @@ pub fn each_pair(w: Walk, from: usize, m: usize, n: usize, values: &[u8], out: &
     next
 }
 
-// The same clauses; where nothing is stored and the variable at m is not 1 they all hold, and are
-// passed at once.
+// Stores the words of the same clauses from `at` on, in an output that has room for them.
+pub fn store_pairs(out: &mut [i32], at: usize, from: usize, m: usize, n: usize)
+    requires { ⌜ (from + n < 1000000000) × (m < n) × (at + 3 * (n - m - 1) ≤ length (now out)) × (at + 3 * (n - m - 1) ≤ most) ⌝ }
+    ensures { λ _. ⌜ now (out .exit) ≡ walked.stored at (wordsOf (map (λ k. not′ (from + m) ∷ one (not′ (from + k))) (range (m + 1) n))) (now (out .entry)) ⌝ }
+{
+    let first = negative(from + m);
+    let mut i = at;
+    let mut k = m + 1;
+    while k < n {
+        let second = negative(from + k);
+        out[i] = first;
+        out[i + 1] = second;
+        out[i + 2] = 0;
+        i += 3;
+        k += 1;
+    }
+}
+
+// The same clauses; where the variable at m is not 1 they all hold, and are counted at once, and
+// stored, if at all, without a test of each.
 pub fn pairs_of(w: Walk, from: usize, m: usize, n: usize, values: &[u8], out: &mut [i32]) -> Walk
     requires { ⌜ (from + n < 1000000000) × (m < n) × (n ≤ 1000000) ⌝ }
     ensures { λ r. ⌜ Walks (now (values .entry)) (wordsOf (map (λ k. not′ (from + m) ∷ one (not′ (from + k))) (range (m + 1) n))) w (now (out .entry)) r (now (out .exit)) ⌝ }
 {
-    if out.len() == 0 && !value(values, from + m) {
-        return skip_pairs(w, n - m - 1);
+    if value(values, from + m) {
+        return each_pair(w, from, m, n, values, out);
+    }
+    let k = n - m - 1;
+    if out.len() == 0 {
+        return skip_pairs(w, k);
+    }
+    let at = w.words;
+    if at <= MOST - 3 * k && at + 3 * k <= out.len() {
+        store_pairs(out, at, from, m, n);
+        return skip_pairs(w, k);
     }
     each_pair(w, from, m, n, values, out)
 }

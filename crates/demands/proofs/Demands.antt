@@ -17,7 +17,7 @@ use Rattle.spec.specs.Plan.{Plan, IsPlan, planFits, planOf, planLength, brokenR
 use Rattle.spec.specs.Formula.{formula, variables, wordsOf}
 use Rattle.spec.specs.Assignment.{satisfies, assigned, assignmentFits, decode, encode}
 use Rattle.spec.specs.Refutation.{ProofStep, Lent, fileOf, InFields, GoodSteps, clausesFit}
-use Rattle.spec.specs.Entry.{overwrite, written, formulaWritten, writeFormula, formulaOutput, checkAssignment, checkPlan, checkRefutation, formulaFits, wordsAfter}
+use Rattle.spec.specs.Entry.{overwrite, written, formulaWritten, writeFormula, formulaOutput, decodedFor, checkAssignment, checkPlan, checkRefutation, formulaFits, wordsAfter}
 use Rattle.demands.proofs.Encoding.{shape}
 use Rattle.demands.proofs.Extra.{no-condition}
 use Rattle.demands.proofs.Plans.{plan-satisfies, plan-fits, decoded-fits, decoded-coded, decoded-keeps, decode-encoded}
@@ -92,7 +92,7 @@ keeping-plan-accepted book plan b n m read room roomBack isBytes fits keeps =
 pub accepted-assignment-is-plan : (book assignment plan : Bytes) (planSlice : ℕ) → checkAssignment book assignment planSlice ≡ accepted plan
     → (b : Book) × (readBook book ≡ accepted b) × T (planFits (instanceOf b) plan)
     × Codes (instanceOf b) (assigned assignment) (planOf (instanceOf b) plan) × T (keepsRules (instanceOf b) (planOf (instanceOf b) plan))
-unfolding checkAssignment
+unfolding checkAssignment decodedFor
 accepted-assignment-is-plan book s plan n e =
     let r = read-of book _ plan e in
     let b = r .0 in
@@ -132,7 +132,7 @@ accepted-refutation-no-plan book r lent e =
 -- "so no book ever has both accepted, whichever solvers they come from", whatever slices each was lent
 pub never-both : (book assignment plan refutation : Bytes) (planSlice : ℕ) (lent : Lent)
     → checkAssignment book assignment planSlice ≡ accepted plan → checkRefutation book refutation lent ≡ accepted tt → ⊥
-unfolding checkAssignment
+unfolding checkAssignment decodedFor
 never-both book s plan r n lent e f =
     let k = read-of book _ plan e in
     let I = instanceOf (k .0) in

@@ -191,7 +191,7 @@ module _ (I : Instance) (p : Plan) where
       length-each (cell i) (λ _. 2) (λ t. length-littleEndian 2 (moveCode (p .move i t))) (I .intervals) ∙ sum-constant 2 (I .intervals)
 
   -- a plan has as many bytes as document 01 says
-  length-plan : length (planBytes I p) ≡ planLength I
+  pub length-plan : length (planBytes I p) ≡ planLength I
   unfolding planBytes planLength cell
   length-plan =
       length-append (map (λ n. bit (p .border n)) (upTo (I .nodes))) _

@@ -17,7 +17,7 @@ use Rattle.spec.specs.Plan.{Plan, planFits, planOf, planLength, rule1, rule2, r
 use Rattle.spec.specs.Formula.{Clause, formula, variables, wordsOf}
 use Rattle.spec.specs.Assignment.{satisfies, holds, firstFalse, assigned, assignmentFits, decode, encode}
 use Rattle.spec.specs.Refutation.{Lent, checkFile}
-use Rattle.spec.specs.Entry.{demand, findNone, readInstance, formulaWritten, writeFormula, judgeAssignment, judgePlan, checkAssignment, checkPlan, checkRefutation, formulaFits, writtenFor}
+use Rattle.spec.specs.Entry.{demand, findNone, readInstance, formulaWritten, writeFormula, judgeAssignment, judgePlan, decodedFor, checkAssignment, encodedFor, checkPlan, checkRefutation, formulaFits, writtenFor}
 use Rattle.demands.proofs.Faults.{passes, first-none, clear-first}
 
 -- ---- the parts of a check
@@ -123,7 +123,7 @@ module _ (book : Bytes) (b : Book) (read : readBook book ≡ accepted b) where
 
   pub check-assignment : (s : Bytes) (n : ℕ) (plan : Bytes) → (checkAssignment book s n ≡ accepted plan)
       ↔ ((planLength (instanceOf b) ≤ n) × (judgeAssignment (instanceOf b) s ≡ accepted tt) × (decode (instanceOf b) s ≡ plan))
-  unfolding checkAssignment
+  unfolding checkAssignment decodedFor
   check-assignment s n plan =
       let e : checkAssignment book s n ≡ _ = then-goes _ read-instance in
       let k = row-iff (leb (planLength (instanceOf b)) n) (judgeAssignment (instanceOf b) s) (decode (instanceOf b) s) plan in (
@@ -133,7 +133,7 @@ module _ (book : Bytes) (b : Book) (read : readBook book ≡ accepted b) where
 
   pub check-plan : (s : Bytes) (n : ℕ) (assignment : Bytes) → (checkPlan book s n ≡ accepted assignment)
       ↔ ((variables (instanceOf b) ≤ n) × (judgePlan (instanceOf b) s ≡ accepted tt) × (encode (instanceOf b) (planOf (instanceOf b) s) ≡ assignment))
-  unfolding checkPlan
+  unfolding checkPlan encodedFor
   check-plan s n assignment =
       let e : checkPlan book s n ≡ _ = then-goes _ read-instance in
       let k = row-iff (leb (variables (instanceOf b)) n) (judgePlan (instanceOf b) s) (encode (instanceOf b) (planOf (instanceOf b) s)) assignment in (

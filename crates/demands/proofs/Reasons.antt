@@ -22,7 +22,7 @@ use Rattle.spec.specs.Plan.{planFits, planOf, planLength, ruleFaults, brokenRul
 use Rattle.spec.specs.Formula.{Clause, formula, variables, wordsOf}
 use Rattle.spec.specs.Assignment.{holds, firstFalse, assigned, assignmentFits}
 use Rattle.spec.specs.Refutation.{Lent, clauseAt, stepFaults, stepDetail, checkSteps, checkFile}
-use Rattle.spec.specs.Entry.{demand, findNone, overwrite, written, readInstance, writeFormula, formulaText, judgeAssignment, judgePlan, checkAssignment, checkPlan, checkRefutation, formulaFits, writtenFor}
+use Rattle.spec.specs.Entry.{demand, findNone, overwrite, written, readInstance, writeFormula, formulaText, judgeAssignment, judgePlan, decodedFor, checkAssignment, encodedFor, checkPlan, checkRefutation, formulaFits, writtenFor}
 use Rattle.demands.proofs.Faults.{passes, FirstHolds, first-none, first-some}
 use Rattle.demands.proofs.Reading.{refusal-has-reason}
 use Rattle.demands.proofs.Refuting.{stepAt, added}
@@ -156,7 +156,7 @@ first-false α n d (c ∷ cs) e = decide (holds α c)
     lower h i f (suc j) l = f j (omega arith)
 
 -- and by its number from 1
-least-false : (α : ℕ → Bool) (cs : List Clause) (d : ℕ) → firstFalse α 1 cs ≡ some d → LeastFalse α cs d
+pub least-false : (α : ℕ → Bool) (cs : List Clause) (d : ℕ) → firstFalse α 1 cs ≡ some d → LeastFalse α cs d
 unfolding clauseAt
 least-false α cs d e =
     let r = first-false α 1 d cs e in
@@ -178,7 +178,7 @@ assignment-fault {d = d} I s e =
 -- Refused only by the book, by 12 where the plan is longer than the slice, or for what is wrong with the assignment.
 pub assignment-refusal : (book assignment : Bytes) (n k d : ℕ) → checkAssignment book assignment n ≡ refused k d
     → Refusal book (λ I. n < planLength I) (λ I. AssignmentFault I assignment) k d
-unfolding checkAssignment
+unfolding checkAssignment decodedFor
 assignment-refusal book s n k d e =
     in-order book _ _ (λ I. leb (planLength I) n) _ (λ I. short-iff (planLength I) n)
     (λ I r. assignment-fault I s (judged-refused (judgeAssignment I s) _ r)) e
@@ -200,7 +200,7 @@ plan-fault {d = d} I s e =
 -- Refused only by the book, by 12 where the assignment is longer than the slice, or for what is wrong with the plan.
 pub plan-refusal : (book plan : Bytes) (n k d : ℕ) → checkPlan book plan n ≡ refused k d
     → Refusal book (λ I. n < variables I) (λ I. PlanFault I plan) k d
-unfolding checkPlan
+unfolding checkPlan encodedFor
 plan-refusal book s n k d e =
     in-order book _ _ (λ I. leb (variables I) n) _ (λ I. short-iff (variables I) n)
     (λ I r. plan-fault I s (judged-refused (judgePlan I s) _ r)) e

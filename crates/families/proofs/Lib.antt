@@ -1,3 +1,3 @@
 pub mod Rest
-pub mod Answers
 pub mod Meeting
+pub mod Chain

@@ -3,6 +3,7 @@
 // interval, n the number of its runs; gone is at base + n, the claims from base + n + 1 on. Assumes
 // nothing.
 use clauses::Walk;
+use clauses::affirm;
 use clauses::affirm_if;
 use clauses::close;
 use clauses::deny;
@@ -23,15 +24,14 @@ use places::is_given;
 use places::may_leave;
 use places::serves;
 use places::start_of;
-use tables::follows;
 use track::denies_border;
 use track::forces_border;
 use track::wide;
 ghost use mathlib.Core.Path.{_≡_};
+ghost use mathlib.Core.Bool.{Bool};
 ghost use mathlib.Core.List.{_∷_, _++_, map};
 ghost use Prim.Native.Nat.{ℕ, _+_, _*_, _≤_, _<_};
 ghost use lib.ListN.{length, getD, take};
-ghost use lib.Dec.{eqb};
 ghost use Rattle.spec.specs.Lists.{upTo, each, only, one};
 ghost use Rattle.spec.specs.Book.{segmentOf};
 ghost use Rattle.spec.specs.Runs.{startPlace, endPlace};
@@ -41,9 +41,10 @@ ghost use Rattle.spec.specs.Held.{held};
 ghost use Rattle.clauses.specs.Walked.{Walks};
 ghost use Rattle.places.specs.Placed.{placeAt, runHeld, endAt};
 ghost use Rattle.tables.specs.Tables.{Passed};
+ghost use Rattle.tables.specs.Ready.{RunsHeld, ChainsHeld};
 ghost use Rattle.meets.specs.Meets.{meetBytes};
 ghost use Rattle.families.specs.Rows.{rowsB, rowsC, rowsI, rowsD, rowsE, serversF, rowsG, rowsH};
-ghost use Rattle.families.specs.TrainHeld.{TrainHeld};
+ghost use Rattle.families.specs.Chained.{Chained};
 
 // A: the borders that the nodes' kinds deny or force.
 pub fn family_a(b: Book, w: Walk, values: &[u8], out: &mut [i32]) -> Walk
@@ -107,33 +108,34 @@ pub fn rows_d(
     unit_not(next, base + n, values, out)
 }
 
-// E: the literals of the runs that may follow run r, whose variables lie from `base` on.
+// E: the literals of the runs that may follow run r, whose variables lie from `base` on: those that
+// pass the test that the tables chain.
 pub fn followers(
     w: Walk,
     base: usize,
     n: usize,
     r: usize,
-    starts: &[usize],
-    ends: &[usize],
+    firsts: &[usize],
+    nexts: &[usize],
     values: &[u8],
     out: &mut [i32],
 ) -> Walk
-    requires { ⌜ (base + n < 999999999) × (n ≤ length (now starts)) × (r < length (now ends)) ⌝ }
-    ensures { λ v. ⌜ Walks (now (values .entry))
-        (each (upTo n) λ q. only (eqb (getD (now (ends .entry)) r 0) (getD (now (starts .entry)) q 0)) (one (is (base + q))))
-        w (now (out .entry)) v (now (out .exit)) ⌝ }
+    requires { ⌜ (base + n < 999999999) × (r < length (now firsts)) × (n ≤ length (now nexts))
+        × ((f : ℕ → Bool) × Chained f n (getD (now firsts) r 0) (now nexts)) ⌝ }
+    ensures { λ v. ⌜ ((f : ℕ → Bool) → Chained f n (getD (now (firsts .entry)) r 0) (now (nexts .entry))
+        → Walks (now (values .entry)) (each (upTo n) λ q. only (f q) (one (is (base + q)))) w (now (out .entry)) v (now (out .exit))) ⌝ }
 {
     let mut next = w;
-    let mut q = 0;
+    let mut q = firsts[r];
     while q < n {
-        let test = follows(starts, ends, r, q);
-        next = affirm_if(next, test, base + q, values, out);
-        q += 1;
+        next = affirm(next, base + q, values, out);
+        q = nexts[q];
     }
     next
 }
 
-// E: run r of an interval, from `base` on, and what may come after it in the next, from `after` on.
+// E: run r of an interval, from `base` on, and what may come after it in the next, from `after` on: the
+// runs that pass the test that the tables chain, and gone where the train `leaves`.
 pub fn clause_e(
     w: Walk,
     base: usize,
@@ -141,20 +143,21 @@ pub fn clause_e(
     n: usize,
     r: usize,
     leaves: bool,
-    starts: &[usize],
-    ends: &[usize],
+    firsts: &[usize],
+    nexts: &[usize],
     values: &[u8],
     out: &mut [i32],
 ) -> Walk
-    requires { ⌜ (base + n < 999999999) × (after + n < 999999999) × (r < n) × (n ≤ length (now starts)) × (n ≤ length (now ends)) ⌝ }
-    ensures { λ v. ⌜ Walks (now (values .entry))
+    requires { ⌜ (base + n < 999999999) × (after + n < 999999999) × (r < n) × (n ≤ length (now firsts)) × (n ≤ length (now nexts))
+        × ((f : ℕ → Bool) × Chained f n (getD (now firsts) r 0) (now nexts)) ⌝ }
+    ensures { λ v. ⌜ ((f : ℕ → Bool) → Chained f n (getD (now (firsts .entry)) r 0) (now (nexts .entry))
+        → Walks (now (values .entry))
         (wordsOf (one (not′ (base + r)
-        ∷ ((each (upTo n) λ q. only (eqb (getD (now (ends .entry)) r 0) (getD (now (starts .entry)) q 0)) (one (is (after + q))))
-        ++ only leaves (one (is (after + n)))))))
-        w (now (out .entry)) v (now (out .exit)) ⌝ }
+        ∷ ((each (upTo n) λ q. only (f q) (one (is (after + q)))) ++ only leaves (one (is (after + n)))))))
+        w (now (out .entry)) v (now (out .exit))) ⌝ }
 {
     let first = deny(w, base + r, values, out);
-    let runs = followers(first, after, n, r, starts, ends, values, out);
+    let runs = followers(first, after, n, r, firsts, nexts, values, out);
     let all = affirm_if(runs, leaves, after + n, values, out);
     close(all, values, out)
 }
@@ -170,13 +173,14 @@ pub fn rows_e(
     l: usize,
     rows: &[u8],
     sizes: &[u8],
-    starts: &[usize],
-    ends: &[usize],
+    firsts: &[usize],
+    nexts: &[usize],
     values: &[u8],
     out: &mut [i32],
 ) -> Walk
     requires { ⌜ Passed b × (train < b .«train_count») × (n ≡ instanceOf (held b) .runs train) × (base + n < 999999999) × (after + n < 999999999)
-        × (l ≡ trainLength (held b) train) × (l ≤ 8) × TrainHeld (held b) train (now rows) (now sizes) (now starts) (now ends) ⌝ }
+        × (l ≡ trainLength (held b) train) × (l ≤ 8) × RunsHeld (held b) train (now rows) (now sizes)
+        × ChainsHeld (held b) train (now firsts) (now nexts) ⌝ }
     ensures { λ r. ⌜ Walks (now (values .entry)) (wordsOf (rowsE (instanceOf (held b)) train base after)) w (now (out .entry)) r (now (out .exit)) ⌝ }
 {
     let to = goal(b, train);
@@ -184,7 +188,7 @@ pub fn rows_e(
     let mut r = 0;
     while r < n {
         let leaves = may_leave(b, train, to, rows, end_of(sizes, r, l), l);
-        next = clause_e(next, base, after, n, r, leaves, starts, ends, values, out);
+        next = clause_e(next, base, after, n, r, leaves, firsts, nexts, values, out);
         r += 1;
     }
     implies(next, base + n, after + n, values, out)

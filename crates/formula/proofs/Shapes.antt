@@ -1,17 +1,16 @@
 -- The parts that the loops pass make up the families of the specification. Assumes nothing.
 use mathlib.Core.Path.{_≡_, refl, sym, ap, ap₂, _∙_}
-use Prim.Native.Nat.{ℕ, zero, suc, _+_, _*_, _-_, _≤_, _<_}
+use Prim.Native.Nat.{ℕ, _+_, _*_, _-_}
 use native.Mathlib.Nat.{le-refl, suc-mul}
 use native.Mathlib.Numerals.{add-one}
 use native.Mathlib.Omega.{arith}
-use mathlib.Core.List.{List, [], _∷_, _++_, map, append-nil}
+use mathlib.Core.List.{List, _∷_, append-nil}
 use Rattle.spec.specs.Lists.{upTo, range, each, one}
 use Rattle.spec.specs.Instance.{Instance}
-use Rattle.spec.specs.Formula.{Clause, is, not′, width, base, runVar, goneVar, claimVar, borderVar, familyB, familyC, familyD, familyE, familyF, familyG, familyH, familyI}
+use Rattle.spec.specs.Formula.{Clause, not′, width, base, runVar, goneVar, claimVar, borderVar, familyB, familyC, familyD, familyE, familyF, familyG, familyH, familyI}
 use Rattle.laws.proofs.Parts.{each-mem-same, each-same, map-same}
 use Rattle.clauses.proofs.Turns.{upTo-range, range-next, range-end}
 use Rattle.families.specs.Rows.{rowsB, rowsC, rowsI, rowsD, followersE, clauseE, rowsE, serversF, claimsG, rowsG, rowsH}
-use Rattle.formula.specs.declared.Family.{Family}
 use Rattle.formula.specs.declared.Family.the-variants.{B, C, D, E, G, H}
 use Rattle.formula.specs.Families.{trainRows, familyRows, callRuns, callRows, pairsBehind}
 

@@ -2,16 +2,16 @@
 use mathlib.Core.Path.{_≡_, refl, ap, _∙_, subst}
 use mathlib.Core.Bool.{Bool, true, false, not}
 use Prim.Native.Nat.{ℕ, zero, suc, _+_, _*_, _-_, _≤_, _<_}
-use native.Mathlib.Nat.{le-refl, le-trans, mul-le-mul, suc-mul}
+use native.Mathlib.Nat.{le-refl, le-trans, suc-mul}
 use native.Mathlib.Omega.{arith}
 use mathlib.Core.List.{List, [], _∷_, _++_, map, List·Memᴰ, List·Memᴰ·head, List·Memᴰ·tail}
 use lib.ListN.{length, length-append, length-map}
 use lib.IntN.{ℤ, pos}
-use Rattle.spec.specs.Lists.{count, upTo, range, each, only, one}
+use Rattle.spec.specs.Lists.{upTo, range, each, only, one}
 use Rattle.spec.specs.Instance.{Instance, inWindow, servedAtDeparture}
-use Rattle.spec.specs.Formula.{Clause, is, not′, width, base, borderVar, familyA, formula, wordsOf, ownVariables}
+use Rattle.spec.specs.Formula.{Clause, is, not′, width, base, borderVar, familyA, formula, wordsOf}
 use Rattle.spec.specs.Extra.{extraClauses}
-use Rattle.laws.proofs.Tests.{upTo-mem, range-mem}
+use Rattle.laws.proofs.Tests.{upTo-mem}
 use Rattle.laws.proofs.Parts.{length-count, length-upTo}
 use Rattle.clauses.specs.Walked.{most}
 use Rattle.clauses.proofs.Turns.{words-append}
@@ -19,7 +19,7 @@ use Rattle.families.specs.Rows.{rowsB, rowsC, rowsI, rowsD, followersE, clauseE
 use Rattle.formula.specs.declared.Family.{Family}
 use Rattle.formula.specs.declared.Family.the-variants.{B, C, D, E, G, H}
 use Rattle.formula.specs.Families.{fromBy, toBy, rowsOf, trainRows, familyRows, callRuns, callRows, pairsBehind}
-use Rattle.formula.proofs.Small.{Few}
+use Rattle.tables.proofs.Small.{Few}
 use Rattle.formula.proofs.Shapes.{shape-b, shape-c, shape-d, shape-e, shape-f, shape-g, shape-h, shape-i}
 
 -- how many words clauses have

@@ -16,22 +16,25 @@ use families::rows_i;
 use families::servers;
 use model::Book;
 use model::Call;
+use numbering::base_from;
+use numbering::first_claim;
+use numbering::first_variable;
 use places::given_serves;
+use places::in_window;
 use tables::call_at;
 use track::length_in_segments;
 ghost use mathlib.Core.Path.{_≡_};
-ghost use mathlib.Core.Bool.{_&&_};
 ghost use Prim.Native.Nat.{_≤_, _<_};
-ghost use lib.Dec.{leb};
 ghost use Rattle.spec.specs.Lists.{upTo, each};
 ghost use Rattle.spec.specs.Instance.{instanceOf, callAt, trainLength};
-ghost use Rattle.spec.specs.Formula.{firstVar, claimVar, familyF, familyI, formula, wordsOf};
+ghost use Rattle.spec.specs.Formula.{familyF, familyI, formula, wordsOf};
 ghost use Rattle.spec.specs.Held.{held};
 ghost use Rattle.clauses.specs.Walked.{Walks, start};
 ghost use Rattle.tables.specs.Tables.{Passed};
-ghost use Rattle.families.specs.TrainHeld.{TrainHeld};
+ghost use Rattle.tables.specs.Ready.{Counted, RunsHeld, ChainsHeld, RunsReady, ChainsReady};
+ghost use Rattle.meets.specs.Meets.{MeetsReady};
 ghost use Rattle.formula.specs.Families.{fromBy, toBy, rowsOf, trainRows, familyRows, callRuns, callRows, pairsBehind};
-ghost use Rattle.formula.specs.Ready.{Counted, TrainReady, MeetsReady, Ready};
+ghost use Rattle.formula.specs.Ready.{TrainReady};
 
 // The families that go by train and interval.
 pub enum Family {
@@ -73,20 +76,6 @@ pub fn end_interval(family: Family, d: usize, all: usize) -> usize
     }
 }
 
-// The first variable of a train: those of the borders and of the trains before come before it.
-pub fn first_variable(b: Book, runs: [usize; 8], train: usize) -> usize
-    requires { ⌜ Counted b runs × (train ≤ b .«train_count») ⌝ }
-    ensures { λ r. ⌜ r ≡ firstVar (instanceOf (held b)) train ⌝ }
-{
-    let mut first = b.node_count;
-    let mut j = 0;
-    while j < train {
-        first += b.intervals * (runs[j] + 1 + b.segment_count);
-        j += 1;
-    }
-    first
-}
-
 // The rows of a family in one interval of a train, whose first variable is `base`.
 pub fn interval_rows(
     family: Family,
@@ -98,16 +87,16 @@ pub fn interval_rows(
     base: usize,
     rows: &[u8],
     sizes: &[u8],
-    starts: &[usize],
-    ends: &[usize],
+    firsts: &[usize],
+    nexts: &[usize],
     meets: &[u8],
     end: usize,
     values: &[u8],
     out: &mut [i32],
 ) -> Walk
     requires { ⌜ Passed b × (train < b .«train_count») × (n ≡ instanceOf (held b) .runs train) × (base < 900000000)
-        × (l ≡ trainLength (held b) train) × (l ≤ 8) × TrainHeld (held b) train (now rows) (now sizes) (now starts) (now ends)
-        × MeetsReady b (now meets) end ⌝ }
+        × (l ≡ trainLength (held b) train) × (l ≤ 8) × RunsHeld (held b) train (now rows) (now sizes)
+        × ChainsHeld (held b) train (now firsts) (now nexts) × MeetsReady b (now meets) end ⌝ }
     ensures { λ r. ⌜ Walks (now (values .entry)) (wordsOf (rowsOf (instanceOf (held b)) family train base)) w (now (out .entry)) r (now (out .exit)) ⌝ }
 {
     let after = base + (n + 1 + b.segment_count);
@@ -125,8 +114,8 @@ pub fn interval_rows(
             l,
             rows,
             sizes,
-            starts,
-            ends,
+            firsts,
+            nexts,
             values,
             out,
         ),
@@ -145,20 +134,20 @@ pub fn train_rows(
     w: Walk,
     rows: &[u8],
     sizes: &[u8],
-    starts: &[usize],
-    ends: &[usize],
+    firsts: &[usize],
+    nexts: &[usize],
     meets: &[u8],
     end: usize,
     values: &[u8],
     out: &mut [i32],
 ) -> Walk
-    requires { ⌜ TrainReady b train n first (now rows) (now sizes) (now starts) (now ends) × MeetsReady b (now meets) end ⌝ }
+    requires { ⌜ TrainReady b train n first (now rows) (now sizes) × ChainsHeld (held b) train (now firsts) (now nexts)
+        × MeetsReady b (now meets) end ⌝ }
     ensures { λ r. ⌜ Walks (now (values .entry)) (wordsOf (trainRows (instanceOf (held b)) family train)) w (now (out .entry)) r (now (out .exit)) ⌝ }
 {
     let t = b.trains[train];
     let l = length_in_segments(b, t);
     let d = t.departure;
-    let width = n + 1 + b.segment_count;
     let to = end_interval(family, d, b.intervals);
     let mut next = w;
     let mut interval = first_interval(family, d);
@@ -170,11 +159,11 @@ pub fn train_rows(
             n,
             l,
             next,
-            first + interval * width,
+            base_from(first, n, b.segment_count, interval),
             rows,
             sizes,
-            starts,
-            ends,
+            firsts,
+            nexts,
             meets,
             end,
             values,
@@ -193,14 +182,14 @@ pub fn by_train(
     w: Walk,
     rows: &[u8],
     sizes: &[u8],
-    starts: &[usize],
-    ends: &[usize],
+    firsts: &[usize],
+    nexts: &[usize],
     meets: &[u8],
     end: usize,
     values: &[u8],
     out: &mut [i32],
 ) -> Walk
-    requires { ⌜ Ready b runs (now rows) (now sizes) (now starts) (now ends) × MeetsReady b (now meets) end ⌝ }
+    requires { ⌜ RunsReady b runs (now rows) (now sizes) × ChainsReady b (now firsts) (now nexts) × MeetsReady b (now meets) end ⌝ }
     ensures { λ r. ⌜ Walks (now (values .entry)) (wordsOf (familyRows (instanceOf (held b)) family)) w (now (out .entry)) r (now (out .exit)) ⌝ }
 {
     let trains = b.train_count;
@@ -218,8 +207,8 @@ pub fn by_train(
             next,
             &rows[row..row + 4096],
             &sizes[at..at + 256],
-            &starts[at..at + 256],
-            &ends[at..at + 256],
+            &firsts[at..at + 256],
+            &nexts[at..at + 256],
             meets,
             end,
             values,
@@ -228,13 +217,6 @@ pub fn by_train(
         i += 1;
     }
     next
-}
-
-// Whether the time is in the call's window.
-pub fn in_window(c: Call, time: usize) -> bool
-    ensures { λ r. ⌜ r ≡ (leb (c .first) time && leb time (c .last)) ⌝ }
-{
-    c.first <= time && time <= c.last
 }
 
 // F: the literals of a call's clause: by time, the runs whose end serves it.
@@ -248,17 +230,14 @@ pub fn call_runs(
     w: Walk,
     rows: &[u8],
     sizes: &[u8],
-    starts: &[usize],
-    ends: &[usize],
     values: &[u8],
     out: &mut [i32],
 ) -> Walk
-    requires { ⌜ TrainReady b train n first (now rows) (now sizes) (now starts) (now ends) × (c ≡ callAt (held b) train number) ⌝ }
+    requires { ⌜ TrainReady b train n first (now rows) (now sizes) × (c ≡ callAt (held b) train number) ⌝ }
     ensures { λ r. ⌜ Walks (now (values .entry)) (callRuns (instanceOf (held b)) train number) w (now (out .entry)) r (now (out .exit)) ⌝ }
 {
     let t = b.trains[train];
     let l = length_in_segments(b, t);
-    let width = n + 1 + b.segment_count;
     let mut next = w;
     let mut interval = t.departure;
     while interval < b.intervals {
@@ -269,7 +248,7 @@ pub fn call_runs(
                 number,
                 c,
                 next,
-                first + interval * width,
+                base_from(first, n, b.segment_count, interval),
                 n,
                 l,
                 rows,
@@ -293,12 +272,10 @@ pub fn call_clause(
     w: Walk,
     rows: &[u8],
     sizes: &[u8],
-    starts: &[usize],
-    ends: &[usize],
     values: &[u8],
     out: &mut [i32],
 ) -> Walk
-    requires { ⌜ TrainReady b train n first (now rows) (now sizes) (now starts) (now ends) ⌝ }
+    requires { ⌜ TrainReady b train n first (now rows) (now sizes) ⌝ }
     ensures { λ r. ⌜ Walks (now (values .entry)) (wordsOf (callRows (instanceOf (held b)) train number)) w (now (out .entry)) r (now (out .exit)) ⌝ }
 {
     let c = call_at(b, train, number);
@@ -306,21 +283,7 @@ pub fn call_clause(
     if in_window(c, t.departure) && given_serves(b, c, t) {
         return w;
     }
-    let all = call_runs(
-        b,
-        train,
-        number,
-        c,
-        n,
-        first,
-        w,
-        rows,
-        sizes,
-        starts,
-        ends,
-        values,
-        out,
-    );
+    let all = call_runs(b, train, number, c, n, first, w, rows, sizes, values, out);
     close(all, values, out)
 }
 
@@ -333,32 +296,17 @@ pub fn train_calls(
     w: Walk,
     rows: &[u8],
     sizes: &[u8],
-    starts: &[usize],
-    ends: &[usize],
     values: &[u8],
     out: &mut [i32],
 ) -> Walk
-    requires { ⌜ TrainReady b train n first (now rows) (now sizes) (now starts) (now ends) ⌝ }
+    requires { ⌜ TrainReady b train n first (now rows) (now sizes) ⌝ }
     ensures { λ r. ⌜ Walks (now (values .entry)) (wordsOf (each (upTo (instanceOf (held b) .calls train)) λ c. callRows (instanceOf (held b)) train c)) w (now (out .entry)) r (now (out .exit)) ⌝ }
 {
     let calls = calls_of(b, train);
     let mut next = w;
     let mut number = 0;
     while number < calls {
-        next = call_clause(
-            b,
-            train,
-            number,
-            n,
-            first,
-            next,
-            rows,
-            sizes,
-            starts,
-            ends,
-            values,
-            out,
-        );
+        next = call_clause(b, train, number, n, first, next, rows, sizes, values, out);
         number += 1;
     }
     next
@@ -371,12 +319,10 @@ pub fn family_f(
     w: Walk,
     rows: &[u8],
     sizes: &[u8],
-    starts: &[usize],
-    ends: &[usize],
     values: &[u8],
     out: &mut [i32],
 ) -> Walk
-    requires { ⌜ Ready b runs (now rows) (now sizes) (now starts) (now ends) ⌝ }
+    requires { ⌜ RunsReady b runs (now rows) (now sizes) ⌝ }
     ensures { λ r. ⌜ Walks (now (values .entry)) (wordsOf (familyF (instanceOf (held b)))) w (now (out .entry)) r (now (out .exit)) ⌝ }
 {
     let trains = b.train_count;
@@ -393,23 +339,12 @@ pub fn family_f(
             next,
             &rows[row..row + 4096],
             &sizes[at..at + 256],
-            &starts[at..at + 256],
-            &ends[at..at + 256],
             values,
             out,
         );
         i += 1;
     }
     next
-}
-
-// The first of a train's claims in an interval.
-pub fn first_claim(b: Book, runs: [usize; 8], train: usize, interval: usize) -> usize
-    requires { ⌜ Counted b runs × (train < b .«train_count») × (interval < b .intervals) ⌝ }
-    ensures { λ r. ⌜ (r ≡ claimVar (instanceOf (held b)) train interval 0) × (r < 900000000) ⌝ }
-{
-    let n = runs[train];
-    first_variable(b, runs, train) + interval * (n + 1 + b.segment_count) + (n + 1)
 }
 
 // I: a train and each behind it, in an interval.
@@ -486,14 +421,14 @@ pub fn walk_formula(
     runs: [usize; 8],
     rows: &[u8],
     sizes: &[u8],
-    starts: &[usize],
-    ends: &[usize],
+    firsts: &[usize],
+    nexts: &[usize],
     meets: &[u8],
     end: usize,
     values: &[u8],
     out: &mut [i32],
 ) -> Walk
-    requires { ⌜ Ready b runs (now rows) (now sizes) (now starts) (now ends) × MeetsReady b (now meets) end ⌝ }
+    requires { ⌜ RunsReady b runs (now rows) (now sizes) × ChainsReady b (now firsts) (now nexts) × MeetsReady b (now meets) end ⌝ }
     ensures { λ r. ⌜ Walks (now (values .entry)) (wordsOf (formula (instanceOf (held b)))) start (now (out .entry)) r (now (out .exit)) ⌝ }
 {
     let wa = family_a(b, begin(), values, out);
@@ -504,8 +439,8 @@ pub fn walk_formula(
         wa,
         rows,
         sizes,
-        starts,
-        ends,
+        firsts,
+        nexts,
         meets,
         end,
         values,
@@ -518,8 +453,8 @@ pub fn walk_formula(
         wb,
         rows,
         sizes,
-        starts,
-        ends,
+        firsts,
+        nexts,
         meets,
         end,
         values,
@@ -532,8 +467,8 @@ pub fn walk_formula(
         wc,
         rows,
         sizes,
-        starts,
-        ends,
+        firsts,
+        nexts,
         meets,
         end,
         values,
@@ -546,14 +481,14 @@ pub fn walk_formula(
         wd,
         rows,
         sizes,
-        starts,
-        ends,
+        firsts,
+        nexts,
         meets,
         end,
         values,
         out,
     );
-    let wf = family_f(b, runs, we, rows, sizes, starts, ends, values, out);
+    let wf = family_f(b, runs, we, rows, sizes, values, out);
     let wg = by_train(
         Family::G,
         b,
@@ -561,8 +496,8 @@ pub fn walk_formula(
         wf,
         rows,
         sizes,
-        starts,
-        ends,
+        firsts,
+        nexts,
         meets,
         end,
         values,
@@ -575,8 +510,8 @@ pub fn walk_formula(
         wg,
         rows,
         sizes,
-        starts,
-        ends,
+        firsts,
+        nexts,
         meets,
         end,
         values,

@@ -4,3 +4,4 @@ pub mod Numbers
 pub mod Frames
 pub mod Parts
 pub mod Arrays
+pub mod Loops

@@ -6,13 +6,13 @@ use Prim.Native.Nat.{ℕ, suc, _+_, _*_, _-_, _≤_, _<_}
 use native.Mathlib.Nat.{add-zero, add-suc, suc-add}
 use native.Mathlib.Numerals.{add-one}
 use native.Mathlib.Omega.{arith}
-use mathlib.Core.List.{List, [], _∷_, _++_, map, map-append, append-nil}
-use lib.ListN.{length, getD, take, set, replicate, length-append, length-map}
-use lib.Seq.{sets, set-append-seam, append-snoc, take-suc, take-nil, length-take-le}
+use mathlib.Core.List.{List, [], _∷_, _++_, map, map-append, append-nil, append-assoc}
+use lib.ListN.{length, getD, take, drop, set, length-append, length-map}
+use lib.Seq.{sets, slice, sets-eq, take-suc, take-nil, take-append-add, take-append-seam, drop-append-seam, length-take-le}
 use Rattle.spec.specs.Lists.{Bytes, one, each, lastOr, upTo}
 use Rattle.spec.specs.Held.{padded}
 use Rattle.listing.specs.declared.Path.{Path}
-use Rattle.laws.proofs.Parts.{upTo-suc, length-upTo}
+use Rattle.laws.proofs.Parts.{Part, upTo-suc, length-upTo}
 use Rattle.listing.specs.Listed.{packedPath, keptOf, rowsAfter, sizesAfter}
 
 -- ---- a run of stores
@@ -41,6 +41,22 @@ module _ {ℓ} {A : Type ℓ} where
       ap (λ (k : ℕ). set (sets l base (map f (upTo i))) (base + k) (f i)) (sym size)
       ∙ sets-next (map f (upTo i)) l base (f i)
       ∙ ap (sets l base) (sym (map-append f (upTo i) (one i)) ∙ ap (map f) (sym (upTo-suc i) ∙ ap upTo (sym (add-one i))))
+
+  -- what they stored is a part of the list, and so can be cut out
+  pub part-sets : (vs l : List A) (i : ℕ) → i + length vs ≤ length l → Part (sets l i vs) i vs
+  part-sets vs l i h = record {
+    front = take i l;
+    rest = drop (i + length vs) l;
+    whole = sets-eq vs l i h ∙ append-assoc (take i l) vs (drop (i + length vs) l);
+    place = length-take-le i l (omega arith);
+  }
+
+  pub part-slice : {xs ys : List A} {n : ℕ} (k : ℕ) → Part xs n ys → length ys ≡ k → slice n (n + k) xs ≡ ys
+  part-slice {xs} {ys} k p e =
+      rw (p .whole, ← p .place, ← e)
+      (ap (drop (length (p .front))) (take-append-add (p .front) (ys ++ p .rest) (length ys))
+      ∙ drop-append-seam (p .front) (take (length ys) (ys ++ p .rest))
+      ∙ take-append-seam ys (p .rest))
 
 -- ---- a path by value
 

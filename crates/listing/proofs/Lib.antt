@@ -1,3 +1,4 @@
 pub mod Leaves
 pub mod Lists
+pub mod Successors
 pub mod Levels

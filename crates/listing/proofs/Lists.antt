@@ -1,5 +1,5 @@
--- Run lists in the lent tables, and the table of pairs: runs that are kept behind runs that were kept, how long listed paths
--- are, and that listing by the table of a book's pairs is listing by the book. Assumes nothing.
+-- Run lists in the lent tables: runs that are kept behind runs that were kept, a listing an element at a time, and how long listed
+-- paths are. Assumes nothing.
 use mathlib.Core.Path.{_≡_, refl, sym, ap, ap₂, _∙_, subst}
 use mathlib.Core.Logic.{_⊎_, inl, inr, ⊎-elim}
 use mathlib.Core.Bool.{Bool, true, false}
@@ -9,22 +9,20 @@ use native.Mathlib.Omega.{arith}
 use native.Mathlib.Numerals.{add-one}
 use mathlib.Core.List.{List, [], _∷_, _++_, map, append-nil, map-append}
 use lib.ListN.{length, getD, set, take, replicate, length-append, length-map, length-set, length-replicate}
-use lib.Seq.{sets, length-sets, length-take-le, take-append-seam, take-all, take-nil, take-append-le, take-append-add, getD-set-same, getD-set-other}
-use lib.Dec.{T, leb, eqb, leb→le, le→leb}
-use Rattle.spec.specs.Lists.{Bytes, count, upTo, range, each, one, all, lastOr}
+use lib.Seq.{sets, length-sets, length-take-le, take-append-seam, take-all, take-nil, take-append-le, take-append-add}
+use lib.Seq.{getD-set-same, getD-set-other}
+use lib.Dec.{T, leb, leb→le, le→leb}
+use Rattle.spec.specs.Lists.{Bytes, count, upTo, range, each, one, all, has, lastOr}
 use Rattle.model.specs.declared.Book.{Book as BookStruct}
-use Rattle.spec.specs.Book.{Book, Train, lengthInSegments, speedInSegments}
+use Rattle.spec.specs.Book.{Book, Train, segmentOf, lengthInSegments, speedInSegments}
 use Rattle.spec.specs.Read.{between, reachFits}
-use Rattle.spec.specs.Plan.{bit}
 use Rattle.spec.specs.Held.{padded, held, CountsFit}
-use Rattle.spec.specs.Runs.{leadsTo, goesOn, extend, pathsOf, runsOf, directed}
-use Rattle.laws.proofs.Tests.{and-iff, leb-iff, all-upTo, le-or-lt}
+use Rattle.laws.proofs.Tests.{and-iff, leb-iff, all-iff, all-upTo, le-or-lt}
 use Rattle.laws.proofs.Rows.{all-one, all-each}
-use Rattle.laws.proofs.Parts.{upTo-split, upTo-suc, length-upTo, each-append, each-same, map-at}
+use Rattle.laws.proofs.Parts.{upTo-split, upTo-suc, each-append}
 use Rattle.listing.specs.declared.Path.{Path}
-use Rattle.listing.specs.Listed.{pathOf, packedPath, leadsRow, leadsRows, goesOnBy, extendBy, pathsBy}
-use Rattle.listing.specs.Listed.{keptOf, rowsAfter, sizesAfter, countAfter}
-use Rattle.listing.proofs.Leaves.{last-append, rows-full, sizes-full}
+use Rattle.listing.specs.Listed.{pathOf, packedPath, successorsBy, extendBy, keptOf, rowsAfter, sizesAfter, countAfter}
+use Rattle.listing.proofs.Leaves.{rows-full, sizes-full}
 
 -- ---- stores in a row
 
@@ -176,6 +174,10 @@ module _ {count : ℕ} {rows₀ sizes₀ : Bytes} {runs : List (List ℕ)} {foun
   pub listed-le : found ≤ 257
   listed-le = omega (arith, l .counted, countAfter-le count runs)
 
+  pub listed-from : count ≤ 257 → count ≤ found
+  unfolding countAfter
+  listed-from h = omega (arith, l .counted)
+
   pub listed-rows : length rows ≡ length rows₀
   listed-rows = ap length (l .filled) ∙ length-rowsAfter count runs rows₀
 
@@ -189,6 +191,15 @@ module _ {count : ℕ} {rows₀ sizes₀ : Bytes} {runs : List (List ℕ)} {foun
     counted = k .counted ∙ ap (λ (n : ℕ). countAfter n more) (l .counted) ∙ count-more count runs more;
     filled = k .filled ∙ ap₂ (λ (n : ℕ) (r : Bytes). rowsAfter n more r) (l .counted) (l .filled) ∙ rows-more count runs more rows₀ s;
     sized = k .sized ∙ ap₂ (λ (n : ℕ) (r : Bytes). sizesAfter n more r) (l .counted) (l .sized) ∙ sizes-more count runs more sizes₀;
+  }
+
+  -- at 257, it is the same whatever is listed
+  pub listed-any : (more : List (List ℕ)) → 257 ≤ count → Listed count rows₀ sizes₀ more found rows sizes
+  unfolding countAfter
+  listed-any more h = record {
+    counted = omega (arith, l .counted);
+    filled = l .filled ∙ rows-full count runs rows₀ (omega arith) ∙ sym (rows-full count more rows₀ (omega arith));
+    sized = l .sized ∙ sizes-full count runs sizes₀ (omega arith) ∙ sym (sizes-full count more sizes₀ (omega arith));
   }
 
   -- at 257, whatever more there is adds nothing
@@ -245,141 +256,54 @@ module _ (f : ℕ → List (List ℕ)) where
         (λ k′. let r = each-rest f n d k′ in rw (r .1) (listed-full l (r .0) s k))
         (le-or-lt n d)
 
--- ---- listing by the table
+-- ---- listing by the tables of successors
 
--- a row where the test holds, else nothing
-abbrev pub chosen : Bool → List (List ℕ) → List (List ℕ)
-chosen b xs = elim b [ true ↦ xs | false ↦ [] ]
+-- a row where the test does not hold, else nothing
+abbrev pub unless : Bool → List (List ℕ) → List (List ℕ)
+unless b xs = elim b [ true ↦ [] | false ↦ xs ]
 
-chosen-short : (b : Bool) (xs : List (List ℕ)) → T (all short xs) → T (all short (chosen b xs))
+pub unless-all : (f : List ℕ → Bool) (b : Bool) (xs : List (List ℕ)) → T (all f xs) → T (all f (unless b xs))
 unfolding all
-chosen-short true xs h = h
-chosen-short false xs h = tt
+unless-all f true xs h = tt
+unless-all f false xs h = h
 
 -- the paths that extend a path by d and `missing` more
-abbrev pub onward : Bytes → ℕ → ℕ → List ℕ → ℕ → List (List ℕ)
-onward table n missing path d = chosen (goesOnBy table path d) (extendBy table n missing (path ++ one d))
+abbrev pub onward : Bytes → Bytes → ℕ → List ℕ → ℕ → List (List ℕ)
+onward table fans missing path d = unless (has (segmentOf d) (map segmentOf path)) (extendBy table fans missing (path ++ one d))
 
-module _ (table : Bytes) (n : ℕ) where
-  pub extend-none : (path : List ℕ) → extendBy table n 0 path ≡ one path
+module _ (table fans : Bytes) where
+  pub extend-none : (path : List ℕ) → extendBy table fans 0 path ≡ one path
   unfolding extendBy
   extend-none path = refl
 
   pub extend-more : (missing : ℕ) (path : List ℕ) → 1 ≤ missing
-      → extendBy table n missing path ≡ each (upTo n) (onward table n (missing - 1) path)
+      → extendBy table fans missing path ≡ each (successorsBy table fans (lastOr 0 path)) (onward table fans (missing - 1) path)
   unfolding extendBy
   extend-more zero path h = let no′ : ⊥ = omega arith in absurd no′
   extend-more (suc missing) path h = let e : suc missing - 1 ≡ missing = omega arith in rw e
 
-  pub onward-taken : (missing : ℕ) (path : List ℕ) (d : ℕ) → goesOnBy table path d ≡ true
-      → onward table n missing path d ≡ extendBy table n missing (path ++ one d)
-  onward-taken missing path d e = ap (λ (b : Bool). chosen b (extendBy table n missing (path ++ one d))) e
+  pub onward-taken : (missing : ℕ) (path : List ℕ) (d : ℕ) → has (segmentOf d) (map segmentOf path) ≡ false
+      → onward table fans missing path d ≡ extendBy table fans missing (path ++ one d)
+  onward-taken missing path d e = ap (λ (b : Bool). unless b (extendBy table fans missing (path ++ one d))) e
 
-  pub onward-left : (missing : ℕ) (path : List ℕ) (d : ℕ) → goesOnBy table path d ≡ false → onward table n missing path d ≡ []
-  onward-left missing path d e = ap (λ (b : Bool). chosen b (extendBy table n missing (path ++ one d))) e
+  pub onward-left : (missing : ℕ) (path : List ℕ) (d : ℕ) → has (segmentOf d) (map segmentOf path) ≡ true
+      → onward table fans missing path d ≡ []
+  onward-left missing path d e = ap (λ (b : Bool). unless b (extendBy table fans missing (path ++ one d))) e
 
   -- no listed path is longer than the one that is extended and what is missing
-  pub extend-short : (missing : ℕ) (path : List ℕ) → length path + missing ≤ 16 → T (all short (extendBy table n missing path))
+  pub extend-short : (missing : ℕ) (path : List ℕ) → length path + missing ≤ 16 → T (all short (extendBy table fans missing path))
   unfolding extendBy
   extend-short zero path h = rw all-one (le→leb (length path) 16 (omega arith))
   extend-short (suc missing) path h =
-      each-short (onward table n missing path) n
-      (λ d _. chosen-short (goesOnBy table path d) (extendBy table n missing (path ++ one d))
-      (extend-short missing (path ++ one d) (omega (arith, length-append path (one d)))))
+      rw all-each
+      (all-iff (λ d. all short (onward table fans missing path d)) (successorsBy table fans (lastOr 0 path)) .1
+      (λ d _. unless-all short (has (segmentOf d) (map segmentOf path)) (extendBy table fans missing (path ++ one d))
+      (extend-short missing (path ++ one d) (omega (arith, length-append path (one d))))))
 
-  pub onward-short : (missing : ℕ) (path : List ℕ) → length path + missing < 16 → (d : ℕ)
-      → T (all short (each (upTo d) (onward table n missing path)))
+  pub onward-short : (missing : ℕ) (path : List ℕ) → length path + missing < 16 → (d : ℕ) → T (all short (onward table fans missing path d))
   onward-short missing path h d =
-      each-short (onward table n missing path) d
-      (λ i _. chosen-short (goesOnBy table path i) (extendBy table n missing (path ++ one i))
-      (extend-short missing (path ++ one i) (omega (arith, length-append path (one i)))))
-
-  module _ (size : ℕ) (h : 1 ≤ size) (k : size ≤ 16) where
-    pub from-short : (d : ℕ) → T (all short (each (upTo d) (λ i. extendBy table n (size - 1) (one i))))
-    from-short d = each-short (λ i. extendBy table n (size - 1) (one i)) d (λ i _. extend-short (size - 1) (one i) (omega arith))
-
-    paths-short : T (all short (pathsBy table n size))
-    unfolding pathsBy
-    paths-short = from-short n
-
-  -- the levels of a train's runs
-  pub levels-short : (l j : ℕ) → 1 ≤ l → l + j ≤ 17 → T (all short (each (upTo j) (λ i. pathsBy table n (l + i))))
-  levels-short l j h k = each-short (λ i. pathsBy table n (l + i)) j (λ i m. paths-short (l + i) (omega arith) (omega arith))
-
--- ---- the table of pairs
-
-bit-is : (b : Bool) → eqb (bit b) 1 ≡ b
-unfolding bit
-bit-is true = refl
-bit-is false = refl
-
-module _ (b : Book) where
-  pub length-leadsRows : (n : ℕ) (old : Bytes) → length (leadsRows b n old) ≡ length old
-  unfolding leadsRows
-  length-leadsRows zero old = refl
-  length-leadsRows (suc n) old = length-sets (leadsRows b n old) (n * 128) (leadsRow b n) ∙ length-leadsRows n old
-
-  length-leadsRow : (d : ℕ) → length (leadsRow b d) ≡ 2 * length (b .segments)
-  unfolding leadsRow
-  length-leadsRow d = length-map (upTo (2 * length (b .segments))) (λ e. bit (leadsTo b d e)) ∙ length-upTo (2 * length (b .segments))
-
-  module _ (old : Bytes) (room : length old ≡ 16384) (few : length (b .segments) ≤ 64) where
-    -- the row that is written last
-    row-at : (n e : ℕ) → n < 2 * length (b .segments) → e < 2 * length (b .segments)
-        → getD (leadsRows b (suc n) old) (n * 128 + e) 0 ≡ bit (leadsTo b n e)
-    unfolding leadsRows leadsRow
-    row-at n e h l =
-        getD-sets-in (leadsRows b n old) (n * 128) (leadsRow b n) e 0 (omega (arith, length-leadsRow n))
-        (omega (arith, length-leadsRow n, length-leadsRows n old))
-        ∙ map-at (λ x. bit (leadsTo b n x)) (2 * length (b .segments)) e 0 l
-
-    -- the table says which directed segment leads to which
-    pub leads-at : (n d e : ℕ) → n ≤ 2 * length (b .segments) → d < n → e < 2 * length (b .segments)
-        → getD (leadsRows b n old) (d * 128 + e) 0 ≡ bit (leadsTo b d e)
-    unfolding leadsRows
-    leads-at zero d e h k l = let no′ : ⊥ = omega arith in absurd no′
-    leads-at (suc n) d e h k l =
-        ⊎-elim
-        (λ m.
-        getD-sets-below (leadsRows b n old) (n * 128) (leadsRow b n) (d * 128 + e) 0 (omega arith) ∙ leads-at n d e (omega arith) m l)
-        (λ m. let same : d ≡ n = omega arith in rw same (row-at n e (omega arith) l))
-        (le-or-lt (suc d) n)
-
-    -- hence, of directed segments of the book, listing by the table is listing by the book
-    abbrev table : Bytes
-    table = leadsRows b (2 * length (b .segments)) old
-
-    goes-same : (path : List ℕ) (d : ℕ) → lastOr 0 path < 2 * length (b .segments) → d < 2 * length (b .segments)
-        → goesOnBy table path d ≡ goesOn b path d
-    unfolding goesOnBy goesOn
-    goes-same path d h k =
-        rw (leads-at (2 * length (b .segments)) (lastOr 0 path) d (omega arith) h k, bit-is)
-
-    pub extend-same : (missing : ℕ) (path : List ℕ) → lastOr 0 path < 2 * length (b .segments)
-        → extendBy table (2 * length (b .segments)) missing path ≡ extend b missing path
-    unfolding extendBy extend directed
-    extend-same zero path h = refl
-    extend-same (suc missing) path h =
-        each-same (onward table (2 * length (b .segments)) missing path)
-        (λ d. elim (goesOn b path d) [ true ↦ extend b missing (path ++ one d) | false ↦ [] ])
-        (2 * length (b .segments))
-        (λ d k. ap₂ chosen (goes-same path d h k) (extend-same missing (path ++ one d) (rw last-append k)))
-
-    pub paths-same : (size : ℕ) → pathsBy table (2 * length (b .segments)) size ≡ pathsOf b size
-    unfolding pathsBy pathsOf directed lastOr
-    paths-same size =
-        each-same (λ d. extendBy table (2 * length (b .segments)) (size - 1) (one d)) (λ d. extend b (size - 1) (one d))
-        (2 * length (b .segments)) (λ d k. extend-same (size - 1) (one d) k)
-
--- so a train's runs, level by level, are those of the book
-module _ (b : Book) (t : Train) (old : Bytes) (room : length old ≡ 16384) (few : length (b .segments) ≤ 64) where
-  pub runs-same : (l k n : ℕ) (table : Bytes) → l ≡ lengthInSegments b t → k ≡ speedInSegments b t → n ≡ 2 * length (b .segments)
-      → table ≡ leadsRows b n old → each (upTo (k + 1)) (λ i. pathsBy table n (l + i)) ≡ runsOf b t
-  unfolding runsOf
-  runs-same l k n table el ek en et =
-      rw (et, en, el, ek)
-      (each-same (λ i. pathsBy (leadsRows b (2 * length (b .segments)) old) (2 * length (b .segments)) (lengthInSegments b t + i))
-      (λ i. pathsOf b (lengthInSegments b t + i)) (speedInSegments b t + 1) (λ i _. paths-same b old room few (lengthInSegments b t + i)))
+      unless-all short (has (segmentOf d) (map segmentOf path)) (extendBy table fans missing (path ++ one d))
+      (extend-short missing (path ++ one d) (omega (arith, length-append path (one d))))
 
 -- what a train's numbers may be
 pub reach : (b : Book) (t : Train) → T (reachFits b t)

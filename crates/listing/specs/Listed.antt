@@ -1,16 +1,15 @@
--- Run lists as the code holds them: a byte a pair of directed segments that says whether one leads to the other, a row of 16
+-- Run lists as the code holds them: the successors of each directed segment in a row of 128 bytes, with their number; a row of 16
 -- bytes and a length a run. Assumes nothing.
 use mathlib.Core.Path.{_≡_}
-use mathlib.Core.Bool.{Bool, true, false, not, _&&_}
-use Prim.Native.Nat.{ℕ, zero, suc, _+_, _*_, _-_, _/_, _≤_, _<_, min}
-use mathlib.Core.List.{List, [], _∷_, _++_, map}
-use lib.ListN.{length, getD, take, drop}
-use lib.Seq.{sets}
-use lib.Dec.{T, ltb, eqb}
-use Rattle.spec.specs.Lists.{Bytes, upTo, each, one, all, has, lastOr}
+use mathlib.Core.Bool.{true, false}
+use Prim.Native.Nat.{ℕ, zero, suc, _+_, _*_, _-_, _≤_, _<_, min}
+use mathlib.Core.List.{List, [], _++_, map}
+use lib.ListN.{length, getD, take}
+use lib.Seq.{sets, slice}
+use lib.Dec.{T, ltb}
+use Rattle.spec.specs.Lists.{Bytes, upTo, each, one, all, pick, has, lastOr}
 use Rattle.spec.specs.Book.{Book, segmentOf}
-use Rattle.spec.specs.Plan.{bit}
-use Rattle.spec.specs.Runs.{leadsTo}
+use Rattle.spec.specs.Runs.{leadsTo, directed}
 use Rattle.spec.specs.Held.{padded}
 use Rattle.listing.specs.declared.Path.{Path}
 
@@ -24,31 +23,73 @@ pathOf p = take (p .n) (p .at)
 unfoldable pub packedPath : List ℕ → Path
 packedPath ds = record { at = padded 16 0 ds; n = length ds }
 
--- ---- the table of pairs
+-- ---- the successors of directed segments
 
--- which directed segments d leads to, a byte each
-unfoldable pub leadsRow : Book → ℕ → Bytes
-leadsRow b d = map (λ e. bit (leadsTo b d e)) (upTo (2 * length (b .segments)))
+-- the directed segments that d leads to, by rising number
+unfoldable pub successors : Book → ℕ → List ℕ
+successors b d = pick (leadsTo b d) (directed b)
 
--- the table after the rows of the first n directed segments were written, each at 128 times its number
-unfoldable pub leadsRows : Book → ℕ → Bytes → Bytes
-leadsRows b zero old = old
-leadsRows b (suc n) old = sets (leadsRows b n old) (n * 128) (leadsRow b n)
+-- the table after the successors of the first n directed segments were written, each row at 128 times its number
+unfoldable pub successorRows : Book → ℕ → Bytes → Bytes
+successorRows b zero old = old
+successorRows b (suc n) old = sets (successorRows b n old) (n * 128) (successors b n)
 
--- ---- listing by the table
+-- how many successors each of the first n directed segments has
+unfoldable pub fansOf : Book → ℕ → Bytes
+fansOf b n = map (λ d. length (successors b d)) (upTo n)
 
--- a path may go on over d, as the table has it
-unfoldable pub goesOnBy : Bytes → List ℕ → ℕ → Bool
-goesOnBy table path d = eqb (getD table (lastOr 0 path * 128 + d) 0) 1 && not (has (segmentOf d) (map segmentOf path))
+-- the successors of d, as a table of rows and their lengths have them
+unfoldable pub successorsBy : Bytes → Bytes → ℕ → List ℕ
+successorsBy table fans d = slice (d * 128) (d * 128 + getD fans d 0) table
 
--- the paths that extend a path by `missing` segments, of the first n directed ones, as the table has it
-unfoldable pub extendBy : Bytes → ℕ → ℕ → List ℕ → List (List ℕ)
-extendBy table n zero path = one path
-extendBy table n (suc missing) path =
-    each (upTo n) λ d. elim (goesOnBy table path d) [ true ↦ extendBy table n missing (path ++ one d) | false ↦ [] ]
+-- the tables hold the successors of each directed segment of the book
+pub record SuccessorsHeld (b : Book) (table fans : Bytes) : Type 0 where
+  pub tableLong : length table ≡ 16384
+  pub fansLong : length fans ≡ 128
+  pub few : length (b .segments) ≤ 64
+  pub fanFits : (d : ℕ) → d < 2 * length (b .segments) → getD fans d 0 ≤ 128
+  pub row : (d : ℕ) → d < 2 * length (b .segments) → successorsBy table fans d ≡ successors b d
 
-unfoldable pub pathsBy : Bytes → ℕ → ℕ → List (List ℕ)
-pathsBy table n size = each (upTo n) λ d. extendBy table n (size - 1) (one d)
+-- d is a directed segment of a book whose successors the tables hold: a path may be followed from there on
+pub record Covered (table fans : Bytes) (d : ℕ) : Type 0 where
+  pub book : Book
+  pub held : SuccessorsHeld book table fans
+  pub below : d < 2 * length (book .segments)
+
+-- ---- listing by the tables
+
+-- the paths that extend a path by `missing` segments, as the tables have it
+unfoldable pub extendBy : Bytes → Bytes → ℕ → List ℕ → List (List ℕ)
+extendBy table fans zero path = one path
+extendBy table fans (suc missing) path =
+    each (successorsBy table fans (lastOr 0 path)) λ d.
+    elim (has (segmentOf d) (map segmentOf path)) [ true ↦ [] | false ↦ extendBy table fans missing (path ++ one d) ]
+
+-- the paths of `size` segments that start over one of the first n directed segments
+unfoldable pub pathsBy : Bytes → Bytes → ℕ → ℕ → List (List ℕ)
+pathsBy table fans n size = each (upTo n) λ d. extendBy table fans (size - 1) (one d)
+
+-- the run of `size` segments that stands in the rows under a number
+unfoldable pub runIn : Bytes → ℕ → ℕ → List ℕ
+runIn rows size r = slice (16 * r) (16 * r + size) rows
+
+-- the runs `first` to `count` - 1 there, of `size` segments each
+unfoldable pub runsIn : Bytes → ℕ → ℕ → ℕ → List (List ℕ)
+runsIn rows size first count = map (λ i. runIn rows size (first + i)) (upTo (count - first))
+
+-- where there are at most 256 of them, each ends over a directed segment of a book whose successors the tables hold
+pub record RunsCovered (table fans rows : Bytes) (size first count : ℕ) : Type 0 where
+  pub book : Book
+  pub held : SuccessorsHeld book table fans
+  pub below : count ≤ 256 → T (all (λ run. ltb (lastOr 0 run) (2 * length (book .segments))) (runsIn rows size first count))
+
+-- the paths that extend paths by one segment
+unfoldable pub longerBy : Bytes → Bytes → List (List ℕ) → List (List ℕ)
+longerBy table fans paths = each paths (extendBy table fans 1)
+
+-- the paths that extend paths by 1 to k segments, by their number
+unfoldable pub furtherBy : Bytes → Bytes → List (List ℕ) → ℕ → List (List ℕ)
+furtherBy table fans paths k = each (upTo k) λ j. each paths (extendBy table fans (j + 1))
 
 -- ---- the tables of runs
 

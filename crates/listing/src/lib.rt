@@ -1,25 +1,30 @@
 // Run lists. A train's runs are listed by rising number of segments and, within that, in dictionary
 // order, each path extended one segment at a time. They are kept in lent tables, a row of 16 bytes and
 // a length a run, so that a run is found by its number at once; at most 256 are kept, and the listing
-// stops at the 257th. A table of pairs says which directed segment leads to which. Assumes nothing.
+// stops at the 257th. A table that is filled once a book has the successors of each directed segment.
+// Assumes nothing.
 use model::Book;
 use model::Train;
-use track::leads_to;
+use track::end_node;
+use track::joined;
 use track::length_in_segments;
 use track::speed_in_segments;
+use track::start_in;
 use track::wide;
 ghost use mathlib.Core.Path.{_≡_};
 ghost use mathlib.Core.List.{_++_, map};
-ghost use Prim.Native.Nat.{_+_, _*_, _/_, _≤_, _<_};
+ghost use Prim.Native.Nat.{ℕ, _+_, _*_, _≤_, _<_};
 ghost use lib.ListN.{length};
 ghost use lib.Seq.{sets};
 ghost use lib.Dec.{T};
-ghost use Rattle.spec.specs.Lists.{one, has};
+ghost use Rattle.spec.specs.Lists.{one, has, lastOr};
 ghost use Rattle.spec.specs.Book as book;
 ghost use Rattle.spec.specs.Runs as runs;
 ghost use Rattle.spec.specs.Read.{reachFits};
 ghost use Rattle.spec.specs.Held.{held, heldTrain, CountsFit, NumbersFit};
-ghost use Rattle.listing.specs.Listed.{pathOf, packedPath, leadsRow, leadsRows, goesOnBy, extendBy, pathsBy, rowsAfter, sizesAfter, countAfter};
+ghost use Rattle.listing.specs.Listed.{pathOf, packedPath, successors, successorRows, fansOf, SuccessorsHeld, Covered};
+ghost use Rattle.listing.specs.Listed.{rowsAfter, sizesAfter, countAfter};
+ghost use Rattle.listing.specs.Listed.{extendBy, pathsBy, runIn, runsIn, RunsCovered, longerBy, furtherBy};
 
 // A path by value: its first n directed segments, zeros behind.
 pub struct Path {
@@ -27,28 +32,39 @@ pub struct Path {
     pub n: usize,
 }
 
-// Writes the row of d into the table of pairs: which directed segments it leads to.
-pub fn fill_row(b: Book, d: usize, table: &mut [u8])
+// Writes the successors of d into its row of the table; answers how many they are.
+pub fn fill_row(b: Book, d: usize, table: &mut [u8]) -> usize
     requires { ⌜ CountsFit b × (d < 2 * b .«segment_count») × (length (now table) ≡ 16384) ⌝ }
-    ensures { λ _. ⌜ now (table .exit) ≡ sets (now (table .entry)) (d * 128) (leadsRow (held b) d) ⌝ }
+    ensures { λ r. ⌜ (r ≡ length (successors (held b) d)) × (r ≤ 128)
+        × (now (table .exit) ≡ sets (now (table .entry)) (d * 128) (successors (held b) d)) ⌝ }
 {
     let n = 2 * b.segment_count;
+    let node = end_node(b, d);
+    let base = d * 128;
+    let mut found = 0;
     let mut e = 0;
     while e < n {
-        table[d * 128 + e] = if leads_to(b, d, e) { 1 } else { 0 };
+        let s = b.segments[e / 2];
+        if start_in(s, e) == node && joined(b, node, d / 2, e / 2) {
+            table[base + found] = e as u8;
+            found += 1;
+        }
         e += 1;
     }
+    found
 }
 
-// Writes the table of pairs of the book's directed segments.
-pub fn fill_leads(b: Book, table: &mut [u8])
-    requires { ⌜ CountsFit b × (length (now table) ≡ 16384) ⌝ }
-    ensures { λ _. ⌜ now (table .exit) ≡ leadsRows (held b) (2 * b .«segment_count») (now (table .entry)) ⌝ }
+// Writes the successors of the book's directed segments, a row of the table each, and how many they
+// are.
+pub fn fill_successors(b: Book, table: &mut [u8], fans: &mut [u8])
+    requires { ⌜ CountsFit b × (length (now table) ≡ 16384) × (length (now fans) ≡ 128) ⌝ }
+    ensures { λ _. ⌜ (now (table .exit) ≡ successorRows (held b) (2 * b .«segment_count») (now (table .entry)))
+        × (now (fans .exit) ≡ sets (now (fans .entry)) 0 (fansOf (held b) (2 * b .«segment_count»))) ⌝ }
 {
     let n = 2 * b.segment_count;
     let mut d = 0;
     while d < n {
-        fill_row(b, d, table);
+        fans[d] = fill_row(b, d, table) as u8;
         d += 1;
     }
 }
@@ -68,14 +84,13 @@ pub fn uses(path: Path, segment: usize) -> bool
     false
 }
 
-// Whether the path may go on over d, as the table of pairs has it.
-pub fn goes_on(table: &[u8], path: Path, d: usize) -> bool
-    requires { ⌜ (length (now table) ≡ 16384) × (1 ≤ path .n) × (path .n ≤ 16) × (d < 128) ⌝ }
-    ensures { λ r. ⌜ r ≡ goesOnBy (now (table .entry)) (pathOf path) d ⌝ }
+// The last directed segment of a path.
+pub fn last_of(path: Path) -> usize
+    requires { ⌜ (1 ≤ path .n) × (path .n ≤ 16) ⌝ }
+    ensures { λ r. ⌜ r ≡ lastOr 0 (pathOf path) ⌝ }
 {
     let last = path.n - 1;
-    let from = wide(path.at[last]) * 128 + d;
-    from < table.len() && table[from] == 1 && !uses(path, d / 2)
+    wide(path.at[last])
 }
 
 // The path with one more directed segment.
@@ -93,7 +108,8 @@ pub fn pushed(path: Path, d: usize) -> Path
 // Keeps a run behind the first `count`, where there is room for it.
 pub fn keep(rows: &mut [u8], sizes: &mut [u8], count: usize, path: Path)
     requires { ⌜ (length (now rows) ≡ 4096) × (length (now sizes) ≡ 256) × (count ≤ 256) × (path ≡ packedPath (pathOf path)) × (path .n ≤ 16) ⌝ }
-    ensures { λ _. ⌜ (now (rows .exit) ≡ rowsAfter count (one (pathOf path)) (now (rows .entry))) × (now (sizes .exit) ≡ sizesAfter count (one (pathOf path)) (now (sizes .entry))) ⌝ }
+    ensures { λ _. ⌜ (now (rows .exit) ≡ rowsAfter count (one (pathOf path)) (now (rows .entry)))
+        × (now (sizes .exit) ≡ sizesAfter count (one (pathOf path)) (now (sizes .entry))) ⌝ }
 {
     if count < 256 {
         let base = count * 16;
@@ -106,34 +122,53 @@ pub fn keep(rows: &mut [u8], sizes: &mut [u8], count: usize, path: Path)
     }
 }
 
+// The run of `size` segments in the rows under a number, as a path by value.
+pub fn path_at(rows: &[u8], r: usize, size: usize) -> Path
+    requires { ⌜ (length (now rows) ≡ 4096) × (r < 256) × (size ≤ 16) ⌝ }
+    ensures { λ p. ⌜ p ≡ packedPath (runIn (now (rows .entry)) size r) ⌝ }
+{
+    let base = 16 * r;
+    let mut at = [0u8; 16];
+    let mut i = 0;
+    while i < size {
+        at[i] = rows[base + i];
+        i += 1;
+    }
+    Path { at: at, n: size }
+}
+
 // Lists the paths that extend a path by `missing` segments, in dictionary order, behind the first
 // `count`; answers how many runs there are then, as far as 257. `missing` falls at each call.
 pub fn extend(
     table: &[u8],
-    directed: usize,
+    fans: &[u8],
     rows: &mut [u8],
     sizes: &mut [u8],
     count: usize,
     path: Path,
     missing: usize,
 ) -> usize
-    requires { ⌜ (length (now table) ≡ 16384) × (directed ≤ 128) × (length (now rows) ≡ 4096) × (length (now sizes) ≡ 256) × (count ≤ 256)
-        × (path ≡ packedPath (pathOf path)) × (1 ≤ path .n) × (path .n + missing ≤ 16) ⌝ }
-    ensures { λ r. ⌜ (r ≡ countAfter count (extendBy (now (table .entry)) directed missing (pathOf path)))
-        × (now (rows .exit) ≡ rowsAfter count (extendBy (now (table .entry)) directed missing (pathOf path)) (now (rows .entry)))
-        × (now (sizes .exit) ≡ sizesAfter count (extendBy (now (table .entry)) directed missing (pathOf path)) (now (sizes .entry))) ⌝ }
+    requires { ⌜ Covered (now table) (now fans) (lastOr 0 (pathOf path)) × (length (now rows) ≡ 4096) × (length (now sizes) ≡ 256)
+        × (count ≤ 256) × (path ≡ packedPath (pathOf path)) × (1 ≤ path .n) × (path .n + missing ≤ 16) ⌝ }
+    ensures { λ r. ⌜ (r ≡ countAfter count (extendBy (now (table .entry)) (now (fans .entry)) missing (pathOf path)))
+        × (now (rows .exit) ≡ rowsAfter count (extendBy (now (table .entry)) (now (fans .entry)) missing (pathOf path)) (now (rows .entry)))
+        × (now (sizes .exit) ≡ sizesAfter count (extendBy (now (table .entry)) (now (fans .entry)) missing (pathOf path)) (now (sizes .entry))) ⌝ }
 {
     if missing == 0 {
         keep(rows, sizes, count, path);
         return count + 1;
     }
+    let last = last_of(path);
+    let fan = wide(fans[last]);
+    let base = last * 128;
     let mut found = count;
-    let mut d = 0;
-    while d < directed && found < 257 {
-        if goes_on(table, path, d) {
+    let mut i = 0;
+    while i < fan && found < 257 {
+        let d = wide(table[base + i]);
+        if !uses(path, d / 2) {
             found = extend(
                 table,
-                directed,
+                fans,
                 rows,
                 sizes,
                 found,
@@ -141,7 +176,7 @@ pub fn extend(
                 missing - 1,
             );
         }
-        d += 1;
+        i += 1;
     }
     found
 }
@@ -150,17 +185,18 @@ pub fn extend(
 // as far as 257.
 pub fn list_paths(
     table: &[u8],
+    fans: &[u8],
     directed: usize,
     rows: &mut [u8],
     sizes: &mut [u8],
     count: usize,
     size: usize,
 ) -> usize
-    requires { ⌜ (length (now table) ≡ 16384) × (directed ≤ 128) × (length (now rows) ≡ 4096) × (length (now sizes) ≡ 256) × (count ≤ 257)
-        × (1 ≤ size) × (size ≤ 16) ⌝ }
-    ensures { λ r. ⌜ (r ≡ countAfter count (pathsBy (now (table .entry)) directed size))
-        × (now (rows .exit) ≡ rowsAfter count (pathsBy (now (table .entry)) directed size) (now (rows .entry)))
-        × (now (sizes .exit) ≡ sizesAfter count (pathsBy (now (table .entry)) directed size) (now (sizes .entry))) ⌝ }
+    requires { ⌜ ((d : ℕ) → d < directed → Covered (now table) (now fans) d) × (length (now rows) ≡ 4096) × (length (now sizes) ≡ 256)
+        × (directed ≤ 128) × (count ≤ 257) × (1 ≤ size) × (size ≤ 16) ⌝ }
+    ensures { λ r. ⌜ (r ≡ countAfter count (pathsBy (now (table .entry)) (now (fans .entry)) directed size))
+        × (now (rows .exit) ≡ rowsAfter count (pathsBy (now (table .entry)) (now (fans .entry)) directed size) (now (rows .entry)))
+        × (now (sizes .exit) ≡ sizesAfter count (pathsBy (now (table .entry)) (now (fans .entry)) directed size) (now (sizes .entry))) ⌝ }
 {
     let mut found = count;
     let mut d = 0;
@@ -170,36 +206,95 @@ pub fn list_paths(
             n: 1,
         };
         path.at[0] = d as u8;
-        found = extend(table, directed, rows, sizes, found, path, size - 1);
+        found = extend(table, fans, rows, sizes, found, path, size - 1);
         d += 1;
     }
     found
 }
 
-// Lists a train's runs: paths of l, l + 1, .. l + k segments. Where no path is so long, none is longer.
-// `table` is working memory for the pairs. Answers how many runs there are, as far as 257.
-pub fn list_runs(b: Book, t: Train, table: &mut [u8], rows: &mut [u8], sizes: &mut [u8]) -> usize
-    requires { ⌜ CountsFit b × NumbersFit b × (1 ≤ b .«segment_metres») × (t .metres < 65536) × (t .speed < 65536)
-        × T (reachFits (held b) (heldTrain t))
-        × (length (now table) ≡ 16384) × (length (now rows) ≡ 4096) × (length (now sizes) ≡ 256) ⌝ }
-    ensures { λ r. ⌜ (r ≡ countAfter 0 (runs.runsOf (held b) (heldTrain t)))
-        × (now (rows .exit) ≡ rowsAfter 0 (runs.runsOf (held b) (heldTrain t)) (now (rows .entry)))
-        × (now (sizes .exit) ≡ sizesAfter 0 (runs.runsOf (held b) (heldTrain t)) (now (sizes .entry)))
-        × (now (table .exit) ≡ leadsRows (held b) (2 * b .«segment_count») (now (table .entry))) ⌝ }
+// Extends each of the runs `first` to `count` - 1, of `size` segments each, by one segment, and lists
+// what comes of it behind them; answers how many runs there are then, as far as 257. What is written
+// stands behind what is read.
+pub fn list_longer(
+    table: &[u8],
+    fans: &[u8],
+    rows: &mut [u8],
+    sizes: &mut [u8],
+    first: usize,
+    count: usize,
+    size: usize,
+) -> usize
+    requires { ⌜ (length (now rows) ≡ 4096) × (length (now sizes) ≡ 256) × (first ≤ count) × (count ≤ 257) × (1 ≤ size) × (size < 16)
+        × RunsCovered (now table) (now fans) (now rows) size first count ⌝ }
+    ensures { λ r. ⌜ (r ≡ countAfter count (longerBy (now (table .entry)) (now (fans .entry)) (runsIn (now (rows .entry)) size first count)))
+        × (now (rows .exit) ≡ rowsAfter count
+        (longerBy (now (table .entry)) (now (fans .entry)) (runsIn (now (rows .entry)) size first count)) (now (rows .entry)))
+        × (now (sizes .exit) ≡ sizesAfter count
+        (longerBy (now (table .entry)) (now (fans .entry)) (runsIn (now (rows .entry)) size first count)) (now (sizes .entry))) ⌝ }
 {
-    let l = length_in_segments(b, t);
-    let k = speed_in_segments(b, t);
-    let directed = 2 * b.segment_count;
-    fill_leads(b, table);
-    let mut found = 0;
+    let n = count - first;
+    let mut found = count;
+    let mut i = 0;
+    while i < n && found < 257 {
+        let path = path_at(rows, first + i, size);
+        found = extend(table, fans, rows, sizes, found, path, 1);
+        i += 1;
+    }
+    found
+}
+
+// Lists behind the first `count` runs, of l segments each, the paths that extend them by 1 to k
+// segments, each length from the runs of the length before: where there is none, none is longer.
+// Answers how many runs there are then, as far as 257.
+pub fn list_further(
+    table: &[u8],
+    fans: &[u8],
+    rows: &mut [u8],
+    sizes: &mut [u8],
+    count: usize,
+    l: usize,
+    k: usize,
+) -> usize
+    requires { ⌜ (length (now rows) ≡ 4096) × (length (now sizes) ≡ 256) × (count ≤ 257) × (1 ≤ l) × (l + k ≤ 16)
+        × RunsCovered (now table) (now fans) (now rows) l 0 count ⌝ }
+    ensures { λ r. ⌜ (r ≡ countAfter count (furtherBy (now (table .entry)) (now (fans .entry)) (runsIn (now (rows .entry)) l 0 count) k))
+        × (now (rows .exit) ≡ rowsAfter count
+        (furtherBy (now (table .entry)) (now (fans .entry)) (runsIn (now (rows .entry)) l 0 count) k) (now (rows .entry)))
+        × (now (sizes .exit) ≡ sizesAfter count
+        (furtherBy (now (table .entry)) (now (fans .entry)) (runsIn (now (rows .entry)) l 0 count) k) (now (sizes .entry))) ⌝ }
+{
+    let mut first = 0;
+    let mut found = count;
     let mut j = 0;
-    while j <= k {
-        let next = list_paths(table, directed, rows, sizes, found, l + j);
-        if next == found {
-            return next;
-        }
+    while j < k && first < found {
+        let next = list_longer(table, fans, rows, sizes, first, found, l + j);
+        first = found;
         found = next;
         j += 1;
     }
     found
+}
+
+// Lists a train's runs: the paths of l segments, then those of l + 1, .. l + k. The tables hold the
+// successors of the book's directed segments. Answers how many runs there are, as far as 257.
+pub fn list_runs(
+    b: Book,
+    t: Train,
+    table: &[u8],
+    fans: &[u8],
+    rows: &mut [u8],
+    sizes: &mut [u8],
+) -> usize
+    requires { ⌜ CountsFit b × NumbersFit b × (1 ≤ b .«segment_metres») × (t .metres < 65536) × (t .speed < 65536)
+        × T (reachFits (held b) (heldTrain t))
+        × SuccessorsHeld (held b) (now table) (now fans) × (length (now rows) ≡ 4096) × (length (now sizes) ≡ 256) ⌝ }
+    ensures { λ r. ⌜ (r ≡ countAfter 0 (runs.runsOf (held b) (heldTrain t)))
+        × (now (rows .exit) ≡ rowsAfter 0 (runs.runsOf (held b) (heldTrain t)) (now (rows .entry)))
+        × (now (sizes .exit) ≡ sizesAfter 0 (runs.runsOf (held b) (heldTrain t)) (now (sizes .entry))) ⌝ }
+{
+    let l = length_in_segments(b, t);
+    let k = speed_in_segments(b, t);
+    let directed = 2 * b.segment_count;
+    let found = list_paths(table, fans, directed, rows, sizes, 0, l);
+    list_further(table, fans, rows, sizes, found, l, k)
 }

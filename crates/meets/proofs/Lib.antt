@@ -1,2 +1,4 @@
 pub mod Rows
 pub mod Few
+pub mod Ready
+pub mod Triples

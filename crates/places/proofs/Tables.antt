@@ -1,33 +1,25 @@
 -- The tables that `listing::list_runs` fills hold the runs: each run is a part of the rows, from 16 times its number on, and so are
 -- the places that it starts and ends at. Assumes nothing.
 use mathlib.Core.Path.{_≡_, refl, sym, ap, _∙_}
-use Prim.Native.Nat.{ℕ, zero, suc, _+_, _*_, _-_, _≤_, _<_}
+use Prim.Native.Nat.{ℕ, _+_, _*_, _-_, _≤_, _<_}
 use native.Mathlib.Nat.{add-zero, zero-add}
 use native.Mathlib.Omega.{arith}
-use mathlib.Core.List.{List, [], _∷_, _++_, map, append-nil}
-use lib.ListN.{length, getD, take, drop, replicate, length-map, length-drop, take-append-drop, List·getD-map}
-use lib.Seq.{slice, sets, sets-eq, take-append-add, take-append-seam, drop-append-seam, length-take-le}
-use lib.Dec.{T, leb→le}
-use Rattle.spec.specs.Lists.{Bytes, all, each}
+use mathlib.Core.List.{List, [], _++_, map, append-nil}
+use lib.ListN.{length, getD, take, drop, length-map, length-drop, take-append-drop, List·getD-map}
+use lib.Seq.{slice, sets, length-take-le}
+use lib.Dec.{T}
+use Rattle.spec.specs.Lists.{Bytes, all}
 use Rattle.spec.specs.Runs.{startPlace, endPlace}
-use Rattle.spec.specs.Held.{padded}
-use Rattle.laws.proofs.Tests.{and-iff}
-use Rattle.laws.proofs.Parts.{Part, part-here, part-behind, part-in}
+use Rattle.laws.proofs.Parts.{Part, part-in}
 use Rattle.listing.specs.Listed.{rowsAfter, sizesAfter}
-use Rattle.listing.proofs.Lists.{short, length-padded, length-rows, kept-first, getD-sets-in}
+use Rattle.listing.proofs.Leaves.{part-slice}
+use Rattle.listing.proofs.Lists.{short, kept-first, getD-sets-in}
+use Rattle.listing.proofs.Levels.{part-kept}
 use Rattle.places.specs.Placed.{placeAt, runHeld, endAt}
 
 -- ---- parts
 
 module _ {ℓ} {A : Type ℓ} where
-  -- a part, cut out
-  part-slice : {xs ys : List A} {n : ℕ} (k : ℕ) → Part xs n ys → length ys ≡ k → slice n (n + k) xs ≡ ys
-  part-slice {xs} {ys} k p e =
-      rw (p .whole, ← p .place, ← e)
-      (ap (drop (length (p .front))) (take-append-add (p .front) (ys ++ p .rest) (length ys))
-      ∙ drop-append-seam (p .front) (take (length ys) (ys ++ p .rest))
-      ∙ take-append-seam ys (p .rest))
-
   -- the first n of a row, and what is behind them
   part-take : (n : ℕ) (ys : List A) → Part ys 0 (take n ys)
   part-take n ys = record { front = []; rest = drop n ys; whole = sym (take-append-drop n ys); place = refl }
@@ -39,26 +31,6 @@ module _ {ℓ} {A : Type ℓ} where
     whole = sym (ap (λ (l : List A). take n ys ++ l) (append-nil (drop n ys)) ∙ take-append-drop n ys);
     place = length-take-le n ys h;
   }
-
-  -- what is stored from the start on is there
-  part-sets : (vs l : List A) → length vs ≤ length l → Part (sets l 0 vs) 0 vs
-  part-sets vs l h = record {
-    front = [];
-    rest = drop (0 + length vs) l;
-    whole = sets-eq vs l 0 (omega arith);
-    place = refl;
-  }
-
--- the row of the run with a number
-part-row : (xs : List (List ℕ)) (r : ℕ) → T (all short xs) → r < length xs
-    → Part (each xs (padded 16 0)) (16 * r) (padded 16 0 (getD xs r []))
-unfolding all each
-part-row [] r s h = let no′ : ⊥ = omega arith in absurd no′
-part-row (x ∷ xs) zero s h = part-here (padded 16 0 x) (each xs (padded 16 0))
-part-row (x ∷ xs) (suc r) s h =
-    let p = and-iff (short x) (all short xs) .0 s in
-    let e : length (padded 16 0 x) + 16 * r ≡ 16 * suc r = omega (arith, length-padded x (leb→le (length x) 16 (p .0))) in
-    rw e at (part-in (part-behind (padded 16 0 x) (each xs (padded 16 0))) (part-row xs r (p .1) (omega arith)))
 
 -- ---- the tables
 
@@ -83,11 +55,7 @@ module _ (runs : List (List ℕ)) (rows₀ sizes₀ : Bytes) (room : length rows
 
   -- the run is a part of the rows
   part-run : Part rows (16 * r) run
-  unfolding rowsAfter padded
-  part-run =
-      let stored = part-sets (each runs (padded 16 0)) rows₀ (omega (arith, length-rows runs fit)) in
-      let here = part-in (part-in stored (part-row runs r fit h)) (part-here run (replicate (16 - length run) 0)) in
-      rw (kept-first 0 runs [] (omega arith)) (rw (add-zero, zero-add) at here)
+  part-run = rw zero-add at (part-kept 0 runs rows₀ room (omega arith) fit r h)
 
   pub run-held : runHeld rows sizes r ≡ run
   unfolding runHeld placeAt

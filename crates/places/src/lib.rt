@@ -11,7 +11,7 @@ ghost use mathlib.Core.Path.{_≡_};
 ghost use mathlib.Core.Bool.{not, _&&_};
 ghost use Prim.Native.Nat.{_+_, _*_, _≤_, _<_};
 ghost use lib.ListN.{length, getD};
-ghost use lib.Dec.{T};
+ghost use lib.Dec.{T, leb};
 ghost use Rattle.spec.specs.Lists.{all, same};
 ghost use Rattle.spec.specs.Book.{goalOf, shareNode};
 ghost use Rattle.spec.specs.Runs as runs;
@@ -50,6 +50,15 @@ pub fn same_places(rows: &[u8], at: usize, others: &[u8], from: usize, l: usize)
         i += 1;
     }
     true
+}
+
+// Whether run q follows run r: it starts at the place that run r ends at.
+pub fn follows(rows: &[u8], sizes: &[u8], r: usize, q: usize, l: usize) -> bool
+    requires { ⌜ (length (now rows) ≡ 4096) × (length (now sizes) ≡ 256) × (r < 256) × (q < 256)
+        × (l ≤ getD (now sizes) r 0) × (getD (now sizes) r 0 ≤ 16) ⌝ }
+    ensures { λ v. ⌜ v ≡ same (placeAt (now (rows .entry)) (endAt (now (sizes .entry)) r l) l) (placeAt (now (rows .entry)) (16 * q) l) ⌝ }
+{
+    same_places(rows, end_of(sizes, r, l), rows, start_of(q), l)
 }
 
 // Whether a place of l directed segments is the one that the train is given.
@@ -92,6 +101,13 @@ pub fn given_serves(b: Book, c: Call, t: Train) -> bool
 {
     let place = t.place;
     serves(b, c, &place, 0, t.size)
+}
+
+// Whether the time is in the call's window.
+pub fn in_window(c: Call, time: usize) -> bool
+    ensures { λ r. ⌜ r ≡ (leb (c .first) time && leb time (c .last)) ⌝ }
+{
+    c.first <= time && time <= c.last
 }
 
 // A train's goal: its last call in the file, or zeros where it has none.

@@ -54,7 +54,7 @@ pub fn open_text(book: &[u8], words: &mut [i32], line: &mut [u8]) -> Opened
 }
 
 // Hands the first n bytes of the buffer to the output; answers whether it took them.
-fn print(buf: &[u8], n: usize) -> bool {
+pub fn print(buf: &[u8], n: usize) -> bool {
     if n <= buf.len() {
         return io::write_all(STDOUT_FILENO, &buf[..n]);
     }

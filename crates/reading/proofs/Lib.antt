@@ -5,3 +5,4 @@ pub mod Ends
 pub mod Whole
 pub mod Way
 pub mod Accepted
+pub mod Verdicts

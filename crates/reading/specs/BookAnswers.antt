@@ -12,11 +12,17 @@ use Rattle.spec.specs.Read.{Reading, frameFaults, pastFrame, isHead, isEnd, kin
 use Rattle.spec.specs.Held.{held, packed}
 use Rattle.content.specs.Added.{settled}
 use Rattle.content.specs.declared.Added.{Added}
+use Rattle.reading.specs.declared.Answer.{Answer}
 use Rattle.reading.specs.declared.Answer.the-variants.{Accepted, Refused}
 use Rattle.reading.specs.declared.BookRead.{BookRead}
 use Rattle.reading.specs.declared.Next.{Next}
 use Rattle.reading.specs.declared.Next.the-variants.{Stop, End, More}
 use Rattle.reading.specs.declared.Stepped.{Stepped}
+
+-- a verdict, without its result
+abbrev pub answerOf : {A : Type 0} → Verdict A → Answer
+answerOf (accepted a) = Accepted
+answerOf (refused n d) = Refused n d
 
 -- a verdict on a book, with the book by value, or the empty one beside a refusal
 abbrev pub bookReadOf : Verdict Book → BookRead

@@ -23,6 +23,7 @@ use frames::UnbreakableFrame;
 use frames::frame_at;
 use frames::out_of_order;
 use frames::rank;
+use listing::fill_successors;
 use listing::list_runs;
 use model::Book;
 use model::Call;
@@ -239,12 +240,14 @@ pub fn few_runs(b: Book) -> bool
 {
     let n = b.train_count;
     let mut table = [0u8; 16384];
+    let mut fans = [0u8; 128];
+    fill_successors(b, &mut table, &mut fans);
     let mut rows = [0u8; 4096];
     let mut sizes = [0u8; 256];
     let mut i = 0;
     while i < n {
         let t = b.trains[i];
-        if 256 < list_runs(b, t, &mut table, &mut rows, &mut sizes) {
+        if 256 < list_runs(b, t, &table, &fans, &mut rows, &mut sizes) {
             return false;
         }
         i += 1;

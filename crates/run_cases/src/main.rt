@@ -1,13 +1,14 @@
 // Reads cases from standard input, two bytes of length and a book's bytes each, and prints the runs of
 // each train of each book: how many it has, and a line for each, its directed segments in path order,
-// then the numbers of the places that it starts at and ends at. A place's number is the first run that
-// starts there. Of a refused book a line has the refusal's number and detail.
+// then the first run that follows it and the next run that starts where it does, or the number of runs
+// where there is none. Of a refused book a line has the refusal's number and detail.
 use frames::pair;
 use libc::STDOUT_FILENO;
 use model::Book;
 use reading::Answer;
 use reading::read_book;
-use tables::fill_trains;
+use tables::chain_trains;
+use tables::fill_runs;
 use track::wide;
 ghost use mathlib.Core.Path.{_≡_};
 ghost use Prim.Native.Nat.{_≤_, _<_};
@@ -31,15 +32,15 @@ fn print_path(path: &[u8], n: usize) {
 }
 
 // The run whose entry in each table is number `at`.
-fn print_run(at: usize, rows: &[u8], sizes: &[u8], starts: &[usize], ends: &[usize])
+fn print_run(at: usize, rows: &[u8], sizes: &[u8], firsts: &[usize], nexts: &[usize])
     requires { ⌜ (at < 2048) × (length (now rows) ≡ 32768) × (length (now sizes) ≡ 2048)
-        × (length (now starts) ≡ 2048) × (length (now ends) ≡ 2048) ⌝ }
+        × (length (now firsts) ≡ 2048) × (length (now nexts) ≡ 2048) ⌝ }
 {
     let row = at * 16;
     print_path(&rows[row..row + 16], wide(sizes[at]));
     io::write_all(STDOUT_FILENO, b"| ");
-    print_number(starts[at], b' ');
-    print_number(ends[at], b'\n');
+    print_number(firsts[at], b' ');
+    print_number(nexts[at], b'\n');
 }
 
 fn print_head(train: usize, n: usize) {
@@ -51,14 +52,14 @@ fn print_head(train: usize, n: usize) {
 }
 
 // A train of n runs.
-fn print_train(train: usize, n: usize, rows: &[u8], sizes: &[u8], starts: &[usize], ends: &[usize])
+fn print_train(train: usize, n: usize, rows: &[u8], sizes: &[u8], firsts: &[usize], nexts: &[usize])
     requires { ⌜ (train < 8) × (length (now rows) ≡ 32768) × (length (now sizes) ≡ 2048)
-        × (length (now starts) ≡ 2048) × (length (now ends) ≡ 2048) ⌝ }
+        × (length (now firsts) ≡ 2048) × (length (now nexts) ≡ 2048) ⌝ }
 {
     print_head(train, n);
     let mut run = 0;
     while run < 256 && run < n {
-        print_run(train * 256 + run, rows, sizes, starts, ends);
+        print_run(train * 256 + run, rows, sizes, firsts, nexts);
         run += 1;
     }
 }
@@ -69,15 +70,15 @@ fn print_trains(
     counts: [usize; 8],
     rows: &[u8],
     sizes: &[u8],
-    starts: &[usize],
-    ends: &[usize],
+    firsts: &[usize],
+    nexts: &[usize],
 )
     requires { ⌜ (length (now rows) ≡ 32768) × (length (now sizes) ≡ 2048)
-        × (length (now starts) ≡ 2048) × (length (now ends) ≡ 2048) ⌝ }
+        × (length (now firsts) ≡ 2048) × (length (now nexts) ≡ 2048) ⌝ }
 {
     let mut i = 0;
     while i < 8 && i < n {
-        print_train(i, counts[i], rows, sizes, starts, ends);
+        print_train(i, counts[i], rows, sizes, firsts, nexts);
         i += 1;
     }
 }
@@ -88,10 +89,11 @@ fn print_book(b: Book)
 {
     let mut rows = [0u8; 32768];
     let mut sizes = [0u8; 2048];
-    let mut starts = [0usize; 2048];
-    let mut ends = [0usize; 2048];
-    let counts = fill_trains(b, &mut rows, &mut sizes, &mut starts, &mut ends);
-    print_trains(b.train_count, counts, &rows, &sizes, &starts, &ends);
+    let mut firsts = [0usize; 2048];
+    let mut nexts = [0usize; 2048];
+    let counts = fill_runs(b, &mut rows, &mut sizes);
+    chain_trains(b, counts, &rows, &sizes, &mut firsts, &mut nexts);
+    print_trains(b.train_count, counts, &rows, &sizes, &firsts, &nexts);
 }
 
 fn print_refusal(number: usize, detail: usize) {

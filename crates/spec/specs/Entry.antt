@@ -89,12 +89,15 @@ unfoldable pub judgeAssignment : Instance → Bytes → Verdict (Unit {0})
 judgeAssignment I s =
     andThen (demand (assignmentFits I s) 13) λ _. findNone (firstFalse (assigned s) 1 (formula I)) 14
 
-unfoldable pub checkAssignment : Bytes → Bytes → ℕ → Verdict Bytes
-checkAssignment book assignment outLength =
-    andThen (readInstance book) λ I.
+-- of an instance: 12, then the judgement, then the plan that it decodes to
+unfoldable pub decodedFor : Instance → Bytes → ℕ → Verdict Bytes
+decodedFor I assignment outLength =
     andThen (demand (leb (planLength I) outLength) 12) λ _.
     andThen (judgeAssignment I assignment) λ _.
     accepted (decode I assignment)
+
+unfoldable pub checkAssignment : Bytes → Bytes → ℕ → Verdict Bytes
+checkAssignment book assignment outLength = andThen (readInstance book) λ I. decodedFor I assignment outLength
 
 -- what the output holds after the call
 unfoldable pub planOutput : Bytes → Bytes → Bytes → Bytes
@@ -106,12 +109,15 @@ planOutput book assignment old = overwrite old (written (checkAssignment book as
 unfoldable pub judgePlan : Instance → Bytes → Verdict (Unit {0})
 judgePlan I s = andThen (demand (planFits I s) 15) λ _. findNone (brokenRule I (planOf I s)) 16
 
-unfoldable pub checkPlan : Bytes → Bytes → ℕ → Verdict Bytes
-checkPlan book plan outLength =
-    andThen (readInstance book) λ I.
+-- of an instance: 12, then the judgement, then the assignment that it is written as
+unfoldable pub encodedFor : Instance → Bytes → ℕ → Verdict Bytes
+encodedFor I plan outLength =
     andThen (demand (leb (variables I) outLength) 12) λ _.
     andThen (judgePlan I plan) λ _.
     accepted (encode I (planOf I plan))
+
+unfoldable pub checkPlan : Bytes → Bytes → ℕ → Verdict Bytes
+checkPlan book plan outLength = andThen (readInstance book) λ I. encodedFor I plan outLength
 
 -- what the output holds after the call
 unfoldable pub assignmentOutput : Bytes → Bytes → Bytes → Bytes

@@ -93,6 +93,11 @@ unfoldable pub firstFault : List Fault → Option ℕ
 firstFault [] = none
 firstFault (f ∷ fs) = elim (f .holds) [ true ↦ some (f .number) | false ↦ firstFault fs ]
 
+-- the number that was found, or 0
+unfoldable pub orZero : Option ℕ → ℕ
+orZero none = 0
+orZero (some n) = n
+
 -- What a check gives: its result, or a refusal's number and detail.
 pub data Verdict (A : Type 0) : Type 0 where
   accepted : A → Verdict A

@@ -1,22 +1,13 @@
--- The least number that passes a test: step by step, that it passes, that none before it does, and that it is the same for tests
--- that agree. Assumes nothing.
+-- The least number that passes a test: step by step, where it lies, that it passes, that none before it does, and that it is the
+-- same for tests that agree. Assumes nothing.
 use mathlib.Core.Path.{_≡_, refl, ap, _∙_, subst}
 use mathlib.Core.Logic.{⊎-elim}
 use mathlib.Core.Bool.{Bool, true, false}
-use Prim.Native.Nat.{ℕ, zero, suc, _+_, _*_, _-_, _≤_, _<_}
+use Prim.Native.Nat.{ℕ, zero, suc, _+_, _-_, _≤_, _<_}
 use native.Mathlib.Omega.{arith}
 use lib.Dec.{T}
-use Rattle.spec.specs.Lists.{Bytes, same}
 use Rattle.laws.proofs.Tests.{from-true, from-false, le-or-lt}
-use Rattle.places.specs.Placed.{placeAt}
 use Rattle.tables.specs.Tables.{leastFrom}
-
--- run p starts at the place that lies at `at`; the number of that place, by the tables
-abbrev pub startsAt : Bytes → ℕ → ℕ → ℕ → Bool
-startsAt rows l at p = same (placeAt rows at l) (placeAt rows (16 * p) l)
-
-abbrev pub numberAt : Bytes → ℕ → ℕ → ℕ → ℕ
-numberAt rows l n at = leastFrom (startsAt rows l at) 0 n
 
 -- the rest of a search in case of this test, from a on
 abbrev searched : (ℕ → Bool) → ℕ → ℕ → Bool → ℕ
@@ -41,7 +32,18 @@ module _ (f : ℕ → Bool) where
     unfolding leastFrom
     least-end l = let k : n - a ≡ 0 = omega arith in ap (leastFrom f a) k
 
-  -- what is found passes
+  -- what is found is one of the numbers, or the one behind them
+  pub least-from : (a n : ℕ) → (a ≤ leastFrom f a n) × (leastFrom f a n ≤ a + n)
+  unfolding leastFrom
+  least-from a zero = (omega arith, omega arith)
+  least-from a (suc n) = go (f a) (least-from (suc a) n)
+    where
+      go : (b : Bool) → (suc a ≤ leastFrom f (suc a) n) × (leastFrom f (suc a) n ≤ suc a + n)
+          → (a ≤ searched f a n b) × (searched f a n b ≤ a + suc n)
+      go true rest = (omega arith, omega arith)
+      go false rest = (omega arith, omega arith)
+
+  -- it passes
   pub least-holds : (a n : ℕ) → leastFrom f a n < a + n → T (f (leastFrom f a n))
   unfolding leastFrom
   least-holds a zero h = let no′ : ⊥ = omega arith in absurd no′

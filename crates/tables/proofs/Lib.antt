@@ -2,3 +2,10 @@ pub mod Least
 pub mod Trains
 pub mod Lookups
 pub mod Passing
+pub mod Small
+pub mod Answers
+pub mod Held
+pub mod Here
+pub mod Chains
+pub mod Filled
+pub mod Turned

@@ -1,24 +1,16 @@
--- What is found in the tables: a train's part of each, an entry of it, and that a run follows another exactly where the numbers of
--- the places are equal. Assumes nothing.
-use mathlib.Core.Path.{_≡_, refl, sym, ap, ap₂, _∙_}
+-- What is found in the tables: a train's part of each, and an entry of it. Assumes nothing.
+use mathlib.Core.Path.{_≡_, refl, sym, ap, _∙_}
 use mathlib.Core.Logic.{⊎-elim}
 use Prim.Native.Nat.{ℕ, zero, suc, _+_, _*_, _-_, _≤_, _<_}
 use native.Mathlib.Nat.{zero-add, suc-mul, mul-le-mul-right}
 use native.Mathlib.Omega.{arith}
-use mathlib.Core.List.{List, [], _++_, append-assoc}
-use lib.ListN.{length, getD, take, drop, length-append, length-drop, length-map}
+use mathlib.Core.List.{List, _++_, append-assoc}
+use lib.ListN.{length, getD, take, drop, length-append, length-drop}
 use lib.Seq.{slice, sets, length-take-le, length-slice, take-at, drop-at, take-add, take-take, drop-drop}
 use lib.Seq.{take-append-le, take-append-add, drop-append-add}
-use lib.Dec.{eqb}
-use Rattle.spec.specs.Lists.{same}
-use Rattle.spec.specs.Book.{Book}
-use Rattle.spec.specs.Runs.{startPlace, endPlace}
-use Rattle.spec.specs.Instance.{instanceOf, compile, trainLength, runAt}
-use Rattle.laws.proofs.Tests.{bool-ext, eqb-iff, same-iff, le-or-lt}
-use Rattle.demands.proofs.Wellformed.{map-at}
+use Rattle.laws.proofs.Tests.{le-or-lt}
 use Rattle.listing.proofs.Lists.{getD-sets-in}
-use Rattle.tables.specs.Tables.{runsAt, placeNumber, startNumbers, endNumbers, filled}
-use Rattle.tables.proofs.Least.{least-holds, least-first}
+use Rattle.tables.specs.Tables.{filled}
 
 -- ---- a part that is replaced
 
@@ -134,62 +126,8 @@ module _ {ℓ} {A : Type ℓ} (f : ℕ → List A → List A) (keeps : (i : ℕ)
       ∙ ap (λ (k : ℕ). f k (part k old)) (sym same))
       (le-or-lt (suc i) n)
 
--- ---- the numbers of places
+-- ---- an entry
 
 -- what is stored from the start on is found there
 pub stored-at : (old vs : List ℕ) (r : ℕ) → r < length vs → length vs ≤ length old → getD (sets old 0 vs) r 0 ≡ getD vs r 0
 stored-at old vs r l fits = rw zero-add at (getD-sets-in old 0 vs r 0 l (omega arith))
-
-module _ (b : Book) (i r : ℕ) (old : List ℕ) (l : r < length (runsAt b i)) (fits : length (runsAt b i) ≤ length old) where
-  pub starts-held : getD (sets old 0 (startNumbers b i)) r 0 ≡ getD (startNumbers b i) r 0
-  unfolding startNumbers
-  starts-held = stored-at old (startNumbers b i) r (simp length-map l) (simp length-map fits)
-
-  pub ends-held : getD (sets old 0 (endNumbers b i)) r 0 ≡ getD (endNumbers b i) r 0
-  unfolding endNumbers
-  ends-held = stored-at old (endNumbers b i) r (simp length-map l) (simp length-map fits)
-
-module _ (b : Book) (i : ℕ) where
-  -- the places that a run starts at and ends at
-  abbrev startOf : ℕ → List ℕ
-  startOf q = startPlace (trainLength b i) (getD (runsAt b i) q [])
-
-  abbrev endOf : ℕ → List ℕ
-  endOf r = endPlace (trainLength b i) (getD (runsAt b i) r [])
-
-  start-number : (q : ℕ) → q < length (runsAt b i) → getD (startNumbers b i) q 0 ≡ placeNumber b i (startOf q)
-  unfolding startNumbers
-  start-number q l = map-at (λ run. placeNumber b i (startPlace (trainLength b i) run)) (runsAt b i) q [] 0 l
-
-  end-number : (r : ℕ) → r < length (runsAt b i) → getD (endNumbers b i) r 0 ≡ placeNumber b i (endOf r)
-  unfolding endNumbers
-  end-number r l = map-at (λ run. placeNumber b i (endPlace (trainLength b i) run)) (runsAt b i) r [] 0 l
-
-  -- a number that is some run's is of the place that the run starts at
-  number-of : (place : List ℕ) → placeNumber b i place < length (runsAt b i) → place ≡ startOf (placeNumber b i place)
-  unfolding placeNumber runAt runsAt
-  number-of place h =
-      same-iff _ _ .0 (least-holds (λ p. same place (startOf p)) 0 (length (runsAt b i)) (omega arith))
-
-  -- a place that some run starts at has such a number
-  number-below : (q : ℕ) → q < length (runsAt b i) → placeNumber b i (startOf q) < length (runsAt b i)
-  unfolding placeNumber runAt runsAt
-  number-below q l =
-      let first = least-first (λ p. same (startOf q) (startOf p)) 0 (length (runsAt b i)) q in
-      omega (arith, first (omega arith) (omega arith) (same-iff _ _ .1 refl))
-
-  -- so two places with one number, which some run starts at, are the same
-  numbers-same : (place : List ℕ) (q : ℕ) → q < length (runsAt b i) → placeNumber b i place ≡ placeNumber b i (startOf q)
-      → place ≡ startOf q
-  numbers-same place q l e =
-      number-of place (rw e (number-below q l)) ∙ ap startOf e ∙ sym (number-of (startOf q) (number-below q l))
-
--- A run follows another exactly where the number of its start is that of the other's end.
-pub follows-held : (b : Book) (i r q : ℕ) → r < length (runsAt b i) → q < length (runsAt b i)
-    → eqb (getD (endNumbers b i) r 0) (getD (startNumbers b i) q 0) ≡ instanceOf b .follows i r q
-unfolding instanceOf compile runAt runsAt
-follows-held b i r q l k =
-    ap₂ eqb (end-number b i r l) (start-number b i q k)
-    ∙ bool-ext _ _
-    (λ t. same-iff _ _ .1 (numbers-same b i (endOf b i r) q k (eqb-iff _ _ .0 t)))
-    (λ t. eqb-iff _ _ .1 (ap (placeNumber b i) (same-iff (endOf b i r) (startOf b i q) .0 t)))

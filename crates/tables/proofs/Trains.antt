@@ -1,39 +1,33 @@
--- A train of a book that passed: its numbers, its runs and how long they are; and the numbers of places, found in the tables that
--- hold the runs, are those of the book. Assumes nothing.
-use mathlib.Core.Path.{_≡_, sym, ap, ap₂, _∙_}
+-- A train of a book that passed: its numbers, its runs and how long they are; and the tables that hold the runs hold the places that
+-- they start and end at. Assumes nothing.
+use mathlib.Core.Path.{_≡_, ap, _∙_}
 use mathlib.Core.Bool.{Bool, _&&_}
-use Prim.Native.Nat.{ℕ, _+_, _*_, _≤_, _<_}
+use Prim.Native.Nat.{ℕ, _*_, _≤_, _<_}
 use native.Mathlib.Omega.{arith}
-use mathlib.Core.List.{List, [], map, map-map, List·Memᴰ}
-use lib.ListN.{length, getD, take, drop, length-map, length-take}
-use lib.Seq.{sets, sets-eq, take-append-seam, take-length, getD-take}
-use lib.Dec.{T, leb, ltb}
+use mathlib.Core.List.{List, [], List·Memᴰ}
+use lib.ListN.{length, getD, take, length-map, length-take}
+use lib.Seq.{getD-take}
+use lib.Dec.{T, ltb}
 use Rattle.model.specs.declared.Book.{Book as BookStruct}
 use Rattle.model.specs.declared.Train.{Train as TrainStruct}
-use Rattle.spec.specs.Lists.{Bytes, all, upTo, same}
+use Rattle.spec.specs.Lists.{Bytes, all}
 use Rattle.spec.specs.Book.{Book, Train, trainAt, lengthInSegments}
 use Rattle.spec.specs.Runs.{runsOf, startPlace, endPlace}
 use Rattle.spec.specs.Read.{headFits, reachFits}
-use Rattle.spec.specs.Instance.{runLists, runAt, trainLength}
+use Rattle.spec.specs.Instance.{runLists, trainLength}
 use Rattle.spec.specs.Held.{held, heldTrain}
 use Rattle.laws.proofs.Tests.{and-iff, leb-iff, ltb-iff, all-iff, getD-mem}
 use Rattle.laws.proofs.Rows.{all-map}
-use Rattle.laws.proofs.Parts.{map-same, singles}
 use Rattle.track.proofs.Walks.{all-take-at}
 use Rattle.demands.proofs.Wellformed.{parts, map-at}
 use Rattle.demands.proofs.RunLists.{runs-iff}
 use Rattle.listing.specs.Listed.{rowsAfter, sizesAfter, countAfter}
-use Rattle.listing.proofs.Lists.{short, reach, kept-first}
+use Rattle.listing.proofs.Lists.{short, reach}
 use Rattle.places.specs.Placed.{placeAt, endAt}
 use Rattle.places.proofs.Tables.{start-held, end-held}
-use Rattle.tables.specs.Tables.{Passed, runsAt, placeNumber, startNumbers, endNumbers}
-use Rattle.tables.proofs.Least.{numberAt, least-same}
+use Rattle.tables.specs.Tables.{Passed, runsAt}
 
 -- ---- runs
-
--- a run's length is between l and 16
-abbrev sized : ℕ → ℕ → Bool
-sized l s = leb l s && leb s 16
 
 module _ (b : Book) (t : Train) (fits : T (reachFits b t)) where
   pub run-length : (run : List ℕ) → List·Memᴰ run (runsOf b t) → (lengthInSegments b t ≤ length run) × (length run ≤ 16)
@@ -44,49 +38,6 @@ module _ (b : Book) (t : Train) (fits : T (reachFits b t)) where
 
   runs-short : T (all short (runsOf b t))
   runs-short = all-iff short (runsOf b t) .1 (λ run m. leb-iff (length run) 16 .1 (run-length run m .1))
-
-  runs-sized : T (all (sized (lengthInSegments b t)) (map length (runsOf b t)))
-  runs-sized =
-      rw all-map
-      (all-iff (λ run. sized (lengthInSegments b t) (length run)) (runsOf b t) .1
-      (λ run m. simp (and-iff, leb-iff) (run-length run m)))
-
--- what is stored from the start on is there
-pub take-sets {ℓ} : {A : Type ℓ} (l vs : List A) → length vs ≤ length l → take (length vs) (sets l 0 vs) ≡ vs
-take-sets l vs h =
-    ap (take (length vs)) (sets-eq vs l 0 (omega arith)) ∙ take-append-seam vs (drop (0 + length vs) l)
-
--- the lengths of the runs, as the table has them
-lengths-kept : (runs : List (List ℕ)) (old : Bytes) → length old ≡ 256 → length runs ≤ 256
-    → take (length runs) (sizesAfter 0 runs old) ≡ map length runs
-unfolding sizesAfter
-lengths-kept runs old e few =
-    ap₂ (λ (n : ℕ) (xs : List (List ℕ)). take n (sets old 0 (map length xs))) (sym (length-map runs length))
-    (kept-first 0 runs [] (omega arith))
-    ∙ take-sets old (map length runs) (omega (arith, length-map runs length))
-
--- ---- numbers of places
-
--- the numbers of the places of a train's runs, one by one
-module _ (b : Book) (i : ℕ) (rows : Bytes) (starts : (p : ℕ) → p < length (runsAt b i)
-    → placeAt rows (16 * p) (trainLength b i) ≡ startPlace (trainLength b i) (getD (runsAt b i) p [])) where
-  abbrev found : ℕ → ℕ
-  found at = numberAt rows (trainLength b i) (length (runsAt b i)) at
-
-  -- a place in the tables has its number in the book
-  number-held : (at : ℕ) (place : List ℕ) → placeAt rows at (trainLength b i) ≡ place → found at ≡ placeNumber b i place
-  unfolding placeNumber runAt runsAt
-  number-held at place e = least-same _ _ 0 (length (runsAt b i)) (λ p l k. ap₂ same e (starts p (omega arith)))
-
-  numbers-held : (at : ℕ → ℕ) (place : List ℕ → List ℕ)
-      → ((r : ℕ) → r < length (runsAt b i) → placeAt rows (at r) (trainLength b i) ≡ place (getD (runsAt b i) r []))
-      → map (λ r. found (at r)) (upTo (length (runsAt b i))) ≡ map (λ run. placeNumber b i (place run)) (runsAt b i)
-  numbers-held at place e =
-      let runs = runsAt b i in
-      map-same (λ r. found (at r)) (λ r. placeNumber b i (place (getD runs r []))) (length runs)
-      (λ r l. number-held (at r) (place (getD runs r [])) (e r l))
-      ∙ sym (map-map (λ run. placeNumber b i (place run)) (λ r. getD runs r []) (upTo (length runs)))
-      ∙ ap (map (λ run. placeNumber b i (place run))) (singles runs [] (length runs) (omega arith) ∙ take-length runs)
 
 -- ---- a train of the struct
 
@@ -141,20 +92,19 @@ module _ (b : BookStruct) (h : Passed b) where
 
 -- ---- the tables of a train
 
--- what `list_runs` filled, with the train's l
-pub record Filled (b : BookStruct) (i : ℕ) (rows₀ sizes₀ : Bytes) (l n : ℕ) (rows sizes : Bytes) : Type 0 where
+-- what `list_runs` filled
+pub record Filled (b : BookStruct) (i : ℕ) (rows₀ sizes₀ : Bytes) (n : ℕ) (rows sizes : Bytes) : Type 0 where
   pub passed : Passed b
   pub below : i < b .«train_count»
   pub fits : b .«train_count» ≤ length (b .trains)
   pub room : length rows₀ ≡ 4096
   pub space : length sizes₀ ≡ 256
-  pub reached : l ≡ lengthInSegments (held b) (heldTrain (getD (b .trains) i noTrain))
   pub counted : n ≡ countAfter 0 (runsOf (held b) (heldTrain (getD (b .trains) i noTrain)))
   pub listed : rows ≡ rowsAfter 0 (runsOf (held b) (heldTrain (getD (b .trains) i noTrain))) rows₀
   pub measured : sizes ≡ sizesAfter 0 (runsOf (held b) (heldTrain (getD (b .trains) i noTrain))) sizes₀
 
-module _ {b : BookStruct} {i : ℕ} {rows₀ sizes₀ : Bytes} {l n : ℕ} {rows sizes : Bytes}
-    (k : Filled b i rows₀ sizes₀ l n rows sizes) where
+module _ {b : BookStruct} {i : ℕ} {rows₀ sizes₀ : Bytes} {n : ℕ} {rows sizes : Bytes}
+    (k : Filled b i rows₀ sizes₀ n rows sizes) where
   abbrev runs : List (List ℕ)
   runs = runsAt (held b) i
 
@@ -173,9 +123,6 @@ module _ {b : BookStruct} {i : ℕ} {rows₀ sizes₀ : Bytes} {l n : ℕ} {rows
   pub are-short : T (all short runs)
   are-short = rw same-runs (runs-short (held b) _ fit)
 
-  reach-is : l ≡ reached
-  reach-is = k .reached ∙ sym (length-held b (k .passed) i (k .below) (k .fits))
-
   pub are-long : (r : ℕ) → r < length runs → reached ≤ length (getD runs r [])
   are-long r m =
       rw (same-runs, length-held b (k .passed) i (k .below) (k .fits))
@@ -191,12 +138,7 @@ module _ {b : BookStruct} {i : ℕ} {rows₀ sizes₀ : Bytes} {l n : ℕ} {rows
   pub sizes-held : sizes ≡ sizesAfter 0 runs sizes₀
   sizes-held = rw same-runs (k .measured)
 
-  -- every length is between l and 16
-  pub sizes-fit : T (all (sized l) (take n sizes))
-  sizes-fit =
-      rw (count-held .0, sizes-held, lengths-kept runs sizes₀ (k .space) few, k .reached, same-runs) (runs-sized (held b) _ fit)
-
-  -- the numbers found are those of the book
+  -- the places that a run starts and ends at
   abbrev table : Bytes
   table = rowsAfter 0 runs rows₀
 
@@ -208,14 +150,3 @@ module _ {b : BookStruct} {i : ℕ} {rows₀ sizes₀ : Bytes} {l n : ℕ} {rows
 
   pub ends : (r : ℕ) → r < length runs → placeAt table (endAt lengths r reached) reached ≡ endPlace reached (getD runs r [])
   ends r m = end-held runs rows₀ sizes₀ (k .room) (k .space) few are-short r m reached (are-long r m)
-
-  pub starts-numbered : map (λ r. numberAt rows l n (16 * r)) (upTo n) ≡ startNumbers (held b) i
-  unfolding startNumbers
-  starts-numbered =
-      rw (reach-is, count-held .0, rows-held) (numbers-held (held b) i table starts (λ r. 16 * r) (startPlace reached) starts)
-
-  pub ends-numbered : map (λ r. numberAt rows l n (endAt sizes r l)) (upTo n) ≡ endNumbers (held b) i
-  unfolding endNumbers
-  ends-numbered =
-      rw (reach-is, count-held .0, rows-held, sizes-held)
-      (numbers-held (held b) i table starts (λ r. endAt lengths r reached) (endPlace reached) ends)

@@ -1,18 +1,18 @@
--- The tables that the formula and the checks look things up in: each train's runs, the number of the place that a run starts at
--- and of the one that it ends at. Assumes nothing.
+-- The tables that the formula and the checks look things up in: each train's runs, and the chains of the runs that follow a run.
+-- Assumes nothing.
 use mathlib.Core.Bool.{Bool, true, false}
-use Prim.Native.Nat.{ℕ, zero, suc, _+_, _*_}
+use Prim.Native.Nat.{ℕ, zero, suc, _+_, _*_, _-_}
 use mathlib.Core.List.{List, [], _++_, map}
-use lib.ListN.{length, getD, take, drop}
+use lib.ListN.{getD, take, drop}
 use lib.Seq.{slice}
 use lib.Dec.{T}
 use Rattle.model.specs.declared.Book.{Book as BookStruct}
-use Rattle.spec.specs.Lists.{same}
+use Rattle.spec.specs.Lists.{upTo, same}
 use Rattle.spec.specs.Book.{Book}
 use Rattle.spec.specs.BookFile.{FitsFields}
-use Rattle.spec.specs.Runs.{startPlace, endPlace}
+use Rattle.spec.specs.Runs.{startPlace}
 use Rattle.spec.specs.Read.{wellFormed}
-use Rattle.spec.specs.Instance.{runLists, runAt, trainLength}
+use Rattle.spec.specs.Instance.{instanceOf, runLists, runAt, trainLength}
 use Rattle.spec.specs.Held.{held}
 use Rattle.content.specs.Added.{Packed}
 
@@ -31,16 +31,18 @@ unfoldable pub leastFrom : (ℕ → Bool) → ℕ → ℕ → ℕ
 leastFrom f a zero = a
 leastFrom f a (suc n) = elim (f a) [ true ↦ a | false ↦ leastFrom f (suc a) n ]
 
--- A place's number: the first run that starts there, or the number of runs where none does.
-unfoldable pub placeNumber : Book → ℕ → List ℕ → ℕ
-placeNumber b i place = leastFrom (λ p. same place (startPlace (trainLength b i) (runAt (runLists b) i p))) 0 (length (runsAt b i))
+-- The first run of a train that follows each run; and of each run the next that starts at the same place. The number of runs where
+-- there is none.
+unfoldable pub firstFollowers : Book → ℕ → List ℕ
+firstFollowers b i =
+    let n = instanceOf b .runs i in
+    map (λ r. leastFrom (instanceOf b .follows i r) 0 n) (upTo n)
 
--- the numbers of the places that a train's runs start at, and end at
-unfoldable pub startNumbers : Book → ℕ → List ℕ
-startNumbers b i = map (λ run. placeNumber b i (startPlace (trainLength b i) run)) (runsAt b i)
-
-unfoldable pub endNumbers : Book → ℕ → List ℕ
-endNumbers b i = map (λ run. placeNumber b i (endPlace (trainLength b i) run)) (runsAt b i)
+unfoldable pub nextAlike : Book → ℕ → List ℕ
+nextAlike b i =
+    let n = instanceOf b .runs i in
+    let start : ℕ → List ℕ = λ r. startPlace (trainLength b i) (runAt (runLists b) i r) in
+    map (λ q. leastFrom (λ p. same (start q) (start p)) (q + 1) (n - (q + 1))) (upTo n)
 
 -- a table after its first n parts, each `width` long, were replaced
 unfoldable pub filled {ℓ} : {A : Type ℓ} → (ℕ → List A → List A) → ℕ → ℕ → List A → List A

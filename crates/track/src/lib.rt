@@ -6,10 +6,10 @@ use model::Join;
 use model::Segment;
 use model::Train;
 ghost use mathlib.Core.Path.{_≡_};
-ghost use Prim.Native.Nat.{_+_, _*_, _/_, _<_, _≤_};
+ghost use Prim.Native.Nat.{_+_, _*_, _/_, _%_, _<_, _≤_};
 ghost use lib.ListN.{take};
 ghost use mathlib.Core.List.{map};
-ghost use mathlib.Core.Bool.{not, _&&_};
+ghost use mathlib.Core.Bool.{not, _&&_, cond};
 ghost use lib.Dec.{T, ltb, eqb};
 ghost use Rattle.spec.specs.Lists as lists;
 ghost use Rattle.spec.specs.Book as book;
@@ -44,17 +44,19 @@ pub fn touches(s: Segment, node: usize) -> bool
     wide(s.a) == node || wide(s.b) == node
 }
 
+// The node where directed segment d begins, s being the record of its segment.
+pub fn start_in(s: Segment, d: usize) -> usize
+    ensures { λ r. ⌜ (r ≡ cond (eqb (d % 2) 0) (s .a) (s .b)) × (r < 256) ⌝ }
+{
+    if d % 2 == 0 { wide(s.a) } else { wide(s.b) }
+}
+
 // The node where a directed segment begins.
 pub fn start_node(b: Book, d: usize) -> usize
     requires { ⌜ CountsFit b × (d < 2 * b .«segment_count») ⌝ }
     ensures { λ r. ⌜ (r ≡ book.startNode (held b) d) × (r < 256) ⌝ }
 {
-    let s = d / 2;
-    if d % 2 == 0 {
-        wide(b.segments[s].a)
-    } else {
-        wide(b.segments[s].b)
-    }
+    start_in(b.segments[d / 2], d)
 }
 
 // The node where a directed segment ends.

@@ -1,20 +1,22 @@
 // Writing a book's formula. `write_formula` is the entry point: it takes any bytes and any output, and
 // answers the totals, with the words written, or one numbered refusal, with the output as it was.
 // The words are measured before anything is written. Assumes nothing.
-use formula::first_variable;
 use formula::walk_formula;
 use meets::list_meets;
 use model::Book;
+use numbering::first_variable;
 use reading::Answer;
 use reading::read_book;
-use tables::fill_trains;
+use tables::chain_trains;
+use tables::fill_runs;
 ghost use mathlib.Core.Path.{_≡_};
 ghost use lib.ListN.{length};
 ghost use Rattle.spec.specs.Instance.{instanceOf};
 ghost use Rattle.spec.specs.Held.{held};
 ghost use Rattle.spec.specs.Entry.{writtenFor, wordsAfter, writeFormula, formulaOutput};
 ghost use Rattle.tables.specs.Tables.{Passed};
-ghost use Rattle.formula.specs.Ready.{MeetsReady, Ready};
+ghost use Rattle.tables.specs.Ready.{RunsReady, ChainsReady};
+ghost use Rattle.meets.specs.Meets.{MeetsReady};
 ghost use Rattle.writing.specs.FormulaAnswers.{formulaAnswer};
 
 // The totals of a formula that was written, or a refusal's number and detail.
@@ -33,13 +35,13 @@ pub fn write_by(
     runs: [usize; 8],
     rows: &[u8],
     sizes: &[u8],
-    starts: &[usize],
-    ends: &[usize],
+    firsts: &[usize],
+    nexts: &[usize],
     meets: &[u8],
     end: usize,
     out: &mut [i32],
 ) -> FormulaAnswer
-    requires { ⌜ Ready b runs (now rows) (now sizes) (now starts) (now ends) × MeetsReady b (now meets) end ⌝ }
+    requires { ⌜ RunsReady b runs (now rows) (now sizes) × ChainsReady b (now firsts) (now nexts) × MeetsReady b (now meets) end ⌝ }
     ensures { λ r. ⌜ (r ≡ formulaAnswer (writtenFor (instanceOf (held b)) (length (now (out .entry)))))
         × (now (out .exit) ≡ wordsAfter (now (out .entry)) (writtenFor (instanceOf (held b)) (length (now (out .entry))))) ⌝ }
 {
@@ -49,8 +51,8 @@ pub fn write_by(
         runs,
         rows,
         sizes,
-        starts,
-        ends,
+        firsts,
+        nexts,
         meets,
         end,
         none,
@@ -59,7 +61,7 @@ pub fn write_by(
     if out.len() < measured.words {
         return FormulaAnswer::Refused(12, 0);
     }
-    let w = walk_formula(b, runs, rows, sizes, starts, ends, meets, end, none, out);
+    let w = walk_formula(b, runs, rows, sizes, firsts, nexts, meets, end, none, out);
     FormulaAnswer::Totals {
         variables: first_variable(b, runs, b.train_count),
         clauses: w.clauses,
@@ -75,12 +77,13 @@ pub fn write_words(b: Book, out: &mut [i32]) -> FormulaAnswer
 {
     let mut rows = [0u8; 32768];
     let mut sizes = [0u8; 2048];
-    let mut starts = [0usize; 2048];
-    let mut ends = [0usize; 2048];
+    let mut firsts = [0usize; 2048];
+    let mut nexts = [0usize; 2048];
     let mut meets = [0u8; 24192];
-    let runs = fill_trains(b, &mut rows, &mut sizes, &mut starts, &mut ends);
+    let runs = fill_runs(b, &mut rows, &mut sizes);
+    chain_trains(b, runs, &rows, &sizes, &mut firsts, &mut nexts);
     let end = list_meets(b, &mut meets);
-    write_by(b, runs, &rows, &sizes, &starts, &ends, &meets, end, out)
+    write_by(b, runs, &rows, &sizes, &firsts, &nexts, &meets, end, out)
 }
 
 // The entry point: the formula of the book that the bytes hold.

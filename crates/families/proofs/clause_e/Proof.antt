@@ -1,5 +1,6 @@
 -- `families::clause_e` meets its contract: its literals and the 0, one behind the other. Assumes nothing.
 use borrow.Author.Needs.{needs}
+use native.Mathlib.Omega.{arith}
 use Rattle.clauses.proofs.Laws.{walks-same, walks-behind, walks-length}
 use Rattle.clauses.proofs.Turns.{words-one}
 use Rattle.families.proofs.clause_e.Statement.{statement}
@@ -12,7 +13,9 @@ deny-requires : tie.Need-deny-requires
 deny-requires c κs = search needs
 
 followers-requires : tie.Need-followers-requires
-followers-requires c κs = search needs
+followers-requires c κs =
+    let p = c .before .before .before .before .before .before .before .pre in
+    (p .1, omega arith, p .4, p .5)
 
 add-affirm-if : tie.Need-add-affirm-if
 add-affirm-if c = search needs
@@ -24,16 +27,19 @@ close-requires : tie.Need-close-requires
 close-requires c κs = search needs
 
 returns : tie.Need-returns
-returns c =
+returns c f h =
     let q = c .before in
     let l = q .before .before .before in
-    let f = l .before .before .before in
-    let d = f .before .before .before in
-    let literals = walks-behind (d .deny .ensures) (walks-behind (f .followers .ensures) (l .affirm-if .ensures)) in
+    let g = l .before .before .before in
+    let d = g .before .before .before in
+    let literals = walks-behind (d .deny .ensures) (walks-behind (g .followers .ensures f h) (l .affirm-if .ensures)) in
     walks-same (words-one _) (walks-behind literals (q .close .ensures))
 
 same-length : tie.Need-same-length
-same-length c = walks-length (returns c)
+same-length c =
+    let d = c .before .before .before .before .before .before .before .before .before .before in
+    let h = d .before .before .before .before .before .pre .5 in
+    walks-length (returns c (h .0) (h .1))
 
 pub clause-e-spec : {M : Type 1} → statement M
 clause-e-spec =

@@ -16,7 +16,7 @@ use Rattle.clauses.proofs.Laws.{walks-same, walks-behind}
 use Rattle.clauses.proofs.Turns.{words-append, Ahead, ahead-start, turn, turned}
 use Rattle.content.proofs.Packing.{nodes-counted}
 use Rattle.families.proofs.Rest.{words-range}
-use Rattle.families.proofs.Answers.{denied-held, forced-held}
+use Rattle.tables.proofs.Answers.{denied-held, forced-held}
 use Rattle.families.proofs.family_a.Statement.{statement}
 use Rattle.families.proofs.family_a.Tie as tie
 

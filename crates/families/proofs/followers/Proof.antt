@@ -1,68 +1,94 @@
--- `families::followers` meets its contract. The loop's invariant: what is left to pass are the literals from q on. Assumes nothing.
+-- `families::followers` meets its contract. The loop's invariant: for each test that the tables chain, q passes it or is n, and what
+-- is left to pass are the literals from q on. Assumes nothing.
 use native.Mathlib.Omega.{arith}
-use mathlib.Core.Path.{_≡_, refl, ap}
+use mathlib.Core.Path.{sym}
 use mathlib.Core.Bool.{Bool}
-use Prim.Native.Nat.{ℕ, _+_, _-_}
+use Prim.Native.Nat.{ℕ, _+_, _-_, _≤_, _<_}
 use mathlib.Core.List.{List}
+use denote.Ref.{now}
 use lib.IntN.{ℤ}
 use lib.ListN.{getD}
-use lib.Dec.{eqb}
-use Rattle.spec.specs.Lists.{range, each, only, one}
+use lib.Dec.{T}
+use Rattle.spec.specs.Lists.{upTo, range, each, only, one}
 use Rattle.spec.specs.Formula.{is}
-use Rattle.clauses.proofs.Laws.{walks-same}
-use Rattle.clauses.proofs.Turns.{Ahead, ahead-start, turn, turned}
-use Rattle.families.proofs.Rest.{each-range}
+use Rattle.laws.proofs.Tests.{true-of}
+use Rattle.clauses.proofs.Laws.{walks-same, only-true}
+use Rattle.clauses.proofs.Turns.{Ahead, ahead-start, ahead-same, turn, turned}
+use Rattle.families.specs.Chained.{Chained}
+use Rattle.families.proofs.Chain.{first-below, first-passes, first-rows, next-below, next-passes, next-rows}
 use Rattle.families.proofs.followers.Statement.{statement}
 use Rattle.families.proofs.followers.Tie as tie
 
 -- the words of turn q
-abbrev words : List ℕ → List ℕ → ℕ → ℕ → ℕ → List ℤ
-words starts ends base r q = only (eqb (getD ends r 0) (getD starts q 0)) (one (is (base + q)))
+abbrev words : (ℕ → Bool) → ℕ → ℕ → List ℤ
+words f base q = only (f q) (one (is (base + q)))
 
 abbrev Inv-loop : tie.InvT-loop
-Inv-loop base n r starts ends values out₀ next₀ q₀ out next q =
-    Ahead values (each (range 0 n) (words starts ends base r)) (each (range q n) (words starts ends base r)) next₀ out₀ next out
+Inv-loop base n r firsts nexts values out₀ next₀ q₀ out next q =
+    (f : ℕ → Bool) → Chained f n (getD firsts r 0) nexts → (q ≤ n) × (q < n → T (f q))
+    × Ahead values (each (upTo n) (words f base)) (each (range q n) (words f base)) next₀ out₀ next out
 
 abbrev μ-loop : tie.MeasureT-loop
-μ-loop base n r starts ends values out₀ next₀ q₀ out next q = n - q
+μ-loop base n r firsts nexts values out₀ next₀ q₀ out next q = n - q
+
+mul-q : tie.Need-mul-q Inv-loop μ-loop
+mul-q c = omega arith
+
+shared-slice-read-q : tie.Need-shared-slice-read-q Inv-loop μ-loop
+shared-slice-read-q c = omega arith
 
 loop-holds : tie.Need-loop-holds Inv-loop μ-loop
-loop-holds c = ahead-start _ _ _ _
+loop-holds c f h = (first-below h, first-passes h, ahead-same (first-rows h _) (ahead-start _ _ _ _))
 
-follows-requires : tie.Need-follows-requires Inv-loop μ-loop
-follows-requires c κs = (omega arith, omega arith)
+add-affirm : tie.Need-add-affirm Inv-loop μ-loop
+add-affirm c = omega arith
 
-add-affirm-if : tie.Need-add-affirm-if Inv-loop μ-loop
-add-affirm-if c = omega arith
+affirm-requires : tie.Need-affirm-requires Inv-loop μ-loop
+affirm-requires c κs = omega arith
 
-affirm-if-requires : tie.Need-affirm-if-requires Inv-loop μ-loop
-affirm-if-requires c κs = omega arith
+mul-q-2 : tie.Need-mul-q-2 Inv-loop μ-loop
+mul-q-2 c = omega arith
 
-add-q : tie.Need-add-q Inv-loop μ-loop
-add-q c = omega arith
+shared-slice-read-q-2 : tie.Need-shared-slice-read-q-2 Inv-loop μ-loop
+shared-slice-read-q-2 c = omega arith
+
+-- a turn's number passes the test, and so the next is behind it
+module _ (t : tie.In-loop Inv-loop μ-loop) where
+  abbrev start : tie.Start Inv-loop μ-loop
+  start = t .before .before .before .before .before .before
+
+  abbrev q : ℕ
+  q = t .before .loop .q
+
+  passes : (f : ℕ → Bool) → Chained f (start .args .n) (getD (now (start .args .firsts)) (start .args .r) 0) (now (start .args .nexts))
+      → T (f q)
+  passes f h = t .before .loop .inv f h .1 (t .loop-test .taken)
 
 loop-less : tie.Need-loop-less Inv-loop μ-loop
-loop-less c = omega arith
-
--- the same literal, under the same test
-tested : (v : ℕ) {a b : Bool} → a ≡ b → only a (one (is v)) ≡ only b (one (is v))
-tested v e = ap (λ (t : Bool). only t (one (is v))) e
-
-abbrev start : tie.In-loop Inv-loop μ-loop → tie.Start Inv-loop μ-loop
-start c = c .before .before .before .before .before
+loop-less c =
+    let t = c .before .before .before .before in
+    let h = start t .pre .3 in
+    omega (arith, t .loop-test .taken, next-below (h .1) (q t) (t .loop-test .taken) (passes t (h .0) (h .1)))
 
 loop-again : tie.Need-loop-again Inv-loop μ-loop
-loop-again c =
-    let f = c .before .before .before in
-    let t = f .before in
-    turn _ _ _ (t .before .loop .inv) (t .loop-test .taken)
-    (walks-same (tested (start t .args .base + t .before .loop .q) (f .follows .ensures)) (c .before .affirm-if .ensures))
+loop-again c f h =
+    let t = c .before .before .before .before in
+    let v = t .before .loop .inv f h in
+    let below = t .loop-test .taken in
+    let found = passes t f h in
+    let literal = sym (only-true _ (true-of _ found)) in (
+      next-below h (q t) below found .1,
+      next-passes h (q t) below found,
+      ahead-same (next-rows h (q t) below found _) (turn _ _ _ (v .2) below (walks-same literal (c .before .before .affirm .ensures))),
+    )
 
 same-length : tie.Need-same-length Inv-loop μ-loop
-same-length c = c .before .loop .inv .size
+same-length c =
+    let h = c .before .before .before .before .before .before .pre .3 in
+    c .before .loop .inv (h .0) (h .1) .2 .size
 
 returns : tie.Need-returns Inv-loop μ-loop
-returns c = walks-same (each-range _ refl) (turned _ _ _ (c .before .loop .inv) (c .loop-test .left))
+returns c f h = turned _ _ _ (c .before .loop .inv f h .2) (c .loop-test .left)
 
 pub followers-spec : {M : Type 1} → statement M
 followers-spec =
@@ -70,11 +96,13 @@ followers-spec =
     (tie.spec
     Inv-loop
     μ-loop
+    mul-q
+    shared-slice-read-q
     loop-holds
-    follows-requires
-    add-affirm-if
-    affirm-if-requires
-    add-q
+    add-affirm
+    affirm-requires
+    mul-q-2
+    shared-slice-read-q-2
     loop-less
     loop-again
     same-length

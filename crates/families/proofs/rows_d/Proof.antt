@@ -18,7 +18,7 @@ use Rattle.clauses.proofs.Turns.{words-append, Ahead, ahead-start, turn, turned
 use Rattle.places.specs.Placed.{placeAt}
 use Rattle.families.specs.Rows.{rowsD}
 use Rattle.families.proofs.Rest.{words-range}
-use Rattle.families.proofs.Answers.{size-held, train-held, given-answer}
+use Rattle.tables.proofs.Answers.{size-held, train-held, given-answer}
 use Rattle.families.proofs.rows_d.Statement.{statement}
 use Rattle.families.proofs.rows_d.Tie as tie
 

@@ -8,46 +8,40 @@ use mathlib.Core.List.{List, _∷_, _++_, map}
 use denote.Ref.{now}
 use lib.ListN.{getD}
 use lib.IntN.{ℤ}
-use lib.Dec.{eqb}
 use Rattle.model.specs.declared.Book.{Book as BookStruct}
 use Rattle.spec.specs.Lists.{upTo, range, each, only, one}
 use Rattle.spec.specs.Instance.{Instance, instanceOf}
 use Rattle.spec.specs.Formula.{is, not′, wordsOf}
 use Rattle.spec.specs.Held.{held}
-use Rattle.laws.proofs.Parts.{each-same}
 use Rattle.clauses.proofs.Laws.{walks-same, walks-behind, walks-length}
 use Rattle.clauses.proofs.Turns.{words-append, words-row, Ahead, ahead-start, turn, turned}
 use Rattle.places.specs.Placed.{placeAt}
 use Rattle.families.specs.Rows.{rowsE, clauseE, followersE}
-use Rattle.families.proofs.Answers.{end-inside, leaves-answer, least-held, ending-held}
+use Rattle.families.specs.Chained.{Chained}
+use Rattle.tables.proofs.Answers.{end-inside, leaves-answer, least-held, ending-held}
+use Rattle.families.proofs.Chain.{follows-chained}
 use Rattle.families.proofs.rows_e.Statement.{statement}
 use Rattle.families.proofs.rows_e.Tie as tie
 
 -- the clause of a run, by its answers
-module _ (I : Instance) (i x y n r : ℕ) (follows : ℕ → Bool) (leaves : Bool) where
-  abbrev found : List ℤ
-  found = (each (upTo n) λ q. only (follows q) (one (is (y + q)))) ++ only leaves (one (is (y + n)))
-
-  clause-same : n ≡ I .runs i → ((q : ℕ) → q < n → follows q ≡ I .follows i r q) → leaves ≡ I .leaves i r
-      → wordsOf (one (not′ (x + r) ∷ found)) ≡ wordsOf (one (clauseE I i x y r))
-  unfolding clauseE followersE
-  clause-same e f l =
-      let literals = each-same (λ q. only (follows q) (one (is (y + q)))) (λ q. only (I .follows i r q) (one (is (y + q)))) n
-      (λ q h. ap (λ (t : Bool). only t (one (is (y + q)))) (f q h)) in
-      ap (λ (ls : List ℤ). wordsOf (one (not′ (x + r) ∷ (ls ++ only leaves (one (is (y + n))))))) literals
-      ∙ ap₂ (λ (t : Bool) (k : ℕ). wordsOf (one (not′ (x + r)
-      ∷ ((each (upTo k) λ q. only (I .follows i r q) (one (is (y + q)))) ++ only t (one (is (y + k))))))) l e
+clause-same : (I : Instance) (i x y r : ℕ) {n : ℕ} {leaves : Bool} → n ≡ I .runs i → leaves ≡ I .leaves i r
+    → wordsOf (one (not′ (x + r) ∷ ((each (upTo n) λ q. only (I .follows i r q) (one (is (y + q)))) ++ only leaves (one (is (y + n))))))
+    ≡ wordsOf (one (clauseE I i x y r))
+unfolding clauseE followersE
+clause-same I i x y r e l =
+    ap₂ (λ (k : ℕ) (t : Bool). wordsOf (one (not′ (x + r)
+    ∷ ((each (upTo k) λ q. only (I .follows i r q) (one (is (y + q)))) ++ only t (one (is (y + k))))))) e l
 
 -- the words of turn r
 abbrev words : BookStruct → ℕ → ℕ → ℕ → ℕ → List ℤ
 words b train base after r = wordsOf (one (clauseE (instanceOf (held b)) train base after r))
 
 abbrev Inv-loop : tie.InvT-loop
-Inv-loop b train base after n l rows sizes starts ends values out₀ to next₀ r₀ out next r =
+Inv-loop b train base after n l rows sizes firsts nexts values out₀ to next₀ r₀ out next r =
     Ahead values (each (range 0 n) (words b train base after)) (each (range r n) (words b train base after)) next₀ out₀ next out
 
 abbrev μ-loop : tie.MeasureT-loop
-μ-loop b train base after n l rows sizes starts ends values out₀ to next₀ r₀ out next r = n - r
+μ-loop b train base after n l rows sizes firsts nexts values out₀ to next₀ r₀ out next r = n - r
 
 goal-requires : tie.Need-goal-requires Inv-loop μ-loop
 goal-requires c κs = c .before .before .before .before .before .pre .0 .packed .counts
@@ -69,6 +63,10 @@ module _ (c : tie.In-loop Inv-loop μ-loop) where
   least : start .args .l ≤ getD (now (start .args .sizes)) (c .before .loop .r) 0
   least = least-held (start .args .b) (start .args .train) (c .before .loop .r) (start .pre .5) (start .pre .7) inside
 
+  chained : Chained (instanceOf (held (start .args .b)) .follows (start .args .train) (c .before .loop .r)) (start .args .n)
+      (getD (now (start .args .firsts)) (c .before .loop .r) 0) (now (start .args .nexts))
+  chained = follows-chained (start .pre .8) (start .pre .2) (c .before .loop .r) inside
+
 end-of-requires : tie.Need-end-of-requires Inv-loop μ-loop
 end-of-requires c κs = (few c, omega (arith, few c, start c .pre .7 .sizesLong), least c)
 
@@ -85,7 +83,14 @@ clause-e-requires c κs =
     let t = c .before .before .before in
     let p = start t .pre in
     let n : start t .args .n ≤ 256 = omega (arith, p .2, p .7 .few) in
-    (p .3, p .4, t .loop-test .taken, omega (arith, n, p .7 .startsLong), omega (arith, n, p .7 .endsLong))
+    let follows = instanceOf (held (start t .args .b)) .follows (start t .args .train) (t .before .loop .r) in (
+      p .3,
+      p .4,
+      t .loop-test .taken,
+      omega (arith, n, p .8 .firstsLong),
+      omega (arith, n, p .8 .nextsLong),
+      (follows, chained t),
+    )
 
 add-r : tie.Need-add-r Inv-loop μ-loop
 add-r c = omega arith
@@ -103,10 +108,8 @@ loop-again c =
     let place = ap (λ (k : ℕ). placeAt (now (a .rows)) k (a .l)) (m .before .end-of .ensures)
     ∙ ending-held (a .b) (a .train) r (p .5) (p .7) (inside t) in
     let leaves = leaves-answer (a .b) (a .train) r (p .5) place (m .may-leave .ensures) in
-    let same-words = clause-same (instanceOf (held (a .b))) (a .train) (a .base) (a .after) (a .n) r
-    (λ q. eqb (getD (now (a .ends)) r 0) (getD (now (a .starts)) q 0)) (m .may-leave .result)
-    (p .2) (λ q h. p .7 .following r q (inside t) (rw (p .2) at h)) leaves in
-    turn _ _ _ (t .before .loop .inv) (t .loop-test .taken) (walks-same same-words (c .before .clause-e .ensures))
+    let same-words = clause-same (instanceOf (held (a .b))) (a .train) (a .base) (a .after) r (p .2) leaves in
+    turn _ _ _ (t .before .loop .inv) (t .loop-test .taken) (walks-same same-words (c .before .clause-e .ensures _ (chained t)))
 
 add-implies : tie.Need-add-implies Inv-loop μ-loop
 add-implies c = omega arith

@@ -16,7 +16,7 @@ use Rattle.clauses.proofs.Turns.{Ahead, ahead-start, turn, turned}
 use Rattle.places.specs.Placed.{placeAt}
 use Rattle.families.specs.Rows.{serversF}
 use Rattle.families.proofs.Rest.{each-range}
-use Rattle.families.proofs.Answers.{end-inside, serves-answer}
+use Rattle.tables.proofs.Answers.{end-inside, serves-answer}
 use Rattle.families.proofs.servers.Statement.{statement}
 use Rattle.families.proofs.servers.Tie as tie
 

@@ -14,7 +14,8 @@ use Rattle.clauses.proofs.Laws.{walks-same}
 use Rattle.clauses.proofs.Turns.{words-rows, Ahead, ahead-start, turn, turned}
 use Rattle.formula.specs.declared.Family.{Family}
 use Rattle.formula.specs.Families.{trainRows, familyRows}
-use Rattle.formula.proofs.Small.{trains-is}
+use Rattle.tables.proofs.Small.{trains-is}
+use Rattle.tables.proofs.Here.{chains-lent}
 use Rattle.formula.proofs.Trains.{train-ready}
 use Rattle.tables.specs.Tables.{Passed}
 use Rattle.formula.proofs.by_train.Statement.{statement}
@@ -25,11 +26,11 @@ abbrev words : BookStruct → Family → ℕ → List ℤ
 words b family i = wordsOf (trainRows (instanceOf (held b)) family i)
 
 abbrev Inv-loop : tie.InvT-loop
-Inv-loop family b rows sizes starts ends meets end values out₀ runs trains next₀ i₀ out next i =
+Inv-loop family b rows sizes firsts nexts meets end values out₀ runs trains next₀ i₀ out next i =
     Ahead values (each (range 0 trains) (words b family)) (each (range i trains) (words b family)) next₀ out₀ next out
 
 abbrev μ-loop : tie.MeasureT-loop
-μ-loop family b rows sizes starts ends meets end values out₀ runs trains next₀ i₀ out next i = trains - i
+μ-loop family b rows sizes firsts nexts meets end values out₀ runs trains next₀ i₀ out next i = trains - i
 
 -- the trains are those of the family's rows
 family-words : (b : BookStruct) (f : Family) → Passed b → each (range 0 (b .«train_count»)) (words b f) ≡ wordsOf (familyRows (instanceOf (held b)) f)
@@ -116,7 +117,12 @@ train-rows-requires : tie.Need-train-rows-requires Inv-loop μ-loop
 train-rows-requires c κs =
     let t = c .before .before .before .before .before .before in
     let s = t .before .before .before .before .before .before .before .before in
-    (train-ready (s .pre .0) (t .before .loop .i) (t .loop-test .taken) (c .before .before .before .before .before .first-variable .ensures), s .pre .1)
+    let i = t .before .loop .i in
+    let below = t .loop-test .taken in (
+      train-ready (s .pre .0) i below (c .before .before .before .before .before .first-variable .ensures),
+      chains-lent i below (s .pre .0 .counted .passed) (s .pre .1),
+      s .pre .2,
+    )
 
 add-i : tie.Need-add-i Inv-loop μ-loop
 add-i c =

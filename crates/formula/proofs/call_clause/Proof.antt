@@ -7,7 +7,8 @@ use mathlib.Core.Bool.{Bool, false, _&&_}
 use Rattle.spec.specs.Instance.{Instance, instanceOf, inWindow, servedAtDeparture}
 use Rattle.spec.specs.Held.{held}
 use Rattle.clauses.proofs.Laws.{walks-same, walks-behind, walks-nothing}
-use Rattle.formula.proofs.Trains.{size-small, same-train, departs-here, window-answer, start-answer, words-served, words-open}
+use Rattle.tables.proofs.Here.{size-small, same-train, departs-here, window-answer, start-answer}
+use Rattle.formula.proofs.Trains.{words-served, words-open}
 use Rattle.formula.proofs.call_clause.Statement.{statement}
 use Rattle.formula.proofs.call_clause.Tie as tie
 
@@ -24,12 +25,14 @@ in-window-requires : tie.Need-in-window-requires
 in-window-requires c κs = search needs
 
 given-serves-requires : tie.Need-given-serves-requires
-given-serves-requires c κs = size-small (c .before .before .before .before .before .before .before .before .before .pre)
+given-serves-requires c κs =
+    let s = c .before .before .before .before .before .before .before in
+    size-small (s .args .t1) (s .pre .passed) (s .args .train) (s .pre .known)
 
 -- whether the call is served at the departure
 module _ (c : tie.After-in-window) where
   abbrev start : tie.Start
-  start = c .before .before .before .before .before .before .before .before
+  start = c .before .before .before .before .before .before
 
   abbrev I : Instance
   I = instanceOf (held (start .args .t1))
@@ -44,7 +47,7 @@ module _ (c : tie.After-in-window) where
   window =
       let a = start .args in
       window-answer (a .t1) (a .train) (a .number) (c .before .before .call-at .ensures) _ (c .in-window .ensures)
-      ∙ ap (inWindow I (a .train) (a .number)) (departs-here (start .pre))
+      ∙ ap (inWindow I (a .train) (a .number)) (departs-here (a .t1) (start .pre .passed) (a .train) (start .pre .known))
 
 -- by the second test, where the first was passed
 second : (c : tie.After-given-serves) → c .given-serves .result ≡ served (c .before .before)
@@ -52,7 +55,9 @@ unfolding servedAtDeparture
 second c =
     let t = c .before .before in
     let a = start t .args in
-    start-answer (a .t1) (a .train) (a .number) (t .before .before .call-at .ensures) (same-train (start t .pre)) (c .given-serves .ensures)
+    start-answer (a .t1) (a .train) (a .number) (t .before .before .call-at .ensures)
+    (same-train (a .t1) (start t .pre .passed) (a .train) (start t .pre .known))
+    (c .given-serves .ensures)
     ∙ ap (λ (x : Bool). x && at-start t) (sym (c .before .if1 .taken) ∙ window t)
 
 -- where one of the tests failed

@@ -4,7 +4,7 @@ use borrow.Author.Needs.{needs}
 use native.Mathlib.Omega.{arith}
 use mathlib.Core.Path.{_≡_, sym, ap, ap₂, _∙_, subst}
 use mathlib.Core.Logic.{⊎-elim}
-use Prim.Native.Nat.{ℕ, _+_, _*_, _-_, _≤_, _<_}
+use Prim.Native.Nat.{ℕ, _+_, _-_, _<_}
 use mathlib.Core.List.{List}
 use denote.Ref.{now}
 use lib.IntN.{ℤ}
@@ -13,17 +13,16 @@ use Rattle.spec.specs.Lists.{Bytes, range, each, only}
 use Rattle.spec.specs.Instance.{instanceOf, inWindow}
 use Rattle.spec.specs.Formula.{base}
 use Rattle.spec.specs.Held.{held}
-use Rattle.tables.proofs.Trains.{metres-some}
 use Rattle.clauses.specs.declared.Walk.{Walk}
 use Rattle.clauses.specs.Walked.{Walks}
 use Rattle.clauses.proofs.Laws.{walks-same, walks-nothing, only-true, only-false}
 use Rattle.clauses.proofs.Turns.{Ahead, ahead-start, turn, turned}
 use Rattle.families.specs.Rows.{serversF}
-use Rattle.families.proofs.Answers.{least-held, ending-held}
+use Rattle.tables.proofs.Answers.{least-held, ending-held}
 use Rattle.formula.specs.Families.{callRuns}
-use Rattle.formula.proofs.Small.{intervals-is}
-use Rattle.formula.proofs.Trains.{few-trains, few-runs, few-segments, base-here, base-below}
-use Rattle.formula.proofs.Trains.{metres-small, departs-here, length-here, window-answer}
+use Rattle.tables.proofs.Small.{intervals-is}
+use Rattle.tables.proofs.Here.{few-trains, departs-here, length-here, length-asks, window-answer}
+use Rattle.formula.proofs.Trains.{few-runs, base-asks, base-here}
 use Rattle.formula.proofs.call_runs.Statement.{statement}
 use Rattle.formula.proofs.call_runs.Tie as tie
 
@@ -38,32 +37,27 @@ abbrev words : BookStruct → ℕ → ℕ → ℕ → List ℤ
 words b i c t = only (inWindow (instanceOf (held b)) i c (t + 1)) (serversF (instanceOf (held b)) i c (base (instanceOf (held b)) i t))
 
 abbrev Inv-loop : tie.InvT-loop
-Inv-loop train number c n first rows sizes starts ends values out₀ b l width next₀ interval₀ out next interval =
+Inv-loop train number c n first rows sizes values out₀ b l next₀ interval₀ out next interval =
     Ahead values (each (range interval₀ (b .intervals)) (words b train number))
     (each (range interval (b .intervals)) (words b train number)) next₀ out₀ next out
 
 abbrev μ-loop : tie.MeasureT-loop
-μ-loop train number c n first rows sizes starts ends values out₀ b l width next₀ interval₀ out next interval =
+μ-loop train number c n first rows sizes values out₀ b l next₀ interval₀ out next interval =
     b .intervals - interval
 
+few : (s : tie.Start Inv-loop μ-loop) → s .args .train < 8
+few s = few-trains (s .args .t1) (s .pre .0 .passed) (s .args .train) (s .pre .0 .known)
+
 mul-t : tie.Need-mul-t Inv-loop μ-loop
-mul-t c = omega (arith, few-trains (c .before .before .before .before .before .pre .0))
+mul-t c = omega (arith, few (c .before .before .before))
 
 element-copy-out-t : tie.Need-element-copy-out-t Inv-loop μ-loop
-element-copy-out-t c = few-trains (c .before .before .before .before .before .pre .0)
+element-copy-out-t c = few (c .before .before .before)
 
 length-in-segments-requires : tie.Need-length-in-segments-requires Inv-loop μ-loop
 length-in-segments-requires c κs =
-    let h = c .before .before .before .before .before .before .pre .0 in
-    (h .passed .packed .numbers, metres-some _ (h .passed), metres-small h)
-
-add-width : tie.Need-add-width Inv-loop μ-loop
-add-width c = omega (arith, few-runs (c .before .before .before .before .before .before .before .pre .0))
-
-add-width-2 : tie.Need-add-width-2 Inv-loop μ-loop
-add-width-2 c =
-    let h = c .before .before .before .before .before .before .before .pre .0 in
-    omega (arith, few-runs h, few-segments h)
+    let s = c .before .before .before .before in
+    length-asks (s .args .t1) (s .pre .0 .passed) (s .args .train) (s .pre .0 .known)
 
 loop-holds : tie.Need-loop-holds Inv-loop μ-loop
 loop-holds c = ahead-start _ _ _ _
@@ -71,7 +65,7 @@ loop-holds c = ahead-start _ _ _ _
 -- what holds of an interval
 module _ (c : tie.In-loop Inv-loop μ-loop) where
   abbrev start : tie.Start Inv-loop μ-loop
-  start = c .before .before .before .before .before .before .before .before .before
+  start = c .before .before .before .before .before .before .before
 
   abbrev t : ℕ
   t = c .before .loop .interval
@@ -79,34 +73,31 @@ module _ (c : tie.In-loop Inv-loop μ-loop) where
   below : t < 65536
   below = omega (arith, c .loop-test .taken, start .pre .0 .passed .packed .numbers .intervals)
 
-  small : start .args .first + t * (start .args .n + 1 + start .args .t1 .«segment_count») ≤ 189333600
-  small = base-below (start .pre .0) t (omega (arith, c .loop-test .taken))
-
 add-in-window : tie.Need-add-in-window Inv-loop μ-loop
 add-in-window c = omega (arith, below c)
 
 in-window-requires : tie.Need-in-window-requires Inv-loop μ-loop
 in-window-requires c κs = search needs
 
-mul-servers : tie.Need-mul-servers Inv-loop μ-loop
-mul-servers c = omega (arith, small (c .before .before))
-
-add-servers : tie.Need-add-servers Inv-loop μ-loop
-add-servers c = omega (arith, small (c .before .before))
+base-from-requires : tie.Need-base-from-requires Inv-loop μ-loop
+base-from-requires c κs =
+    let d = c .before .before in
+    base-asks (start d .pre .0) (t d) (omega (arith, below d))
 
 servers-requires : tie.Need-servers-requires Inv-loop μ-loop
 servers-requires c κs =
-    let d = c .before .before .before in
+    let v = c .before in
+    let d = v .before .before .before in
     let s = start d in
     let h = s .pre .0 in
     let a = s .args in
-    let l = length-here h (d .before .before .length-in-segments .ensures) in
+    let l = length-here (a .t1) (h .passed) (a .train) (h .known) (d .before .before .length-in-segments .ensures) in
     let inside : (r : ℕ) → r < a .n → r < instanceOf (held (a .t1)) .runs (a .train) = λ r m. rw (h .runs) at m in (
       h .passed,
       h .known,
       h .runs,
       few-runs h,
-      omega (arith, small d, few-runs h),
+      omega (arith, v .base-from .ensures .1, few-runs h),
       s .pre .1,
       l .0,
       l .1,
@@ -139,9 +130,9 @@ module _ (c : tie.Joined1 Inv-loop μ-loop) where
       let answer = window-answer (a .t1) (a .train) (a .number) (given .pre .1) (t inner + 1) (c .before .in-window .ensures) in
       ⊎-elim
       (λ w.
-      let same-words = ap (serversF I (a .train) (a .number)) (base-here (given .pre .0) (t inner))
+      let same-words = ap (serversF I (a .train) (a .number)) (base-here (given .pre .0) (t inner) (w .1 .ensures .0))
       ∙ sym (only-true _ (sym answer ∙ w .0 .taken)) in
-      came-to (w .5) (w .4) (walks-same same-words (w .2 .ensures)))
+      came-to (w .6) (w .5) (walks-same same-words (w .3 .ensures)))
       (λ w. came-to (w .2) (w .1) (walks-nothing (only-false _ (sym answer ∙ w .0 .left))))
       (c .if1 .came)
 
@@ -154,9 +145,10 @@ same-length c = c .before .loop .inv .size
 returns : tie.Need-returns Inv-loop μ-loop
 unfolding callRuns
 returns c =
-    let s = c .before .before .before .before .before .before .before .before .before in
+    let s = c .before .before .before .before .before .before .before in
     let a = s .args in
-    walks-same (ap₂ (λ (d z : ℕ). each (range d z) (words (a .t1) (a .train) (a .number))) (departs-here (s .pre .0))
+    walks-same (ap₂ (λ (d z : ℕ). each (range d z) (words (a .t1) (a .train) (a .number)))
+    (departs-here (a .t1) (s .pre .0 .passed) (a .train) (s .pre .0 .known))
     (sym (intervals-is (a .t1) (s .pre .0 .passed))))
     (turned _ _ _ (c .before .loop .inv) (c .loop-test .left))
 
@@ -169,13 +161,10 @@ call-runs-spec =
     mul-t
     element-copy-out-t
     length-in-segments-requires
-    add-width
-    add-width-2
     loop-holds
     add-in-window
     in-window-requires
-    mul-servers
-    add-servers
+    base-from-requires
     servers-requires
     add-interval
     loop-less

@@ -14,7 +14,7 @@ use Rattle.clauses.proofs.Laws.{walks-same}
 use Rattle.clauses.proofs.Turns.{words-rows, Ahead, ahead-start, turn, turned}
 use Rattle.formula.specs.Families.{callRows}
 use Rattle.formula.proofs.Shapes.{shape-f}
-use Rattle.formula.proofs.Small.{trains-is}
+use Rattle.tables.proofs.Small.{trains-is}
 use Rattle.formula.proofs.Trains.{train-ready}
 use Rattle.formula.proofs.family_f.Statement.{statement}
 use Rattle.formula.proofs.family_f.Tie as tie
@@ -27,11 +27,11 @@ abbrev words : BookStruct → ℕ → List ℤ
 words b i = wordsOf (clauses (instanceOf (held b)) i)
 
 abbrev Inv-loop : tie.InvT-loop
-Inv-loop b rows sizes starts ends values out₀ runs trains next₀ i₀ out next i =
+Inv-loop b rows sizes values out₀ runs trains next₀ i₀ out next i =
     Ahead values (each (range 0 trains) (words b)) (each (range i trains) (words b)) next₀ out₀ next out
 
 abbrev μ-loop : tie.MeasureT-loop
-μ-loop b rows sizes starts ends values out₀ runs trains next₀ i₀ out next i = trains - i
+μ-loop b rows sizes values out₀ runs trains next₀ i₀ out next i = trains - i
 
 loop-holds : tie.Need-loop-holds Inv-loop μ-loop
 loop-holds c = ahead-start _ _ _ _
@@ -50,7 +50,7 @@ array-read-train-calls c = omega arith
 
 first-variable-requires : tie.Need-first-variable-requires Inv-loop μ-loop
 first-variable-requires c κs =
-    let s = c .before .before .before .before .before .before .before in
+    let s = c .before .before .before .before .before in
     (s .pre .counted, omega (arith, c .loop-test .taken))
 
 add-train-calls : tie.Need-add-train-calls Inv-loop μ-loop
@@ -77,46 +77,16 @@ part-train-calls-start-2 c = omega arith
 part-train-calls-end-2 : tie.Need-part-train-calls-end-2 Inv-loop μ-loop
 part-train-calls-end-2 c = omega arith
 
-add-train-calls-3 : tie.Need-add-train-calls-3 Inv-loop μ-loop
-add-train-calls-3 c = omega arith
-
-mul-train-calls-2 : tie.Need-mul-train-calls-2 Inv-loop μ-loop
-mul-train-calls-2 c = omega arith
-
-sub-train-calls-3 : tie.Need-sub-train-calls-3 Inv-loop μ-loop
-sub-train-calls-3 c = omega arith
-
-part-train-calls-start-3 : tie.Need-part-train-calls-start-3 Inv-loop μ-loop
-part-train-calls-start-3 c = omega arith
-
-part-train-calls-end-3 : tie.Need-part-train-calls-end-3 Inv-loop μ-loop
-part-train-calls-end-3 c = omega arith
-
-add-train-calls-4 : tie.Need-add-train-calls-4 Inv-loop μ-loop
-add-train-calls-4 c = omega arith
-
-mul-train-calls-3 : tie.Need-mul-train-calls-3 Inv-loop μ-loop
-mul-train-calls-3 c = omega arith
-
-sub-train-calls-4 : tie.Need-sub-train-calls-4 Inv-loop μ-loop
-sub-train-calls-4 c = omega arith
-
-part-train-calls-start-4 : tie.Need-part-train-calls-start-4 Inv-loop μ-loop
-part-train-calls-start-4 c = omega arith
-
-part-train-calls-end-4 : tie.Need-part-train-calls-end-4 Inv-loop μ-loop
-part-train-calls-end-4 c = omega arith
-
 train-calls-requires : tie.Need-train-calls-requires Inv-loop μ-loop
 train-calls-requires c κs =
-    let t = c .before .before .before .before .before .before in
-    let s = t .before .before .before .before .before .before .before in
-    train-ready (s .pre) (t .before .loop .i) (t .loop-test .taken) (c .before .before .before .before .before .first-variable .ensures)
+    let t = c .before .before .before .before in
+    let s = t .before .before .before .before .before in
+    train-ready (s .pre) (t .before .loop .i) (t .loop-test .taken) (c .before .before .before .first-variable .ensures)
 
 add-i : tie.Need-add-i Inv-loop μ-loop
 add-i c =
-    let t = c .before .before .before .before .before .before .before .before in
-    let s = t .before .before .before .before .before .before .before in
+    let t = c .before .before .before .before .before .before in
+    let s = t .before .before .before .before .before in
     omega (arith, t .loop-test .taken, s .pre .counted .passed .packed .counts .trains)
 
 loop-less : tie.Need-loop-less Inv-loop μ-loop
@@ -124,7 +94,7 @@ loop-less c = omega arith
 
 loop-again : tie.Need-loop-again Inv-loop μ-loop
 loop-again c =
-    let t = c .before .before .before .before .before .before .before .before in
+    let t = c .before .before .before .before .before .before in
     turn _ _ _ (t .before .loop .inv) (t .loop-test .taken) (c .before .train-calls .ensures)
 
 same-length : tie.Need-same-length Inv-loop μ-loop
@@ -132,7 +102,7 @@ same-length c = c .before .loop .inv .size
 
 returns : tie.Need-returns Inv-loop μ-loop
 returns c =
-    let s = c .before .before .before .before .before .before .before in
+    let s = c .before .before .before .before .before in
     let I : Instance = instanceOf (held (s .args .b)) in
     let row = words-rows (clauses I) _
     ∙ ap (λ (n : ℕ). wordsOf (each (upTo n) (clauses I))) (sym (trains-is (s .args .b) (s .pre .counted .passed)))
@@ -159,16 +129,6 @@ family-f-spec =
     sub-train-calls-2
     part-train-calls-start-2
     part-train-calls-end-2
-    add-train-calls-3
-    mul-train-calls-2
-    sub-train-calls-3
-    part-train-calls-start-3
-    part-train-calls-end-3
-    add-train-calls-4
-    mul-train-calls-3
-    sub-train-calls-4
-    part-train-calls-start-4
-    part-train-calls-end-4
     train-calls-requires
     add-i
     loop-less

@@ -15,7 +15,7 @@ use Rattle.clauses.proofs.Turns.{words-rows, Ahead, ahead-start, turn, turned}
 use Rattle.tables.specs.Tables.{Passed}
 use Rattle.formula.specs.Families.{pairsBehind}
 use Rattle.formula.proofs.Shapes.{shape-i}
-use Rattle.formula.proofs.Small.{intervals-is}
+use Rattle.tables.proofs.Small.{intervals-is}
 use Rattle.formula.proofs.family_i.Statement.{statement}
 use Rattle.formula.proofs.family_i.Tie as tie
 

@@ -14,7 +14,7 @@ use Rattle.clauses.proofs.Laws.{walks-same}
 use Rattle.clauses.proofs.Turns.{words-rows, Ahead, ahead-start, turn, turned}
 use Rattle.tables.specs.Tables.{Passed}
 use Rattle.formula.specs.Families.{pairsBehind}
-use Rattle.formula.proofs.Small.{trains-is}
+use Rattle.tables.proofs.Small.{trains-is}
 use Rattle.formula.proofs.interval_pairs.Statement.{statement}
 use Rattle.formula.proofs.interval_pairs.Tie as tie
 

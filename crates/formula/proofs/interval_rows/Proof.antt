@@ -11,8 +11,8 @@ use Rattle.clauses.proofs.Laws.{walks-same}
 use Rattle.families.specs.Rows.{rowsB, rowsC, rowsE}
 use Rattle.formula.specs.declared.Family.{Family}
 use Rattle.formula.specs.Families.{rowsOf}
-use Rattle.formula.proofs.Small.{width-is}
-use Rattle.formula.proofs.Held.{few-n, sizes-n, runs-n, starting-n}
+use Rattle.tables.proofs.Small.{width-is}
+use Rattle.tables.proofs.Held.{few-n, sizes-n, runs-n, starting-n}
 use Rattle.formula.proofs.interval_rows.Statement.{statement}
 use Rattle.formula.proofs.interval_rows.Tie as tie
 

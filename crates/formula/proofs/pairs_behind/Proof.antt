@@ -15,7 +15,7 @@ use Rattle.clauses.proofs.Turns.{words-each, Ahead, ahead-start, turn, turned}
 use Rattle.tables.specs.Tables.{Passed}
 use Rattle.families.specs.Rows.{rowsI}
 use Rattle.formula.specs.Families.{pairsBehind}
-use Rattle.formula.proofs.Small.{segments-is, trains-is}
+use Rattle.tables.proofs.Small.{segments-is, trains-is}
 use Rattle.formula.proofs.pairs_behind.Statement.{statement}
 use Rattle.formula.proofs.pairs_behind.Tie as tie
 

@@ -21,20 +21,20 @@ abbrev words : BookStruct → ℕ → ℕ → List ℤ
 words b train number = wordsOf (callRows (instanceOf (held b)) train number)
 
 abbrev Inv-loop : tie.InvT-loop
-Inv-loop b train n first rows sizes starts ends values out₀ calls next₀ number₀ out next number =
+Inv-loop b train n first rows sizes values out₀ calls next₀ number₀ out next number =
     Ahead values (each (range 0 calls) (words b train)) (each (range number calls) (words b train)) next₀ out₀ next out
 
 abbrev μ-loop : tie.MeasureT-loop
-μ-loop b train n first rows sizes starts ends values out₀ calls next₀ number₀ out next number = calls - number
+μ-loop b train n first rows sizes values out₀ calls next₀ number₀ out next number = calls - number
 
 calls-of-requires : tie.Need-calls-of-requires Inv-loop μ-loop
-calls-of-requires c κs = c .before .before .before .before .before .pre .passed .packed .counts
+calls-of-requires c κs = c .before .before .before .pre .passed .packed .counts
 
 loop-holds : tie.Need-loop-holds Inv-loop μ-loop
 loop-holds c = ahead-start _ _ _ _
 
 call-clause-requires : tie.Need-call-clause-requires Inv-loop μ-loop
-call-clause-requires c κs = c .before .before .before .before .before .before .before .before .before .pre
+call-clause-requires c κs = c .before .before .before .before .before .before .before .pre
 
 add-number : tie.Need-add-number Inv-loop μ-loop
 add-number c = omega arith
@@ -53,7 +53,7 @@ same-length c = c .before .loop .inv .size
 returns : tie.Need-returns Inv-loop μ-loop
 unfolding instanceOf compile
 returns c =
-    let s = c .before .before .before .before .before .before .before .before in
+    let s = c .before .before .before .before .before .before in
     let clauses = callRows (instanceOf (held (s .args .b))) (s .args .train) in
     let row = words-rows clauses _ ∙ ap (λ (n : ℕ). wordsOf (each (upTo n) clauses)) (c .before .before .calls-of .ensures .0) in
     walks-same row (turned _ _ _ (c .before .loop .inv) (c .loop-test .left))

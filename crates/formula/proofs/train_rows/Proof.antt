@@ -2,19 +2,21 @@
 -- nothing.
 use native.Mathlib.Omega.{arith}
 use mathlib.Core.Path.{_≡_, sym, ap, ap₂, _∙_}
-use Prim.Native.Nat.{ℕ, _+_, _*_, _-_, _≤_, _<_}
+use Prim.Native.Nat.{ℕ, _-_, _≤_, _<_}
 use mathlib.Core.List.{List}
+use lib.ListN.{getD}
 use lib.IntN.{ℤ}
 use Rattle.model.specs.declared.Book.{Book as BookStruct}
-use Rattle.spec.specs.Lists.{range, each}
-use Rattle.spec.specs.Instance.{Instance, instanceOf, trainLength}
+use Rattle.spec.specs.Lists.{Bytes, range, each}
+use Rattle.spec.specs.Instance.{instanceOf}
 use Rattle.spec.specs.Formula.{base, wordsOf}
 use Rattle.spec.specs.Held.{held}
 use Rattle.clauses.proofs.Laws.{walks-same}
 use Rattle.clauses.proofs.Turns.{words-each, Ahead, ahead-start, turn, turned}
 use Rattle.formula.specs.Ready.{TrainReady}
-use Rattle.formula.proofs.Small.{intervals-is}
-use Rattle.formula.proofs.Trains.{few-runs, base-here, base-below, departs-here, length-here, length-asks, departs-asks}
+use Rattle.tables.proofs.Small.{intervals-is}
+use Rattle.tables.proofs.Here.{noTrain, departs-here, length-here, length-asks, departs-asks}
+use Rattle.formula.proofs.Trains.{base-asks, base-here}
 use Rattle.formula.specs.declared.Family.{Family}
 use Rattle.formula.specs.declared.Family.the-variants.{B, C, D, E, G, H}
 use Rattle.formula.specs.Families.{fromBy, toBy, rowsOf, trainRows}
@@ -26,11 +28,11 @@ abbrev words : BookStruct → Family → ℕ → ℕ → List ℤ
 words b family i t = wordsOf (rowsOf (instanceOf (held b)) family i (base (instanceOf (held b)) i t))
 
 abbrev Inv-loop : tie.InvT-loop
-Inv-loop family train n first rows sizes starts ends meets end values out₀ b l d width to next₀ interval₀ out next interval =
+Inv-loop family train n first rows sizes firsts nexts meets end values out₀ b l d to next₀ interval₀ out next interval =
     Ahead values (each (range interval₀ to) (words b family train)) (each (range interval to) (words b family train)) next₀ out₀ next out
 
 abbrev μ-loop : tie.MeasureT-loop
-μ-loop family train n first rows sizes starts ends meets end values out₀ b l d width to next₀ interval₀ out next interval = to - interval
+μ-loop family train n first rows sizes firsts nexts meets end values out₀ b l d to next₀ interval₀ out next interval = to - interval
 
 -- a family ends by the last interval
 to-below : (f : Family) (d T : ℕ) → d < T → toBy f d T ≤ T
@@ -54,6 +56,11 @@ unfolding trainRows
 train-words b f i e g h k =
     ap₂ (λ (a z : ℕ). each (range a z) (words b f i)) (e ∙ ap (fromBy f) h) (g ∙ ap₂ (toBy f) h k) ∙ sym (words-each _ _)
 
+-- the departure of a train that is ready
+departs : {b : BookStruct} {i n x : ℕ} {rows sizes : Bytes} → TrainReady b i n x rows sizes
+    → (getD (b .trains) i noTrain .departure < b .intervals) × (b .intervals < 65536)
+departs {b} {i} h = departs-asks b (h .passed) i (h .known)
+
 mul-t : tie.Need-mul-t Inv-loop μ-loop
 mul-t c =
     let p = c .before .before .before .before .before .before .pre .0 in
@@ -65,18 +72,12 @@ element-copy-out-t c =
     omega (arith, p .passed .packed .counts .trains, p .known)
 
 length-in-segments-requires : tie.Need-length-in-segments-requires Inv-loop μ-loop
-length-in-segments-requires c κs = let s = c .before .before .before .before .before .before .before in length-asks (s .pre .0)
-
-add-width : tie.Need-add-width Inv-loop μ-loop
-add-width c = let p = c .before .before .before .before .before .before .before .before .pre .0 in omega (arith, few-runs p)
-
-add-width-2 : tie.Need-add-width-2 Inv-loop μ-loop
-add-width-2 c =
-    let p = c .before .before .before .before .before .before .before .before .pre .0 in
-    omega (arith, few-runs p, p .passed .packed .counts .segments)
+length-in-segments-requires c κs =
+    let s = c .before .before .before .before .before .before .before in
+    length-asks (s .args .t2) (s .pre .0 .passed) (s .args .train) (s .pre .0 .known)
 
 end-interval-requires : tie.Need-end-interval-requires Inv-loop μ-loop
-end-interval-requires c κs = let s = c .before .before .before .before .before .before .before .before in departs-asks (s .pre .0)
+end-interval-requires c κs = let s = c .before .before .before .before .before .before .before .before in departs (s .pre .0)
 
 first-interval-requires : tie.Need-first-interval-requires Inv-loop μ-loop
 first-interval-requires c κs = tt
@@ -93,7 +94,7 @@ module _ (c : tie.In-loop Inv-loop μ-loop) where
   t = c .before .loop .interval
 
   ready : TrainReady (start .args .t2) (start .args .train) (start .args .n) (start .args .first) (start .args .rows .now)
-      (start .args .sizes .now) (start .args .starts .now) (start .args .ends .now)
+      (start .args .sizes .now)
   ready = start .pre .0
 
   inside : t < start .args .t2 .intervals
@@ -102,37 +103,44 @@ module _ (c : tie.In-loop Inv-loop μ-loop) where
         arith,
         c .loop-test .taken,
         c .before .before .before .end-interval .ensures,
-        to-below (start .args .family) _ _ (departs-asks ready .0),
+        to-below (start .args .family) _ _ (departs ready .0),
       )
 
-  small : start .args .first + t * (start .args .n + 1 + start .args .t2 .«segment_count») < 900000000
-  small = omega (arith, base-below ready t (omega (arith, inside)))
-
-mul-interval-rows : tie.Need-mul-interval-rows Inv-loop μ-loop
-mul-interval-rows c = omega (arith, small c)
-
-add-interval-rows : tie.Need-add-interval-rows Inv-loop μ-loop
-add-interval-rows c = omega (arith, small c)
+base-from-requires : tie.Need-base-from-requires Inv-loop μ-loop
+base-from-requires c κs =
+    let numbers = ready c .passed .packed .numbers .intervals in
+    base-asks (ready c) (t c) (omega (arith, inside c, numbers))
 
 interval-rows-requires : tie.Need-interval-rows-requires Inv-loop μ-loop
 interval-rows-requires c κs =
-    let i = c .before in
+    let v = c .before in
+    let i = v .before in
     let r = ready i in
-    let l = i .before .before .before .before .length-in-segments .ensures in
-    (r .passed, r .known, r .runs, small i, length-here r l .0, length-here r l .1, r .tables, start i .pre .1)
+    let a = start i .args in
+    let l = length-here (a .t2) (r .passed) (a .train) (r .known) (i .before .before .before .before .length-in-segments .ensures) in (
+      r .passed,
+      r .known,
+      r .runs,
+      omega (arith, v .base-from .ensures .1),
+      l .0,
+      l .1,
+      r .tables,
+      start i .pre .1,
+      start i .pre .2,
+    )
 
 add-interval : tie.Need-add-interval Inv-loop μ-loop
-add-interval c = let i = c .before .before .before in omega (arith, inside i, departs-asks (ready i) .1)
+add-interval c = let i = c .before .before .before .before in omega (arith, inside i, departs (ready i) .1)
 
 loop-less : tie.Need-loop-less Inv-loop μ-loop
-loop-less c = omega (arith, c .before .before .before .loop-test .taken)
+loop-less c = omega (arith, c .before .before .before .before .loop-test .taken)
 
 loop-again : tie.Need-loop-again Inv-loop μ-loop
 loop-again c =
-    let i = c .before .before .before in
+    let i = c .before .before .before .before in
     let a = start i .args in
     turn _ _ _ (i .before .loop .inv) (i .loop-test .taken)
-    (walks-same (same-words (a .t2) (a .family) (a .train) (base-here (ready i) (t i))) (c .before .interval-rows .ensures))
+    (walks-same (same-words (a .t2) (a .family) (a .train) (base-here (ready i) (t i) (c .before .before .before .base-from .ensures .0))) (c .before .interval-rows .ensures))
 
 same-length : tie.Need-same-length Inv-loop μ-loop
 same-length c = c .before .loop .inv .size
@@ -142,7 +150,9 @@ returns c =
     let s = c .before .before .before .before .before .before .before .before .before .before .before .before in
     let a = s .args in
     let same = train-words (a .t2) (a .family) (a .train) (c .before .before .first-interval .ensures)
-    (c .before .before .before .end-interval .ensures) (departs-here (s .pre .0)) (sym (intervals-is (a .t2) (s .pre .0 .passed))) in
+    (c .before .before .before .end-interval .ensures)
+    (departs-here (a .t2) (s .pre .0 .passed) (a .train) (s .pre .0 .known))
+    (sym (intervals-is (a .t2) (s .pre .0 .passed))) in
     walks-same same (turned _ _ _ (c .before .loop .inv) (c .loop-test .left))
 
 pub train-rows-spec : {M : Type 1} → statement M
@@ -154,13 +164,10 @@ train-rows-spec =
     mul-t
     element-copy-out-t
     length-in-segments-requires
-    add-width
-    add-width-2
     end-interval-requires
     first-interval-requires
     loop-holds
-    mul-interval-rows
-    add-interval-rows
+    base-from-requires
     interval-rows-requires
     add-interval
     loop-less

@@ -1,46 +1,55 @@
 -- `listing::extend` meets its contract; what is missing falls at each call of itself. The loop's invariant: the tables and the
--- count are those after the paths that go on over the directed segments below d. Assumes nothing.
+-- count are those after the paths that go on over the first i successors of the path's last segment. Assumes nothing.
 use borrow.Author.Tests.{ltb-true, ltb-false}
-use Prim.Native.Nat.{ℕ, _<_, _≤_, _-_}
+use Prim.Native.Nat.{ℕ, _+_, _*_, _/_, _<_, _≤_, _-_}
 use native.Mathlib.Omega.{arith}
-use mathlib.Core.Path.{_≡_, sym, ap, _∙_}
-use mathlib.Core.Bool.{Bool, true, false}
+use mathlib.Core.Path.{_≡_, sym, ap, _∙_, subst}
+use mathlib.Core.Bool.{Bool, true, false, not, Bool·not-not}
 use mathlib.Core.Logic.{_⊎_, inl, inr, ⊎-elim}
-use mathlib.Core.List.{List, _++_}
-use lib.ListN.{length, length-append}
+use mathlib.Core.List.{List, _++_, map}
+use lib.ListN.{length, getD, length-append}
 use lib.Dec.{T}
 use borrow.Fn.Kinds.{In}
 use borrow.Fn.PlainCycle.{Measures, is, falls, and}
-use Rattle.spec.specs.Lists.{upTo, each, one, all}
-use Rattle.listing.specs.Listed.{pathOf, goesOnBy, extendBy}
+use Rattle.spec.specs.Lists.{upTo, each, one, all, has, lastOr}
+use Rattle.spec.specs.Book.{segmentOf}
+use Rattle.listing.specs.Listed.{pathOf, successorsBy, Covered, extendBy}
+use Rattle.listing.proofs.Leaves.{last-append}
 use Rattle.listing.proofs.Lists.{Listed, listed-none, listed-rows, listed-sizes, listed-next, listed-skip, listed-end}
-use Rattle.listing.proofs.Lists.{short, count-one, each-nothing, onward, onward-taken, onward-left, onward-short}
+use Rattle.listing.proofs.Lists.{short, count-one, each-nothing, each-short, onward, onward-taken, onward-left, onward-short}
 use Rattle.listing.proofs.Lists.{extend-none, extend-more, path-of, path-size, path-packed}
+use Rattle.listing.proofs.Successors.{each-slice, covered-number, covered-fan, covered-next}
 use Rattle.listing.proofs.extend.Reads as extend
 use Rattle.listing.proofs.extend.Kinds as extend-kinds
 use Rattle.listing.proofs.+extend.Lts-extend as lts
-use Rattle.listing.proofs.goes_on.Reads as goes-on-reads
 use Rattle.listing.proofs.keep.Reads as keep-reads
+use Rattle.listing.proofs.last_of.Reads as last-of-reads
 use Rattle.listing.proofs.pushed.Reads as pushed-reads
+use Rattle.listing.proofs.uses.Reads as uses-reads
+use Rattle.track.proofs.wide.Reads as wide-reads
 use Rattle.listing.proofs.+extend.{statement}
 use Rattle.listing.proofs.+extend.Tie.{close}
 
-abbrev μ-extend : Measures 3 extend-kinds.ps ℕ
+abbrev μ-extend : Measures 4 extend-kinds.ps ℕ
 μ-extend κs a = a .1 .1 .1 .1 .1 .1 .0
 
 -- what `extend` is given at the measure t, what a call of it asks below t, and the contracts of all that it calls
-abbrev extend-at : ℕ → In 3 extend-kinds.ps
-extend-at t = and 3 extend-kinds.ps (is 3 extend-kinds.ps μ-extend t) extend.Pre
+abbrev extend-at : ℕ → In 4 extend-kinds.ps
+extend-at t = and 4 extend-kinds.ps (is 4 extend-kinds.ps μ-extend t) extend.Pre
 
-abbrev extend-below : ℕ → In 3 extend-kinds.ps
-extend-below t = and 3 extend-kinds.ps (falls 3 extend-kinds.ps _<_ μ-extend t) extend.Pre
+abbrev extend-below : ℕ → In 4 extend-kinds.ps
+extend-below t = and 4 extend-kinds.ps (falls 4 extend-kinds.ps _<_ μ-extend t) extend.Pre
 
 abbrev calls : ℕ → lts.Claims
 calls t = (
   keep-reads.Asked,
   keep-reads.Learnt,
-  goes-on-reads.Asked,
-  goes-on-reads.Learnt,
+  last-of-reads.Asked,
+  last-of-reads.Learnt,
+  wide-reads.Asked,
+  wide-reads.Learnt,
+  uses-reads.Asked,
+  uses-reads.Learnt,
   pushed-reads.Asked,
   pushed-reads.Learnt,
   extend-below t,
@@ -48,16 +57,18 @@ calls t = (
 )
 
 abbrev Inv-loop : lts.InvT-loop
-Inv-loop table directed rows₀ sizes₀ count path missing found₀ d₀ rows sizes found d =
-    (d ≤ directed) × Listed count rows₀ sizes₀ (each (upTo d) (onward table directed (missing - 1) (pathOf path))) found rows sizes
+Inv-loop table fans rows₀ sizes₀ count path missing last fan base found₀ i₀ rows sizes found i =
+    (i ≤ fan)
+    × Listed count rows₀ sizes₀ (each (upTo i) (λ k. onward table fans (missing - 1) (pathOf path) (getD table (base + k) 0)))
+    found rows sizes
 
 abbrev μ-loop : lts.MeasureT-loop
-μ-loop table directed rows₀ sizes₀ count path missing found₀ d₀ rows sizes found d = directed - d
+μ-loop table fans rows₀ sizes₀ count path missing last fan base found₀ i₀ rows sizes found i = fan - i
 
 -- ---- nothing is missing: the path is kept
 
 keep-requires : (t : ℕ) → lts.Need-keep-requires (calls t) (extend-at t) extend.Post Inv-loop μ-loop
-keep-requires t c κs = let p = c .before .before .before .before .before .before .pre .1 in (p .2, p .3, p .4, p .5, omega arith)
+keep-requires t c κs = let p = c .before .before .before .before .before .before .before .pre .1 in (p .1, p .2, p .3, p .4, omega arith)
 
 add-result : (t : ℕ) → lts.Need-add-result (calls t) (extend-at t) extend.Post Inv-loop μ-loop
 add-result t c = omega arith
@@ -71,69 +82,150 @@ same-length-2 t c = c .before .before .before .before .keep .kept .1 .0
 returns : (t : ℕ) → lts.Need-returns (calls t) (extend-at t) extend.Post Inv-loop μ-loop
 returns t c =
     let k = c .before .before .before .before in
-    let s = k .before .before .before .before .before .before .before in
+    let s = k .before .before .before .before .before .before .before .before in
     let a = s .args in
-    let e : extendBy (a .table .now) (a .directed) (a .missing) (pathOf (a .path)) ≡ one (pathOf (a .path)) =
-    rw (k .before .before .before .if1 .taken) (extend-none (a .table .now) (a .directed) (pathOf (a .path))) in
-    (rw e (count-one (a .count) (pathOf (a .path)) (s .pre .1 .4)), rw e (k .keep .ensures .0), rw e (k .keep .ensures .1))
+    let e : extendBy (a .table .now) (a .fans .now) (a .missing) (pathOf (a .path)) ≡ one (pathOf (a .path)) =
+    rw (k .before .before .before .if1 .taken) (extend-none (a .table .now) (a .fans .now) (pathOf (a .path))) in
+    (rw e (count-one (a .count) (pathOf (a .path)) (s .pre .1 .3)), rw e (k .keep .ensures .0), rw e (k .keep .ensures .1))
 
 -- ---- one segment more
 
+last-of-requires : (t : ℕ) → lts.Need-last-of-requires (calls t) (extend-at t) extend.Post Inv-loop μ-loop
+last-of-requires t c κs = let p = c .before .before .before .before .before .pre .1 in (p .5, omega arith)
+
+-- the tables have the successors of the path's last segment
+module _ (t : ℕ) (c : lts.After-last-of (calls t) (extend-at t) extend.Post Inv-loop μ-loop) where
+  abbrev start : lts.Start (calls t) (extend-at t) extend.Post Inv-loop μ-loop
+  start = c .before .before .before .before .before .before
+
+  abbrev last : ℕ
+  last = c .last-of .result
+
+  covered : Covered (start .args .table .now) (start .args .fans .now) last
+  covered = subst (λ (d : ℕ). Covered (start .args .table .now) (start .args .fans .now) d) (sym (c .last-of .ensures)) (start .pre .1 .0)
+
+shared-slice-read-wide : (t : ℕ) → lts.Need-shared-slice-read-wide (calls t) (extend-at t) extend.Post Inv-loop μ-loop
+shared-slice-read-wide t c = let k = covered t (c .before) in omega (arith, covered-number k, k .held .fansLong)
+
+wide-requires : (t : ℕ) → lts.Need-wide-requires (calls t) (extend-at t) extend.Post Inv-loop μ-loop
+wide-requires t c κs = tt
+
+mul-base : (t : ℕ) → lts.Need-mul-base (calls t) (extend-at t) extend.Post Inv-loop μ-loop
+mul-base t c = omega (arith, covered-number (covered t (c .before .before)))
+
+-- what is known at the loop
 module _ (t : ℕ) (c : lts.At-loop (calls t) (extend-at t) extend.Post Inv-loop μ-loop) where
-  abbrev a : lts.Args (calls t) (extend-at t) extend.Post Inv-loop μ-loop (c .before .before .before .before .before .κs)
-  a = c .before .before .before .before .before .args
+  abbrev known : lts.After-last-of (calls t) (extend-at t) extend.Post Inv-loop μ-loop
+  known = c .before .before .before
 
+  abbrev args : lts.Args (calls t) (extend-at t) extend.Post Inv-loop μ-loop (start t known .κs)
+  args = start t known .args
+
+  abbrev path : List ℕ
+  path = pathOf (args .path)
+
+  abbrev fan : ℕ
+  fan = c .before .wide .result
+
+  -- the paths over the successor with a number
   abbrev paths : ℕ → List (List ℕ)
-  paths = onward (a .table .now) (a .directed) (a .missing - 1) (pathOf (a .path))
+  paths k = onward (args .table .now) (args .fans .now) (args .missing - 1) path (getD (args .table .now) (last t known * 128 + k) 0)
 
-  some : 1 ≤ a .missing
+  some : 1 ≤ args .missing
   some = omega arith
 
-  size : a .path .n ≡ length (pathOf (a .path))
-  size = path-size (pathOf (a .path)) (c .before .before .before .before .before .pre .1 .5)
+  size : args .path .n ≡ length path
+  size = path-size path (start t known .pre .1 .4)
 
-  are-short : (d : ℕ) → T (all short (each (upTo d) paths))
-  are-short = onward-short (a .table .now) (a .directed) (a .missing - 1) (pathOf (a .path)) (omega (arith, some, size))
+  are-short : (n : ℕ) → T (all short (each (upTo n) paths))
+  are-short n =
+      each-short paths n
+      (λ k _. onward-short (args .table .now) (args .fans .now) (args .missing - 1) path (omega (arith, some, size)) _)
+
+  fan-is : fan ≡ getD (args .fans .now) (last t known) 0
+  fan-is = c .before .wide .ensures .0
+
+  -- the row of the last segment's successors is in the table
+  inside : (last t known < 128) × (fan ≤ 128) × (length (args .table .now) ≡ 16384)
+  inside =
+      let k = covered t known in
+      (covered-number k, omega (arith, fan-is, covered-fan k), k .held .tableLong)
+
+  whole : each (upTo fan) paths ≡ extendBy (args .table .now) (args .fans .now) (args .missing) path
+  unfolding successorsBy
+  whole =
+      let on = onward (args .table .now) (args .fans .now) (args .missing - 1) path in
+      ap (λ (n : ℕ). each (upTo n) paths) fan-is
+      ∙ each-slice on 0 (args .table .now) (last t known * 128) (getD (args .fans .now) (last t known) 0) (omega (arith, inside, fan-is))
+      ∙ ap (λ (d : ℕ). each (successorsBy (args .table .now) (args .fans .now) d) on) (known .last-of .ensures)
+      ∙ sym (extend-more (args .table .now) (args .fans .now) (args .missing) path some)
 
   -- at the end the tables and the count are what the contract says
-  done : (a .directed ≤ c .loop .d) ⊎ (257 ≤ c .loop .found)
-      → Listed (a .count) (a .rows .now) (a .sizes .now) (extendBy (a .table .now) (a .directed) (a .missing) (pathOf (a .path)))
+  done : (fan ≤ c .loop .i) ⊎ (257 ≤ c .loop .found)
+      → Listed (args .count) (args .rows .now) (args .sizes .now) (extendBy (args .table .now) (args .fans .now) (args .missing) path)
       (c .loop .found) (c .loop .rows) (c .loop .sizes)
-  done h =
-      rw (extend-more (a .table .now) (a .directed) (a .missing) (pathOf (a .path)) some)
-      (listed-end paths (c .loop .inv .1) (are-short (c .loop .d)) (a .directed) (c .loop .inv .0) h)
+  done h = rw whole at (listed-end paths (c .loop .inv .1) (are-short (c .loop .i)) fan (c .loop .inv .0) h)
 
 loop-holds : (t : ℕ) → lts.Need-loop-holds (calls t) (extend-at t) extend.Post Inv-loop μ-loop
 loop-holds t c = (omega arith, rw each-nothing (listed-none _ _ _ (omega arith)))
 
-goes-on-requires : (t : ℕ) → lts.Need-goes-on-requires (calls t) (extend-at t) extend.Post Inv-loop μ-loop
-goes-on-requires t c κs =
-    let p = c .before .before .before .before .before .before .before .pre .1 in
-    (p .0, p .6, omega arith, omega arith)
+add-wide : (t : ℕ) → lts.Need-add-wide (calls t) (extend-at t) extend.Post Inv-loop μ-loop
+add-wide t c = omega (arith, inside t (c .before .before))
+
+shared-slice-read-wide-2 : (t : ℕ) → lts.Need-shared-slice-read-wide-2 (calls t) (extend-at t) extend.Post Inv-loop μ-loop
+shared-slice-read-wide-2 t c = omega (arith, inside t (c .before .before .before))
+
+wide-requires-2 : (t : ℕ) → lts.Need-wide-requires-2 (calls t) (extend-at t) extend.Post Inv-loop μ-loop
+wide-requires-2 t c κs = tt
+
+uses-requires : (t : ℕ) → lts.Need-uses-requires (calls t) (extend-at t) extend.Post Inv-loop μ-loop
+uses-requires t c κs = let p = start t (known t (c .before .before .before .before)) .pre .1 in omega arith
+
+-- the next segment
+module _ (t : ℕ) (c : lts.After-wide2 (calls t) (extend-at t) extend.Post Inv-loop μ-loop) where
+  abbrev looped : lts.At-loop (calls t) (extend-at t) extend.Post Inv-loop μ-loop
+  looped = c .before .before .before .before
+
+  abbrev d : ℕ
+  d = c .wide2 .result
+
+  next : Covered (args t looped .table .now) (args t looped .fans .now) d
+  next =
+      let l = known t looped in
+      subst (λ (d : ℕ). Covered (args t looped .table .now) (args t looped .fans .now) d) (sym (c .wide2 .ensures .0))
+      (covered-next (covered t l) (looped .loop .i) (omega (arith, fan-is t looped, c .before .before .before .loop-test .taken)))
+
+  -- whether the path has used its segment
+  used : (b : Bool) → has (d / 2) (map segmentOf (path t looped)) ≡ b
+      → has (segmentOf (getD (args t looped .table .now) (last t (known t looped) * 128 + looped .loop .i) 0))
+      (map segmentOf (path t looped)) ≡ b
+  unfolding segmentOf
+  used b e = ap (λ (k : ℕ). has (k / 2) (map segmentOf (path t looped))) (sym (c .wide2 .ensures .0)) ∙ e
 
 pushed-requires : (t : ℕ) → lts.Need-pushed-requires (calls t) (extend-at t) extend.Post Inv-loop μ-loop
 pushed-requires t c κs =
-    let l = c .before .before .before .before .before .before in
-    let p = l .before .before .before .before .before .pre .1 in
-    (p .5, omega (arith, some t l), omega arith)
+    let w = c .before .before .before .before in
+    let l = looped t w in
+    let p = start t (known t l) .pre .1 in
+    (p .4, omega (arith, some t l), covered-number (next t w))
 
 sub-extend : (t : ℕ) → lts.Need-sub-extend (calls t) (extend-at t) extend.Post Inv-loop μ-loop
 sub-extend t c = omega arith
 
 extend-requires : (t : ℕ) → lts.Need-extend-requires (calls t) (extend-at t) extend.Post Inv-loop μ-loop
 extend-requires t c κs =
-    let l = c .before .before .before .before .before .before .before in
-    let q = l .before .before .before .before .before .pre in
-    let p = q .1 in
-    let ds = pathOf (a t l .path) ++ one (l .loop .d) in
+    let w = c .before .before .before .before .before in
+    let l = looped t w in
+    let p = start t (known t l) .pre .1 in
+    let ds = path t l ++ one (d t w) in
     let e = c .pushed .ensures in
-    let z = length-append (pathOf (a t l .path)) (one (l .loop .d)) in (
+    let z = length-append (path t l) (one (d t w)) in
+    let on : lastOr 0 (pathOf (c .pushed .result)) ≡ d t w = rw (path-of ds e) (last-append (path t l) 0 (d t w)) in (
       omega arith,
       (
-        p .0,
-        p .1,
-        listed-rows (l .loop .inv .1) ∙ p .2,
-        listed-sizes (l .loop .inv .1) ∙ p .3,
+        subst (λ (d : ℕ). Covered (args t l .table .now) (args t l .fans .now) d) (sym on) (next t w),
+        listed-rows (l .loop .inv .1) ∙ p .1,
+        listed-sizes (l .loop .inv .1) ∙ p .2,
         omega (arith, ltb-true),
         path-packed ds e,
         omega (arith, path-size ds e),
@@ -141,29 +233,39 @@ extend-requires t c κs =
       ),
     )
 
-add-d : (t : ℕ) → lts.Need-add-d (calls t) (extend-at t) extend.Post Inv-loop μ-loop
-add-d t c = omega arith
+add-i : (t : ℕ) → lts.Need-add-i (calls t) (extend-at t) extend.Post Inv-loop μ-loop
+add-i t c = omega arith
 
 loop-less : (t : ℕ) → lts.Need-loop-less (calls t) (extend-at t) extend.Post Inv-loop μ-loop
 loop-less t c = omega arith
 
+turned : {a b : Bool} → not a ≡ b → a ≡ not b
+turned {a} e = sym (Bool·not-not a) ∙ ap not e
+
 loop-again : (t : ℕ) → lts.Need-loop-again (calls t) (extend-at t) extend.Post Inv-loop μ-loop
 loop-again t c =
-    let g = c .before in
-    let l = g .before .before .before in
-    let d = l .loop .d in
-    let more = onward-taken (a t l .table .now) (a t l .directed) (a t l .missing - 1) (pathOf (a t l .path)) d in
-    let none = onward-left (a t l .table .now) (a t l .directed) (a t l .missing - 1) (pathOf (a t l .path)) d in
-    let on : (b : Bool) → g .goes-on .result ≡ b → goesOnBy (a t l .table .now) (pathOf (a t l .path)) d ≡ b =
-    λ b e. sym (g .goes-on .ensures) ∙ e in (
+    let u = c .before in
+    let w = u .before in
+    let l = looped t w in
+    let i = l .loop .i in
+    let a = args t l in
+    let at = getD (a .table .now) (last t (known t l) * 128 + i) 0 in
+    let more = onward-taken (a .table .now) (a .fans .now) (a .missing - 1) (path t l) at in
+    let none = onward-left (a .table .now) (a .fans .now) (a .missing - 1) (path t l) at in
+    let same = ap (λ (k : ℕ). extendBy (a .table .now) (a .fans .now) (a .missing - 1) (path t l ++ one k))
+    (sym (w .wide2 .ensures .0)) in (
       omega arith,
       ⊎-elim
-          (λ w.
-          let e = more (on true (w .0 .taken)) ∙ ap (extendBy (a t l .table .now) (a t l .directed) (a t l .missing - 1)) (sym (path-of _ (w .3 .ensures))) in
-          let k = w .4 .ensures in
-          rw (w .9, w .10, w .11)
-          (listed-next (paths t l) (l .loop .inv .1) (are-short t l d) (rw e (record { counted = k .0; filled = k .1; sized = k .2 }))))
-          (λ w. rw (w .1, w .2, w .3) (listed-skip (paths t l) (l .loop .inv .1) (are-short t l d) (none (on false (w .0 .left)))))
+          (λ v.
+          let e = more (used t w false (sym (u .uses .ensures) ∙ turned (v .0 .taken))) ∙ same
+          ∙ ap (extendBy (a .table .now) (a .fans .now) (a .missing - 1)) (sym (path-of _ (v .3 .ensures))) in
+          let k = v .4 .ensures in
+          rw (v .9, v .10, v .11)
+          (listed-next (paths t l) (l .loop .inv .1) (are-short t l i) (rw e (record { counted = k .0; filled = k .1; sized = k .2 }))))
+          (λ v.
+          rw (v .1, v .2, v .3)
+          (listed-skip (paths t l) (l .loop .inv .1) (are-short t l i)
+          (none (used t w true (sym (u .uses .ensures) ∙ turned (v .0 .left))))))
           (c .if3 .came),
     )
 
@@ -188,19 +290,29 @@ returns-3 : (t : ℕ) → lts.Need-returns-3 (calls t) (extend-at t) extend.Post
 returns-3 t c = let l = done t (c .before) (inl (c .loop-test .left)) in (l .counted, l .filled, l .sized)
 
 pub +extend-spec : {M : Type 1} → statement M
-+extend-spec =
-    close μ-extend λ t. lts.spec (calls t) (extend-at t) extend.Post Inv-loop μ-loop
++extend-spec = close μ-extend λ t. lts.spec (calls t)
+    (extend-at t)
+    extend.Post
+    Inv-loop
+    μ-loop
     (keep-requires t)
     (add-result t)
     (same-length t)
     (same-length-2 t)
     (returns t)
+    (last-of-requires t)
+    (shared-slice-read-wide t)
+    (wide-requires t)
+    (mul-base t)
     (loop-holds t)
-    (goes-on-requires t)
+    (add-wide t)
+    (shared-slice-read-wide-2 t)
+    (wide-requires-2 t)
+    (uses-requires t)
     (pushed-requires t)
     (sub-extend t)
     (extend-requires t)
-    (add-d t)
+    (add-i t)
     (loop-less t)
     (loop-again t)
     (same-length-3 t)

@@ -8,37 +8,39 @@ use mathlib.Core.Path.{refl, _∙_}
 use mathlib.Core.Logic.{_⊎_, inl, inr}
 use mathlib.Core.List.{List}
 use lib.Dec.{T}
-use Rattle.spec.specs.Lists.{upTo, each, one, all}
+use Rattle.spec.specs.Lists.{upTo, each, one, all, lastOr}
 use Rattle.spec.specs.Held.{padded}
 use Rattle.listing.specs.Listed.{pathOf, packedPath, extendBy, pathsBy}
 use Rattle.listing.proofs.Lists.{Listed, listed-none, listed-rows, listed-sizes, listed-next, listed-end}
-use Rattle.listing.proofs.Lists.{short, each-nothing, from-short}
+use Rattle.listing.proofs.Lists.{short, each-nothing, each-short, extend-short}
 use Rattle.listing.proofs.list_paths.Statement.{statement}
 use Rattle.listing.proofs.list_paths.Tie as tie
 
 abbrev Inv-loop : tie.InvT-loop
-Inv-loop table directed rows₀ sizes₀ count size found₀ d₀ rows sizes found d =
-    (d ≤ directed) × Listed count rows₀ sizes₀ (each (upTo d) (λ i. extendBy table directed (size - 1) (one i))) found rows sizes
+Inv-loop table fans directed rows₀ sizes₀ count size found₀ d₀ rows sizes found d =
+    (d ≤ directed) × Listed count rows₀ sizes₀ (each (upTo d) (λ i. extendBy table fans (size - 1) (one i))) found rows sizes
 
 abbrev μ-loop : tie.MeasureT-loop
-μ-loop table directed rows₀ sizes₀ count size found₀ d₀ rows sizes found d = directed - d
+μ-loop table fans directed rows₀ sizes₀ count size found₀ d₀ rows sizes found d = directed - d
 
 -- the paths that start over a directed segment
 module _ (s : tie.Start Inv-loop μ-loop) where
   abbrev from : ℕ → List (List ℕ)
-  from d = extendBy (s .args .table .now) (s .args .directed) (s .args .size - 1) (one d)
+  from d = extendBy (s .args .table .now) (s .args .fans .now) (s .args .size - 1) (one d)
 
   are-short : (d : ℕ) → T (all short (each (upTo d) from))
-  are-short = from-short (s .args .table .now) (s .args .directed) (s .args .size) (omega arith) (omega arith)
+  are-short d =
+      each-short from d (λ i _. extend-short (s .args .table .now) (s .args .fans .now) (s .args .size - 1) (one i) (omega arith))
 
 -- at the end the tables and the count are what the contract says
 module _ (c : tie.At-loop Inv-loop μ-loop) where
   abbrev start : tie.Start Inv-loop μ-loop
-  start = c .before .before .before .before
+  start = c .before .before .before .before .before
 
   done : (start .args .directed ≤ c .loop .d) ⊎ (257 ≤ c .loop .found)
       → Listed (start .args .count) (start .args .rows .now) (start .args .sizes .now)
-      (pathsBy (start .args .table .now) (start .args .directed) (start .args .size)) (c .loop .found) (c .loop .rows) (c .loop .sizes)
+      (pathsBy (start .args .table .now) (start .args .fans .now) (start .args .directed) (start .args .size))
+      (c .loop .found) (c .loop .rows) (c .loop .sizes)
   unfolding pathsBy
   done h = listed-end (from start) (c .loop .inv .1) (are-short start (c .loop .d)) (start .args .directed) (c .loop .inv .0) h
 
@@ -55,14 +57,13 @@ sub-extend : tie.Need-sub-extend Inv-loop μ-loop
 sub-extend c = omega arith
 
 extend-requires : tie.Need-extend-requires Inv-loop μ-loop
-unfolding pathOf packedPath padded
+unfolding pathOf packedPath padded lastOr
 extend-requires c κs =
     let l = c .before .before .before .before in
     let p = start l .pre in (
-      p .0,
-      p .1,
-      listed-rows (l .loop .inv .1) ∙ p .2,
-      listed-sizes (l .loop .inv .1) ∙ p .3,
+      p .0 (l .loop .d) (c .before .before .before .loop-test .taken),
+      listed-rows (l .loop .inv .1) ∙ p .1,
+      listed-sizes (l .loop .inv .1) ∙ p .2,
       omega (arith, ltb-true),
       refl,
       omega arith,
@@ -81,7 +82,8 @@ loop-again c =
     let e = c .before .before .before .before .extend .ensures in
     let l = c .before .before .before .before .before .before .before .before .before in (
       omega arith,
-      listed-next (from (start l)) (l .loop .inv .1) (are-short (start l) (l .loop .d)) (record { counted = e .0; filled = e .1; sized = e .2 }),
+      listed-next (from (start l)) (l .loop .inv .1) (are-short (start l) (l .loop .d))
+          (record { counted = e .0; filled = e .1; sized = e .2 }),
     )
 
 same-length : tie.Need-same-length Inv-loop μ-loop

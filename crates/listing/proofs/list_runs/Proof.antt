@@ -1,187 +1,189 @@
--- `listing::list_runs` meets its contract. The loop's invariant: the tables and the count are those after the paths of l, l + 1,
--- .. l + j - 1 segments, by the table of pairs, which is the book's. Assumes nothing.
+-- `listing::list_runs` meets its contract: the paths of l segments, as they are read back from the rows, and further. Assumes nothing.
 use borrow.Author.Needs.{needs}
-use Prim.Native.Nat.{ℕ, _+_, _*_, _≤_, _-_}
+use Prim.Native.Nat.{ℕ, _*_, _≤_}
 use native.Mathlib.Omega.{arith}
-use mathlib.Core.Path.{_≡_, _∙_}
+use mathlib.Core.Path.{_≡_, sym, ap₂, _∙_, subst}
+use mathlib.Core.Logic.{⊎-elim}
 use mathlib.Core.List.{List}
 use lib.ListN.{length}
-use lib.Dec.{T}
-use Rattle.spec.specs.Lists.{Bytes, upTo, each, all}
-use Rattle.spec.specs.Book.{lengthInSegments, speedInSegments}
+use lib.Dec.{T, ltb}
+use Rattle.spec.specs.Lists.{Bytes, all, lastOr}
+use Rattle.spec.specs.Book.{Book, Train}
 use Rattle.spec.specs.Runs.{runsOf}
 use Rattle.spec.specs.Held.{held, heldTrain}
 use Rattle.track.proofs.Walks.{length-of-map}
-use Rattle.listing.specs.Listed.{pathsBy}
-use Rattle.listing.proofs.Lists.{Listed, listed-none, listed-le, listed-rows, listed-sizes, listed-next}
-use Rattle.listing.proofs.Lists.{short, each-nothing, levels-short, runs-same, reach, held-segments}
-use Rattle.listing.proofs.Levels.{listed-all}
+use Rattle.laws.proofs.Tests.{le-or-lt}
+use Rattle.listing.specs.Listed.{pathsBy, runsIn, furtherBy, countAfter}
+use Rattle.listing.proofs.Lists.{Listed, listed-le, listed-rows, listed-sizes, listed-any, listed-more, short, reach, held-segments}
+use Rattle.listing.proofs.Levels.{runs-further, fits, fits-long, fits-below, fits-short, paths-fit, read-back}
 use Rattle.listing.proofs.list_runs.Statement.{statement}
 use Rattle.listing.proofs.list_runs.Tie as tie
 
-abbrev Inv-loop : tie.InvT-loop
-Inv-loop table rows₀ sizes₀ l k directed found₀ j₀ rows sizes found j =
-    (j ≤ k + 1) × Listed 0 rows₀ sizes₀ (each (upTo j) (λ i. pathsBy table directed (l + i))) found rows sizes
-
-abbrev μ-loop : tie.MeasureT-loop
-μ-loop table rows₀ sizes₀ l k directed found₀ j₀ rows sizes found j = k + 1 - j
-
 -- the book's segments are as many as its struct says
-segments : (s : tie.Start Inv-loop μ-loop) → length (held (s .args .b) .segments) ≡ s .args .b .«segment_count»
+segments : (s : tie.Start) → length (held (s .args .b) .segments) ≡ s .args .b .«segment_count»
 segments s =
     let e : length (s .args .b .segments) ≡ 64 = search (needs, length-of-map) in
     held-segments (s .args .b) (s .pre .0) e
 
-module _ (c : tie.At-loop Inv-loop μ-loop) where
-  abbrev start : tie.Start Inv-loop μ-loop
-  start = c .before .before .before .before .before .before .before .before .before .before .before
+module _ (c : tie.After-speed-in-segments) where
+  abbrev start : tie.Start
+  start = c .before .before .before .before .before .before
 
-  abbrev table : Bytes
-  table = c .before .before .before .fill-leads .last .1 .0
+  abbrev b : Book
+  b = held (start .args .b)
+
+  abbrev t : Train
+  t = heldTrain (start .args .t)
 
   abbrev l : ℕ
-  l = c .before .before .before .before .before .before .before .length-in-segments .result
+  l = c .before .length-in-segments .result
 
   abbrev k : ℕ
-  k = c .before .before .before .before .before .before .speed-in-segments .result
+  k = c .speed-in-segments .result
 
   abbrev directed : ℕ
   directed = 2 * start .args .b .«segment_count»
 
-  l-is : l ≡ lengthInSegments (held (start .args .b)) (heldTrain (start .args .t))
-  l-is = c .before .before .before .before .before .before .before .length-in-segments .ensures
-
-  k-is : k ≡ speedInSegments (held (start .args .b)) (heldTrain (start .args .t))
-  k-is = c .before .before .before .before .before .before .speed-in-segments .ensures
+  directed-is : directed ≡ 2 * length (b .segments)
+  directed-is = omega (arith, segments start)
 
   bounds : (1 ≤ l) × (l ≤ 8) × (k ≤ 8)
-  bounds = omega (arith, l-is, k-is, reach (held (start .args .b)) (heldTrain (start .args .t)) (start .pre .5))
+  bounds =
+      omega (arith, c .before .length-in-segments .ensures, c .speed-in-segments .ensures, reach b t (start .pre .5))
 
-  -- the paths of l + i segments
-  abbrev level : ℕ → List (List ℕ)
-  level i = pathsBy table directed (l + i)
+  -- the paths of l segments
+  abbrev first : List (List ℕ)
+  first = pathsBy (start .args .table .now) (start .args .fans .now) directed l
 
-  are-short : T (all short (each (upTo (c .loop .j)) level))
-  are-short = levels-short table directed l (c .loop .j) (bounds .0) (omega (arith, bounds))
+  first-fit : T (all (fits b l) first)
+  first-fit = paths-fit (start .pre .6) directed l directed-is (bounds .0)
 
-  -- all levels are the book's runs
-  runs : each (upTo (k + 1)) level ≡ runsOf (held (start .args .b)) (heldTrain (start .args .t))
-  runs =
-      let few : length (held (start .args .b) .segments) ≤ 64 = omega (arith, segments start) in
-      let n : directed ≡ 2 * length (held (start .args .b) .segments) = omega (arith, segments start) in
-      runs-same (held (start .args .b)) (heldTrain (start .args .t)) (start .args .table .now) (start .pre .6) few l k directed table
-      l-is k-is n (c .before .before .before .fill-leads .ensures)
+  first-short : T (all short first)
+  first-short = fits-short b l first first-fit (omega (arith, bounds))
 
-length-in-segments-requires : tie.Need-length-in-segments-requires Inv-loop μ-loop
+-- when they are listed
+module _ (c : tie.After-list-paths) where
+  abbrev known : tie.After-speed-in-segments
+  known = c .before .before .before .before
+
+  abbrev given : tie.Start
+  given = start known
+
+  abbrev found : ℕ
+  found = c .list-paths .result
+
+  abbrev rows : Bytes
+  rows = c .list-paths .last .1 .1 .1 .0
+
+  abbrev sizes : Bytes
+  sizes = c .list-paths .last .1 .1 .1 .1 .0
+
+  listed : Listed 0 (given .args .rows .now) (given .args .sizes .now) (first known) found rows sizes
+  listed = let e = c .list-paths .ensures in record { counted = e .0; filled = e .1; sized = e .2 }
+
+  back : found ≤ 256 → runsIn rows (l known) 0 found ≡ first known
+  unfolding countAfter
+  back few =
+      ap₂ (λ (rows : Bytes) (n : ℕ). runsIn rows (l known) 0 n) (listed .filled) (listed .counted)
+      ∙ read-back 0 (first known) (given .args .rows .now) (given .pre .7) (omega (arith, listed .counted)) (first-short known) (l known)
+      (fits-long (b known) (l known) (first known) (first-fit known))
+
+length-in-segments-requires : tie.Need-length-in-segments-requires
 length-in-segments-requires c κs = search needs
 
-speed-in-segments-requires : tie.Need-speed-in-segments-requires Inv-loop μ-loop
+speed-in-segments-requires : tie.Need-speed-in-segments-requires
 speed-in-segments-requires c κs = search needs
 
-mul-directed : tie.Need-mul-directed Inv-loop μ-loop
-mul-directed c = omega arith
+mul-directed : tie.Need-mul-directed
+mul-directed c = search needs
 
-fill-leads-requires : tie.Need-fill-leads-requires Inv-loop μ-loop
-fill-leads-requires c κs =
-    let s = c .before .before .before .before .before .before .before in
-    (s .pre .0, s .pre .6)
-
-loop-holds : tie.Need-loop-holds Inv-loop μ-loop
-loop-holds c = (omega arith, rw each-nothing (listed-none _ _ _ (omega arith)))
-
-add-list-paths : tie.Need-add-list-paths Inv-loop μ-loop
-add-list-paths c = omega (arith, bounds (c .before .before .before .before))
-
-list-paths-requires : tie.Need-list-paths-requires Inv-loop μ-loop
+list-paths-requires : tie.Need-list-paths-requires
 list-paths-requires c κs =
-    let a = c .before .before .before .before in
-    let p = start a .pre in
-    let b = bounds a in (
-      a .before .before .before .fill-leads .kept .1 .0 ∙ p .6,
+    let a = c .before .before .before in
+    let s = start a in
+    let n = bounds a in (
+      λ d h. record { book = b a; held = s .pre .6; below = omega (arith, directed-is a) },
+      s .pre .7,
+      s .pre .8,
+      omega (arith, segments s, s .pre .6 .few),
       omega arith,
-      listed-rows (a .loop .inv .1) ∙ p .7,
-      listed-sizes (a .loop .inv .1) ∙ p .8,
-      listed-le (a .loop .inv .1),
       omega arith,
       omega arith,
     )
 
-add-j : tie.Need-add-j Inv-loop μ-loop
-add-j c = omega (arith, bounds (c .before .before .before .before .before .before .before .before .before .before))
-
-loop-less : tie.Need-loop-less Inv-loop μ-loop
-loop-less c = omega arith
-
-loop-again : tie.Need-loop-again Inv-loop μ-loop
-loop-again c =
-    let e = c .before .before .before .before .before .list-paths .ensures in
-    let a = c .before .before .before .before .before .before .before .before .before .before in (
-      omega (arith, c .before .before .before .before .before .before .before .before .before .loop-test .taken),
-      listed-next (level a) (a .loop .inv .1) (are-short a) (record { counted = e .0; filled = e .1; sized = e .2 }),
+list-further-requires : tie.Need-list-further-requires
+list-further-requires c κs =
+    let a = c .before .before .before .before .before .before in
+    let s = given a in
+    let n = bounds (known a) in (
+      listed-rows (listed a) ∙ s .pre .7,
+      listed-sizes (listed a) ∙ s .pre .8,
+      listed-le (listed a),
+      omega arith,
+      omega arith,
+      record {
+        book = b (known a);
+        held = s .pre .6;
+        below = λ few.
+            subst (λ (runs : List (List ℕ)). T (all (λ run. ltb (lastOr 0 run) (2 * length (b (known a) .segments))) runs))
+            (sym (back a few))
+            (fits-below (b (known a)) (l (known a)) (first (known a)) (first-fit (known a)));
+      },
     )
 
--- a level that added nothing: all runs are listed
-all-listed : (c : tie.Then1 Inv-loop μ-loop)
-    → Listed 0 (start (c .before .before .before .before .before .before .before .before .before .before) .args .rows .now) (start (c .before .before .before .before .before .before .before .before .before .before) .args .sizes .now)
-    (runsOf (held (start (c .before .before .before .before .before .before .before .before .before .before) .args .b)) (heldTrain (start (c .before .before .before .before .before .before .before .before .before .before) .args .t)))
-    (c .before .before .before .before .before .list-paths .result) (c .before .before .before .before .before .list-paths .last .1 .1 .0) (c .before .before .before .before .before .list-paths .last .1 .1 .1 .0)
-all-listed c =
-    let e = c .before .before .before .before .before .list-paths .ensures in
-    let a = c .before .before .before .before .before .before .before .before .before .before in
-    let fits = levels-short (table a) (directed a) (l a) (a .loop .j + 1) (bounds a .0) (omega (arith, bounds a, c .before .before .before .before .before .before .before .before .before .loop-test .taken)) in
-    rw (runs a) at
-    (listed-all (table a) (directed a) (l a) (bounds a .0) (a .loop .j) (k a) (omega (arith, c .before .before .before .before .before .before .before .before .before .loop-test .taken)) (a .loop .inv .1) (are-short a) fits
-    (record { counted = e .0; filled = e .1; sized = e .2 }) (c .if1 .taken))
+-- at the end all runs are listed
+module _ (c : tie.After-list-further) where
+  abbrev a : tie.After-list-paths
+  a = c .before .before .before .before .before .before .before
 
-same-length : tie.Need-same-length Inv-loop μ-loop
-same-length c = c .before .before .before .before .before .before .before .before .before .before .before .before .before .fill-leads .kept .1 .0
+  abbrev table : Bytes
+  table = given a .args .table .now
 
-same-length-2 : tie.Need-same-length-2 Inv-loop μ-loop
-same-length-2 c = listed-rows (all-listed c)
+  abbrev fans : Bytes
+  fans = given a .args .fans .now
 
-same-length-3 : tie.Need-same-length-3 Inv-loop μ-loop
-same-length-3 c = listed-sizes (all-listed c)
+  -- the tables and the count after further runs
+  abbrev After : List (List ℕ) → Type 0
+  After runs =
+      Listed (found a) (rows a) (sizes a) runs
+      (c .list-further .result) (c .list-further .last .1 .1 .0) (c .list-further .last .1 .1 .1 .0)
 
-returns : tie.Need-returns Inv-loop μ-loop
-returns c = let r = all-listed c in (r .counted, r .filled, r .sized, c .before .before .before .before .before .before .before .before .before .before .before .before .before .fill-leads .ensures)
+  came : After (furtherBy table fans (runsIn (rows a) (l (known a)) 0 (found a)) (k (known a)))
+  came = let e = c .list-further .ensures in record { counted = e .0; filled = e .1; sized = e .2 }
 
-same-length-4 : tie.Need-same-length-4 Inv-loop μ-loop
-same-length-4 c = c .before .before .before .before .fill-leads .kept .1 .0
+  more : After (furtherBy table fans (first (known a)) (k (known a)))
+  more =
+      ⊎-elim
+      (λ few. rw (back a few) at came)
+      (λ full. listed-any came (furtherBy table fans (first (known a)) (k (known a))) full)
+      (le-or-lt (found a) 256)
 
-same-length-5 : tie.Need-same-length-5 Inv-loop μ-loop
-same-length-5 c = listed-rows (c .before .loop .inv .1)
+  all-listed : Listed 0 (given a .args .rows .now) (given a .args .sizes .now) (runsOf (b (known a)) (t (known a)))
+      (c .list-further .result) (c .list-further .last .1 .1 .0) (c .list-further .last .1 .1 .1 .0)
+  all-listed =
+      rw
+      (runs-further (given a .pre .6) (t (known a)) (directed (known a)) (l (known a)) (k (known a)) (directed-is (known a))
+      (known a .before .length-in-segments .ensures) (known a .speed-in-segments .ensures) (bounds (known a) .0))
+      (listed-more (listed a) (first-short (known a)) more)
 
-same-length-6 : tie.Need-same-length-6 Inv-loop μ-loop
-same-length-6 c = listed-sizes (c .before .loop .inv .1)
+same-length : tie.Need-same-length
+same-length c = search needs
 
-returns-2 : tie.Need-returns-2 Inv-loop μ-loop
-returns-2 c =
-    let a = c .before in
-    let e : a .loop .j ≡ k a + 1 = omega arith in
-    let r = rw (e, runs a) at (a .loop .inv .1) in
-    (r .counted, r .filled, r .sized, a .before .before .before .fill-leads .ensures)
+same-length-2 : tie.Need-same-length-2
+same-length-2 c = search needs
+
+returns : tie.Need-returns
+returns c = let r = all-listed (c .before .before .before .before) in (r .counted, r .filled, r .sized)
 
 pub list-runs-spec : {M : Type 1} → statement M
 list-runs-spec =
     tie.close
     (tie.spec
-    Inv-loop
-    μ-loop
     length-in-segments-requires
     speed-in-segments-requires
     mul-directed
-    fill-leads-requires
-    loop-holds
-    add-list-paths
     list-paths-requires
+    list-further-requires
     same-length
     same-length-2
-    same-length-3
-    returns
-    add-j
-    loop-less
-    loop-again
-    same-length-4
-    same-length-5
-    same-length-6
-    returns-2)
+    returns)

@@ -1,45 +1,22 @@
 -- `tables::fill_trains` meets its contract. The loop's invariant: the counts and the tables are those after the first i trains.
 -- Assumes nothing.
-use borrow.Rule.Slice.PartMut.{midOf, putMid, same-len-mid, mid-len, post-is}
+use borrow.Rule.Slice.PartMut.{mid-len}
 use native.Mathlib.Numerals.{add-one}
 use native.Mathlib.Omega.{arith}
-use mathlib.Core.Path.{_≡_, refl, sym, ap, ap₂, _∙_}
-use mathlib.Core.List.{List, _++_, map, map-append}
+use mathlib.Core.Path.{_≡_, refl, sym, ap, _∙_}
+use mathlib.Core.List.{List, map, map-append}
 use Prim.Native.Nat.{ℕ, _+_, _*_, _-_, _≤_, _<_}
-use lib.ListN.{length, take, drop, set, length-map}
-use lib.Seq.{slice, sets}
+use lib.ListN.{length, set, length-map}
 use Rattle.spec.specs.Lists.{Bytes, count, upTo, one}
 use Rattle.spec.specs.Held.{held, padded}
 use Rattle.model.specs.declared.Book.{Book as BookStruct}
 use Rattle.laws.proofs.Parts.{upTo-suc, length-upTo}
 use Rattle.laws.proofs.Arrays.{padded-next}
 use Rattle.listing.specs.Listed.{rowsAfter, sizesAfter}
-use Rattle.tables.specs.Tables.{runsAt, startNumbers, endNumbers, filled}
-use Rattle.tables.proofs.Lookups.{slice-tail}
+use Rattle.tables.specs.Tables.{runsAt, filled}
+use Rattle.tables.proofs.Turned.{filled-next, length-next}
 use Rattle.tables.proofs.fill_trains.Statement.{statement}
 use Rattle.tables.proofs.fill_trains.Tie as tie
-
--- a table after one train more: its part, lent and given back
-module _ {A : Type 0} (f : ℕ → List A → List A) (width i : ℕ) (old xs ys : List A) (fits : i * width + width ≤ length xs) where
-  abbrev at : ℕ
-  at = i * width
-
-  lent : midOf at (at + width - at) xs ≡ slice at (at + width) xs
-  lent =
-      let k : at + width - at ≡ width = omega arith in
-      ap (λ (n : ℕ). take n (drop at xs)) k ∙ sym (slice-tail xs at width (omega arith))
-
-  filled-next : xs ≡ filled f width i old → ys ≡ f i (midOf at (at + width - at) xs)
-      → putMid at (at + width - at) xs ys ≡ filled f width (i + 1) old
-  unfolding filled
-  filled-next e g =
-      ap₂ (λ (part rest : List A). take at xs ++ (part ++ rest)) (g ∙ ap (f i) lent) (post-is at (at + width) xs (omega arith))
-      ∙ ap (λ (zs : List A). take at zs ++ (f i (slice at (at + width) zs) ++ drop (at + width) zs)) e
-      ∙ ap (λ (n : ℕ). filled f width n old) (sym (add-one i))
-
-length-next : (width i : ℕ) (xs ys : List ℕ) → length ys ≡ length (midOf (i * width) (i * width + width - i * width) xs)
-    → length (putMid (i * width) (i * width + width - i * width) xs ys) ≡ length xs
-length-next width i xs ys e = same-len-mid (i * width) (i * width + width - i * width) xs ys e
 
 -- the counts with one train's more
 counts-next : (g : ℕ → ℕ) (i : ℕ) (counts : List ℕ) (x : ℕ) → i < 8 → counts ≡ padded 8 0 (map g (upTo i)) → x ≡ g i
@@ -56,27 +33,20 @@ rowsOf b i = rowsAfter 0 (runsAt (held b) i)
 abbrev sizesOf : BookStruct → ℕ → Bytes → Bytes
 sizesOf b i = sizesAfter 0 (runsAt (held b) i)
 
-abbrev startsOf : BookStruct → ℕ → List ℕ → List ℕ
-startsOf b i old = sets old 0 (startNumbers (held b) i)
-
-abbrev endsOf : BookStruct → ℕ → List ℕ → List ℕ
-endsOf b i old = sets old 0 (endNumbers (held b) i)
-
 abbrev Inv-loop : tie.InvT-loop
-Inv-loop b rows₀ sizes₀ starts₀ ends₀ n counts₀ i₀ rows sizes starts ends counts i =
+Inv-loop b table fans rows₀ sizes₀ n counts₀ i₀ rows sizes counts i =
     (i ≤ n) × (counts ≡ padded 8 0 (map (λ j. length (runsAt (held b) j)) (upTo i)))
-    × (length rows ≡ 32768) × (length sizes ≡ 2048) × (length starts ≡ 2048) × (length ends ≡ 2048)
+    × (length rows ≡ 32768) × (length sizes ≡ 2048)
     × (rows ≡ filled (rowsOf b) 4096 i rows₀) × (sizes ≡ filled (sizesOf b) 256 i sizes₀)
-    × (starts ≡ filled (startsOf b) 256 i starts₀) × (ends ≡ filled (endsOf b) 256 i ends₀)
 
 abbrev μ-loop : tie.MeasureT-loop
-μ-loop b rows₀ sizes₀ starts₀ ends₀ n counts₀ i₀ rows sizes starts ends counts i = n - i
+μ-loop b table fans rows₀ sizes₀ n counts₀ i₀ rows sizes counts i = n - i
 
 loop-holds : tie.Need-loop-holds Inv-loop μ-loop
 unfolding filled upTo count padded
 loop-holds c =
     let p = c .before .before .before .before .pre in
-    (omega arith, refl, p .1, p .2, p .3, p .4, refl, refl, refl, refl)
+    (omega arith, refl, p .1, p .2, refl, refl)
 
 mul-row : tie.Need-mul-row Inv-loop μ-loop
 mul-row c = omega arith
@@ -108,49 +78,17 @@ part-fill-train-start-2 c = omega arith
 part-fill-train-end-2 : tie.Need-part-fill-train-end-2 Inv-loop μ-loop
 part-fill-train-end-2 c = omega arith
 
-add-fill-train-3 : tie.Need-add-fill-train-3 Inv-loop μ-loop
-add-fill-train-3 c = omega arith
-
-mul-fill-train : tie.Need-mul-fill-train Inv-loop μ-loop
-mul-fill-train c = omega arith
-
-sub-fill-train-3 : tie.Need-sub-fill-train-3 Inv-loop μ-loop
-sub-fill-train-3 c = omega arith
-
-part-fill-train-start-3 : tie.Need-part-fill-train-start-3 Inv-loop μ-loop
-part-fill-train-start-3 c = omega arith
-
-part-fill-train-end-3 : tie.Need-part-fill-train-end-3 Inv-loop μ-loop
-part-fill-train-end-3 c = omega arith
-
-add-fill-train-4 : tie.Need-add-fill-train-4 Inv-loop μ-loop
-add-fill-train-4 c = omega arith
-
-mul-fill-train-2 : tie.Need-mul-fill-train-2 Inv-loop μ-loop
-mul-fill-train-2 c = omega arith
-
-sub-fill-train-4 : tie.Need-sub-fill-train-4 Inv-loop μ-loop
-sub-fill-train-4 c = omega arith
-
-part-fill-train-start-4 : tie.Need-part-fill-train-start-4 Inv-loop μ-loop
-part-fill-train-start-4 c = omega arith
-
-part-fill-train-end-4 : tie.Need-part-fill-train-end-4 Inv-loop μ-loop
-part-fill-train-end-4 c = omega arith
-
 fill-train-requires : tie.Need-fill-train-requires Inv-loop μ-loop
 fill-train-requires c κs =
-    let s = c .before .before .before .before .before .before .before .before .before .before in
-    let d = c .before .before .before .before .before .loop in
-    let v = d .inv in
+    let s = c .before .before .before .before .before .before .before .before in
+    let d = c .before .before .before .loop in
     let row = d .i * 4096 in
     let at = d .i * 256 in (
       s .pre .0,
       omega arith,
       mid-len row (row + 4096) (d .rows) (omega arith) ∙ omega arith,
       mid-len at (at + 256) (d .sizes) (omega arith) ∙ omega arith,
-      mid-len at (at + 256) (d .starts) (omega arith) ∙ omega arith,
-      mid-len at (at + 256) (d .ends) (omega arith) ∙ omega arith,
+      s .pre .3,
     )
 
 mul-counts : tie.Need-mul-counts Inv-loop μ-loop
@@ -167,24 +105,20 @@ loop-less c = omega arith
 
 loop-again : tie.Need-loop-again Inv-loop μ-loop
 loop-again c =
-    let t = c .before .before .before .before .before .before .before .before in
+    let t = c .before .before .before .before in
     let f = t .fill-train in
-    let d = t .before .before .before .before .before .before in
+    let d = t .before .before .before .before in
     let v = d .loop .inv in
-    let k = f .kept .1 .1 in
-    let w = f .last .1 .1 in
-    let test = t .before .before .before .before .before .loop-test .taken in
+    let k = f .kept .1 .1 .1 .1 in
+    let w = f .last .1 .1 .1 .1 in
+    let test = t .before .before .before .loop-test .taken in
     let few = d .before .before .before .before .before .pre .0 .packed .counts .trains in (
       omega (arith, test),
       counts-next _ _ _ _ (omega (arith, test, few)) (v .1) (f .ensures .0),
       length-next 4096 (d .loop .i) (d .loop .rows) (w .0) (k .0) ∙ v .2,
       length-next 256 (d .loop .i) (d .loop .sizes) (w .1 .0) (k .1 .0) ∙ v .3,
-      length-next 256 (d .loop .i) (d .loop .starts) (w .1 .1 .0) (k .1 .1 .0) ∙ v .4,
-      length-next 256 (d .loop .i) (d .loop .ends) (w .1 .1 .1 .0) (k .1 .1 .1 .0) ∙ v .5,
-      filled-next _ 4096 _ _ _ _ (omega (arith, test, few, v .2)) (v .6) (f .ensures .2),
-      filled-next _ 256 _ _ _ _ (omega (arith, test, few, v .3)) (v .7) (f .ensures .3),
-      filled-next _ 256 _ _ _ _ (omega (arith, test, few, v .4)) (v .8) (f .ensures .4),
-      filled-next _ 256 _ _ _ _ (omega (arith, test, few, v .5)) (v .9) (f .ensures .5),
+      filled-next _ 4096 _ _ _ _ (omega (arith, test, few, v .2)) (v .4) (f .ensures .2),
+      filled-next _ 256 _ _ _ _ (omega (arith, test, few, v .3)) (v .5) (f .ensures .3),
     )
 
 same-length : tie.Need-same-length Inv-loop μ-loop
@@ -193,17 +127,11 @@ same-length c = let p = c .before .before .before .before .before .before .pre i
 same-length-2 : tie.Need-same-length-2 Inv-loop μ-loop
 same-length-2 c = let p = c .before .before .before .before .before .before .pre in c .before .loop .inv .3 ∙ sym (p .2)
 
-same-length-3 : tie.Need-same-length-3 Inv-loop μ-loop
-same-length-3 c = let p = c .before .before .before .before .before .before .pre in c .before .loop .inv .4 ∙ sym (p .3)
-
-same-length-4 : tie.Need-same-length-4 Inv-loop μ-loop
-same-length-4 c = let p = c .before .before .before .before .before .before .pre in c .before .loop .inv .5 ∙ sym (p .4)
-
 returns : tie.Need-returns Inv-loop μ-loop
 returns c =
     let e : c .before .loop .i ≡ c .before .before .before .before .before .before .args .b .«train_count» = omega arith in
     let v = c .before .loop .inv in
-    (rw e at (v .1), rw e at (v .6), rw e at (v .7), rw e at (v .8), rw e at (v .9))
+    (rw e at (v .1), rw e at (v .4), rw e at (v .5))
 
 pub fill-trains-spec : {M : Type 1} → statement M
 fill-trains-spec =
@@ -222,16 +150,6 @@ fill-trains-spec =
     sub-fill-train-2
     part-fill-train-start-2
     part-fill-train-end-2
-    add-fill-train-3
-    mul-fill-train
-    sub-fill-train-3
-    part-fill-train-start-3
-    part-fill-train-end-3
-    add-fill-train-4
-    mul-fill-train-2
-    sub-fill-train-4
-    part-fill-train-start-4
-    part-fill-train-end-4
     fill-train-requires
     mul-counts
     array-write-counts
@@ -240,6 +158,4 @@ fill-trains-spec =
     loop-again
     same-length
     same-length-2
-    same-length-3
-    same-length-4
     returns)

@@ -1,59 +1,25 @@
--- `track::start_node` meets its contract: the branch is the definition's `cond`, and the segment that the book
--- holds at a number below its count is the array's. Assumes nothing.
+-- `track::start_node` meets its contract: the segment that the book holds at a number below its count is the array's. Assumes
+-- nothing.
 use borrow.Author.Needs.{needs}
-use borrow.Author.Tests.{eq-eqb, ne-eqb}
-use Prim.Native.Nat.{_/_, _<_}
-use native.Mathlib.Omega.{arith}
-use Rattle.spec.specs.Book.{startNode, segmentOf}
-use Rattle.track.proofs.Held.{segment-at}
+use mathlib.Core.Path.{_∙_}
+use Rattle.track.proofs.Held.{start-at}
 use Rattle.track.proofs.start_node.Statement.{statement}
 use Rattle.track.proofs.start_node.Tie as tie
 
-mul-wide : tie.Need-mul-wide
-mul-wide c = search needs
+mul-start-in : tie.Need-mul-start-in
+mul-start-in c = search needs
 
-element-copy-out-wide : tie.Need-element-copy-out-wide
-element-copy-out-wide c = search needs
+element-copy-out-start-in : tie.Need-element-copy-out-start-in
+element-copy-out-start-in c = search needs
 
-wide-requires : tie.Need-wide-requires
-wide-requires c κs = search needs
-
-mul-wide-2 : tie.Need-mul-wide-2
-mul-wide-2 c = search needs
-
-element-copy-out-wide-2 : tie.Need-element-copy-out-wide-2
-element-copy-out-wide-2 c = search needs
-
-wide-requires-2 : tie.Need-wide-requires-2
-wide-requires-2 c κs = search needs
+start-in-requires : tie.Need-start-in-requires
+start-in-requires c κs = search needs
 
 returns : tie.Need-returns
-unfolding startNode segmentOf
 returns c =
-    let a = c .before .before .args in
-    let l : a .d / 2 < a .t1 .«segment_count» = omega arith in
-    let h = eq-eqb _ _ (c .before .if1 .taken) in
-    let e = c .wide .ensures .0 in
-    (simp (e, h, segment-at (a .t1) _ l), c .wide .ensures .1)
-
-returns-2 : tie.Need-returns-2
-unfolding startNode segmentOf
-returns-2 c =
-    let a = c .before .before .args in
-    let l : a .d / 2 < a .t1 .«segment_count» = omega arith in
-    let h = ne-eqb _ _ (c .before .if1 .left) in
-    let e = c .wide2 .ensures .0 in
-    (simp (e, h, segment-at (a .t1) _ l), c .wide2 .ensures .1)
+    let s = c .before .before in
+    (c .start-in .ensures .0 ∙ start-at (s .args .t1) (s .args .d) (s .pre .1), c .start-in .ensures .1)
 
 pub start-node-spec : {M : Type 1} → statement M
 start-node-spec =
-    tie.close
-    (tie.spec
-    mul-wide
-    element-copy-out-wide
-    wide-requires
-    mul-wide-2
-    element-copy-out-wide-2
-    wide-requires-2
-    returns
-    returns-2)
+    tie.close (tie.spec mul-start-in element-copy-out-start-in start-in-requires returns)

@@ -9,8 +9,9 @@ use lib.ListN.{length}
 use Rattle.spec.specs.Instance.{instanceOf}
 use Rattle.spec.specs.Formula.{firstVar, formula, wordsOf}
 use Rattle.spec.specs.Held.{held}
-use Rattle.formula.proofs.Small.{trains-is}
-use Rattle.writing.proofs.Answers.{nothing-ahead, walks-from, walk-words, walk-clauses, answer-short, output-short, answer-fits, output-fits}
+use Rattle.tables.proofs.Small.{trains-is}
+use Rattle.formula.proofs.Totals.{nothing-ahead, walks-from, walk-words, walk-clauses}
+use Rattle.writing.proofs.Answers.{answer-short, output-short, answer-fits, output-fits}
 use Rattle.writing.proofs.write_by.Statement.{statement}
 use Rattle.writing.proofs.write_by.Tie as tie
 

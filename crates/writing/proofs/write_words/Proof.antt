@@ -1,24 +1,45 @@
 -- `writing::write_words` meets its contract: the tables are ready once they are filled. Assumes nothing.
 use borrow.Author.Needs.{needs}
+use native.Mathlib.Omega.{arith}
 use mathlib.Core.Path.{refl}
-use Rattle.formula.proofs.Hold.{ready, meets-ready}
+use Rattle.content.proofs.Packing.{segments-counted}
+use Rattle.tables.specs.Ready.{RunsReady}
+use Rattle.tables.proofs.Filled.{runs-ready, chains-ready}
+use Rattle.meets.proofs.Ready.{meets-ready}
 use Rattle.writing.proofs.write_words.Statement.{statement}
 use Rattle.writing.proofs.write_words.Tie as tie
 
-slice-aggregate-fill-trains : tie.Need-slice-aggregate-fill-trains
-slice-aggregate-fill-trains c = search needs
+slice-aggregate-fill-runs : tie.Need-slice-aggregate-fill-runs
+slice-aggregate-fill-runs c = search needs
 
-slice-aggregate-fill-trains-2 : tie.Need-slice-aggregate-fill-trains-2
-slice-aggregate-fill-trains-2 c = search needs
+slice-aggregate-fill-runs-2 : tie.Need-slice-aggregate-fill-runs-2
+slice-aggregate-fill-runs-2 c = search needs
 
-slice-aggregate-fill-trains-3 : tie.Need-slice-aggregate-fill-trains-3
-slice-aggregate-fill-trains-3 c = search needs
+fill-runs-requires : tie.Need-fill-runs-requires
+fill-runs-requires c κs = search needs
 
-slice-aggregate-fill-trains-4 : tie.Need-slice-aggregate-fill-trains-4
-slice-aggregate-fill-trains-4 c = search needs
+-- what holds once the runs are listed
+listed : (f : tie.After-fill-runs)
+    → RunsReady (f .before .before .before .args .b) (f .fill-runs .result) (f .fill-runs .last .1 .0) (f .fill-runs .last .1 .1 .0)
+listed f =
+    let s = f .before .before .before in
+    let e = f .fill-runs .ensures in
+    runs-ready (s .args .b) (s .pre) _ _ _ refl refl (e .0) (e .1) (e .2)
 
-fill-trains-requires : tie.Need-fill-trains-requires
-fill-trains-requires c κs = search needs
+slice-aggregate-chain-trains : tie.Need-slice-aggregate-chain-trains
+slice-aggregate-chain-trains c = search needs
+
+slice-aggregate-chain-trains-2 : tie.Need-slice-aggregate-chain-trains-2
+slice-aggregate-chain-trains-2 c = search needs
+
+slice-aggregate-chain-trains-3 : tie.Need-slice-aggregate-chain-trains-3
+slice-aggregate-chain-trains-3 c = search needs
+
+slice-aggregate-chain-trains-4 : tie.Need-slice-aggregate-chain-trains-4
+slice-aggregate-chain-trains-4 c = search needs
+
+chain-trains-requires : tie.Need-chain-trains-requires
+chain-trains-requires c κs = (listed (c .before .before .before .before .before .before), refl, refl)
 
 slice-aggregate-list-meets : tie.Need-slice-aggregate-list-meets
 slice-aggregate-list-meets c = search needs
@@ -44,12 +65,16 @@ slice-aggregate-write-by-5 c = search needs
 write-by-requires : tie.Need-write-by-requires
 write-by-requires c κs =
     let m = c .before .before .before .before .before .before .before in
-    let f = m .before .before .before .before .before .before in
-    let s = f .before .before .before .before .before in
+    let h = m .before .before .before .before in
+    let f = h .before .before .before .before .before .before .before in
+    let s = f .before .before .before in
     let p = s .pre in
-    let e = f .fill-trains .ensures in
-    let k = m .list-meets .ensures in
-    (ready (s .args .b) p _ _ _ _ _ refl refl refl refl (e .0) (e .1) (e .2) (e .3) (e .4), meets-ready (s .args .b) p _ refl (k .0) (k .1))
+    let e = h .chain-trains .ensures in
+    let k = m .list-meets .ensures in (
+      listed f,
+      chains-ready (s .args .b) p _ _ refl refl (e .0) (e .1),
+      meets-ready (s .args .b) (omega (arith, segments-counted (p .packed), p .packed .counts .segments)) _ refl (k .0) (k .1),
+    )
 
 same-length : tie.Need-same-length
 same-length c = search needs
@@ -61,11 +86,14 @@ pub write-words-spec : {M : Type 1} → statement M
 write-words-spec =
     tie.close
     (tie.spec
-    slice-aggregate-fill-trains
-    slice-aggregate-fill-trains-2
-    slice-aggregate-fill-trains-3
-    slice-aggregate-fill-trains-4
-    fill-trains-requires
+    slice-aggregate-fill-runs
+    slice-aggregate-fill-runs-2
+    fill-runs-requires
+    slice-aggregate-chain-trains
+    slice-aggregate-chain-trains-2
+    slice-aggregate-chain-trains-3
+    slice-aggregate-chain-trains-4
+    chain-trains-requires
     slice-aggregate-list-meets
     list-meets-requires
     slice-aggregate-write-by

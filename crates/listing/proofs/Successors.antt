@@ -1,0 +1,280 @@
+-- The successors of directed segments in lent tables: what the filler leaves holds a book's, and listing by tables that hold them is
+-- listing by the book. Assumes nothing.
+use mathlib.Core.Path.{_≡_, refl, sym, ap, ap₂, _∙_}
+use mathlib.Core.Logic.{⊎-elim}
+use mathlib.Core.Bool.{Bool, true, false, not, _&&_}
+use borrow.Author.Tests.{eq-eqb, ne-eqb}
+use Prim.Native.Nat.{ℕ, zero, suc, _+_, _*_, _-_, _/_, _≤_, _<_}
+use native.Mathlib.Nat.{zero-add}
+use native.Mathlib.Omega.{arith}
+use native.Mathlib.Numerals.{add-one}
+use mathlib.Core.List.{List, [], _∷_, _++_, map, append-nil}
+use lib.ListN.{length, getD, set, take, drop, length-map, length-take, length-drop}
+use lib.Seq.{sets, slice, length-sets, take-set-le, take-suc, take-length, length-take-le}
+use lib.Seq.{length-slice, getD-take, getD-drop, drop-append-le}
+use lib.Dec.{T, ltb}
+use Rattle.model.specs.declared.Book.{Book as BookStruct}
+use Rattle.spec.specs.Lists.{Bytes, upTo, each, only, one, all, pick, has, lastOr}
+use Rattle.spec.specs.Book.{Book, segmentOf, startNode, endNode, joined}
+use Rattle.spec.specs.Held.{padded, held, CountsFit}
+use Rattle.spec.specs.Runs.{leadsTo, goesOn, extend, pathsOf, directed}
+use Rattle.laws.proofs.Tests.{and-iff, ltb-iff, all-at, all-upTo, le-or-lt}
+use Rattle.laws.proofs.Parts.{length-upTo, each-append, each-same, map-at}
+use Rattle.listing.specs.Listed.{successors, successorRows, fansOf, successorsBy, SuccessorsHeld, Covered, extendBy, pathsBy}
+use Rattle.listing.specs.Listed.{runIn, keptOf, rowsAfter}
+use Rattle.listing.proofs.Leaves.{last-append, part-slice, part-sets}
+use Rattle.listing.proofs.Lists.{each-nothing, each-next, getD-sets-in, unless, onward, held-segments}
+
+-- ---- rows
+
+module _ {ℓ} {A : Type ℓ} (f : A → Bool) where
+  -- the rows of the elements that pass a test
+  pub each-pick {κ} : {B : Type κ} (g : A → List B) (xs : List A) → each (pick f xs) g ≡ each xs (λ x. only (f x) (g x))
+  unfolding each pick only
+  each-pick g [] = refl
+  each-pick {B = B} g (x ∷ xs) = first (f x) ∙ ap (λ (l : List B). only (f x) (g x) ++ l) (each-pick g xs)
+    where
+      first : (b : Bool) → each (only b (one x) ++ pick f xs) g ≡ only b (g x) ++ each (pick f xs) g
+      first true = refl
+      first false = refl
+
+  pub pick-most : (xs : List A) → length (pick f xs) ≤ length xs
+  unfolding pick only
+  pick-most [] = omega arith
+  pick-most (x ∷ xs) = more (f x) (pick-most xs)
+    where
+      more : (b : Bool) → length (pick f xs) ≤ length xs → length (only b (one x) ++ pick f xs) ≤ suc (length xs)
+      more true h = omega arith
+      more false h = omega arith
+
+  pick-passes : (g : A → Bool) (xs : List A) → T (all g xs) → T (all g (pick f xs))
+  unfolding pick all only
+  pick-passes g [] h = tt
+  pick-passes g (x ∷ xs) h = let p = and-iff (g x) (all g xs) .0 h in pass (f x) (p .0) (pick-passes g xs (p .1))
+    where
+      pass : (b : Bool) → T (g x) → T (all g (pick f xs)) → T (all g (only b (one x) ++ pick f xs))
+      pass true h k = and-iff (g x) (all g (pick f xs)) .1 (h, k)
+      pass false h k = k
+
+  pick-each : (xs : List A) → pick f xs ≡ each xs (λ x. only (f x) (one x))
+  unfolding pick each
+  pick-each [] = refl
+  pick-each (x ∷ xs) = ap (λ (l : List A). only (f x) (one x) ++ l) (pick-each xs)
+
+-- the numbers below e + 1 that pass: those below e, and e if it passes
+module _ (f : ℕ → Bool) (e : ℕ) where
+  pick-next : pick f (upTo (e + 1)) ≡ pick f (upTo e) ++ only (f e) (one e)
+  pick-next = simp (pick-each, each-next)
+
+  pub pick-taken : f e ≡ true → pick f (upTo (e + 1)) ≡ pick f (upTo e) ++ one e
+  unfolding only
+  pick-taken h = pick-next ∙ ap (λ (b : Bool). pick f (upTo e) ++ only b (one e)) h
+
+  pub pick-left : f e ≡ false → pick f (upTo (e + 1)) ≡ pick f (upTo e)
+  unfolding only
+  pick-left h = pick-next ∙ ap (λ (b : Bool). pick f (upTo e) ++ only b (one e)) h ∙ append-nil (pick f (upTo e))
+
+-- the rows of the elements of a list, by their places
+module _ {ℓ κ} {A : Type ℓ} {B : Type κ} (f : A → List B) (d : A) where
+  pub each-taken : (xs : List A) (n : ℕ) → n ≤ length xs → each (upTo n) (λ i. f (getD xs i d)) ≡ each (take n xs) f
+  unfolding each
+  each-taken xs zero h = each-nothing (λ i. f (getD xs i d))
+  each-taken xs (suc n) h =
+      ap (λ (k : ℕ). each (upTo k) (λ i. f (getD xs i d))) (sym (add-one n))
+      ∙ each-next (λ i. f (getD xs i d)) n
+      ∙ ap₂ _++_ (each-taken xs n (omega arith)) (sym (append-nil (f (getD xs n d))))
+      ∙ sym (each-append (take n xs) (one (getD xs n d)) f)
+      ∙ ap (λ (l : List A). each l f) (sym (take-suc xs n d h))
+
+  pub each-at : (xs : List A) → each (upTo (length xs)) (λ i. f (getD xs i d)) ≡ each xs f
+  each-at xs = each-taken xs (length xs) (omega arith) ∙ ap (λ (l : List A). each l f) (take-length xs)
+
+module _ {ℓ} {A : Type ℓ} where
+  -- an element of a part of a list
+  pub getD-slice : (xs : List A) (base n i : ℕ) (d : A) → i < n → getD (slice base (base + n) xs) i d ≡ getD xs (base + i) d
+  getD-slice xs base n i d h = getD-drop base (take (base + n) xs) i d ∙ getD-take (base + n) xs (base + i) d (omega arith)
+
+  pub length-part : (xs : List A) (base n : ℕ) → base + n ≤ length xs → length (slice base (base + n) xs) ≡ n
+  length-part xs base n h = length-slice base (base + n) xs h ∙ omega arith
+
+  -- a part that is one element longer
+  pub slice-snoc : (xs : List A) (base i : ℕ) (d : A) → base + i < length xs
+      → slice base (base + (i + 1)) xs ≡ slice base (base + i) xs ++ one (getD xs (base + i) d)
+  slice-snoc xs base i d h =
+      let e : base + (i + 1) ≡ suc (base + i) = omega arith in
+      let l : base ≤ length (take (base + i) xs) = omega (arith, length-take-le (base + i) xs (omega arith)) in
+      ap (λ (k : ℕ). slice base k xs) e
+      ∙ ap (drop base) (take-suc xs (base + i) d h)
+      ∙ drop-append-le base (take (base + i) xs) (one (getD xs (base + i) d)) l
+
+  -- the rows of the elements of a part of a list
+  pub each-slice {κ} : {B : Type κ} (f : A → List B) (d : A) (xs : List A) (base n : ℕ) → base + n ≤ length xs
+      → each (upTo n) (λ i. f (getD xs (base + i) d)) ≡ each (slice base (base + n) xs) f
+  each-slice f d xs base n h =
+      each-same (λ i. f (getD xs (base + i) d)) (λ i. f (getD (slice base (base + n) xs) i d)) n
+      (λ i l. ap f (sym (getD-slice xs base n i d l)))
+      ∙ ap (λ (k : ℕ). each (upTo k) (λ i. f (getD (slice base (base + n) xs) i d))) (sym (length-part xs base n h))
+      ∙ each-at f d (slice base (base + n) xs)
+
+  -- stores leave what stands before them
+  take-sets-le : (l : List A) (i : ℕ) (vs : List A) (n : ℕ) → n ≤ i → take n (sets l i vs) ≡ take n l
+  take-sets-le l i [] n h = refl
+  take-sets-le l i (v ∷ vs) n h = take-sets-le (set l i v) (suc i) vs n (omega arith) ∙ take-set-le n l i v h
+
+  pub slice-sets-below : (l : List A) (i : ℕ) (vs : List A) (a n : ℕ) → n ≤ i → slice a n (sets l i vs) ≡ slice a n l
+  slice-sets-below l i vs a n h = ap (drop a) (take-sets-le l i vs n h)
+
+-- a run in the rows is no longer than it should be, and stays where further runs are kept behind it
+pub run-short : (rows : Bytes) (size r : ℕ) → length (runIn rows size r) ≤ size
+unfolding runIn
+run-short rows size r = rw (length-drop, length-take) (omega arith)
+
+pub run-long : (rows : Bytes) (size r : ℕ) → 16 * r + size ≤ length rows → length (runIn rows size r) ≡ size
+unfolding runIn
+run-long rows size r h = length-part rows (16 * r) size h
+
+pub run-stays : (count : ℕ) (runs : List (List ℕ)) (rows : Bytes) (size r : ℕ) → size ≤ 16 → r < count
+    → runIn (rowsAfter count runs rows) size r ≡ runIn rows size r
+unfolding runIn rowsAfter
+run-stays count runs rows size r h k =
+    slice-sets-below rows (count * 16) (each (keptOf count runs) (padded 16 0)) (16 * r) (16 * r + size) (omega arith)
+
+-- ---- the tables
+
+-- d leads to e: by the nodes where d ends and e begins and, where they are one, the join there
+module _ (b : Book) (d e : ℕ) {node start : ℕ} (ends : node ≡ endNode b d) (starts : start ≡ startNode b e) where
+  pub leads-joined : start ≡ node → leadsTo b d e ≡ joined b node (d / 2) (e / 2)
+  unfolding leadsTo segmentOf
+  leads-joined h = simp (← ends, ← starts, h, eq-eqb node node refl)
+
+  pub leads-apart : (start ≡ node → ⊥) → leadsTo b d e ≡ false
+  unfolding leadsTo
+  leads-apart h = simp (← ends, ← starts, ne-eqb node start (λ k. h (sym k)))
+
+module _ (b : Book) where
+  pub successors-most : (d : ℕ) → length (successors b d) ≤ 2 * length (b .segments)
+  unfolding successors directed
+  successors-most d =
+      omega (arith, pick-most (leadsTo b d) (upTo (2 * length (b .segments))), length-upTo (2 * length (b .segments)))
+
+  -- successors are directed segments of the book
+  pub successors-below : (d : ℕ) → T (all (λ e. ltb e (2 * length (b .segments))) (successors b d))
+  unfolding successors directed
+  successors-below d =
+      pick-passes (leadsTo b d) (λ e. ltb e (2 * length (b .segments))) (upTo (2 * length (b .segments)))
+      (all-upTo (λ e. ltb e (2 * length (b .segments))) (2 * length (b .segments)) .1
+      (λ e h. ltb-iff e (2 * length (b .segments)) .1 h))
+
+  pub length-successorRows : (n : ℕ) (old : Bytes) → length (successorRows b n old) ≡ length old
+  unfolding successorRows
+  length-successorRows zero old = refl
+  length-successorRows (suc n) old =
+      length-sets (successorRows b n old) (n * 128) (successors b n) ∙ length-successorRows n old
+
+  module _ (few : length (b .segments) ≤ 64) (old : Bytes) (room : length old ≡ 16384) where
+    -- the row of a directed segment
+    row-at : (n d : ℕ) → n ≤ 2 * length (b .segments) → d < n
+        → slice (d * 128) (d * 128 + length (successors b d)) (successorRows b n old) ≡ successors b d
+    unfolding successorRows
+    row-at zero d h k = let no′ : ⊥ = omega arith in absurd no′
+    row-at (suc n) d h k =
+        ⊎-elim
+        (λ m.
+        slice-sets-below (successorRows b n old) (n * 128) (successors b n) (d * 128) (d * 128 + length (successors b d))
+        (omega (arith, successors-most d))
+        ∙ row-at n d (omega arith) m)
+        (λ m.
+        let same : d ≡ n = omega arith in
+        rw same
+        (part-slice (length (successors b n))
+        (part-sets (successors b n) (successorRows b n old) (n * 128) (omega (arith, successors-most n, length-successorRows n old))) refl))
+        (le-or-lt (suc d) n)
+
+    module _ (fans₀ : Bytes) (space : length fans₀ ≡ 128) where
+      abbrev fans : Bytes
+      fans = sets fans₀ 0 (fansOf b (2 * length (b .segments)))
+
+      fan-at : (d : ℕ) → d < 2 * length (b .segments) → getD fans d 0 ≡ length (successors b d)
+      unfolding fansOf
+      fan-at d h =
+          let e = length-map (upTo (2 * length (b .segments))) (λ d. length (successors b d)) in
+          let l = length-upTo (2 * length (b .segments)) in
+          ap (λ (k : ℕ). getD fans k 0) (sym (zero-add d))
+          ∙ getD-sets-in fans₀ 0 (fansOf b (2 * length (b .segments))) d 0 (omega arith) (omega arith)
+          ∙ map-at (λ d. length (successors b d)) (2 * length (b .segments)) d 0 h
+
+      -- what the filler leaves holds the successors
+      pub successors-held : SuccessorsHeld b (successorRows b (2 * length (b .segments)) old) fans
+      unfolding successorsBy
+      successors-held = record {
+        tableLong = length-successorRows (2 * length (b .segments)) old ∙ room;
+        fansLong = length-sets fans₀ 0 (fansOf b (2 * length (b .segments))) ∙ space;
+        few = few;
+        fanFits = λ d h. omega (arith, fan-at d h, successors-most d);
+        row = λ d h.
+            ap (λ (k : ℕ). slice (d * 128) (d * 128 + k) (successorRows b (2 * length (b .segments)) old)) (fan-at d h)
+            ∙ row-at (2 * length (b .segments)) d (omega arith) h;
+      }
+
+-- the same, of the struct that is filled from
+pub filled-held : (b : BookStruct) → CountsFit b → length (b .segments) ≡ 64 → (table₀ fans₀ table fans : Bytes)
+    → length table₀ ≡ 16384 → length fans₀ ≡ 128 → table ≡ successorRows (held b) (2 * b .«segment_count») table₀
+    → fans ≡ sets fans₀ 0 (fansOf (held b) (2 * b .«segment_count»)) → SuccessorsHeld (held b) table fans
+filled-held b fits e table₀ fans₀ table fans room space et ef =
+    let n = held-segments b fits e in
+    let m : 2 * b .«segment_count» ≡ 2 * length (held b .segments) = omega arith in
+    rw (et, ef, m) (successors-held (held b) (omega arith) table₀ room fans₀ space)
+
+-- ---- listing by tables that hold the successors
+
+-- a row where two tests agree
+both : (a u : Bool) {xs ys : List (List ℕ)} → xs ≡ ys → only a (unless u xs) ≡ elim (a && not u) [ true ↦ ys | false ↦ [] ]
+unfolding only
+both true true e = refl
+both true false e = e
+both false u e = refl
+
+module _ {b : Book} {table fans : Bytes} (h : SuccessorsHeld b table fans) where
+  pub extend-same : (missing : ℕ) (path : List ℕ) → lastOr 0 path < 2 * length (b .segments)
+      → extendBy table fans missing path ≡ extend b missing path
+  unfolding extendBy extend successors directed goesOn
+  extend-same zero path k = refl
+  extend-same (suc missing) path k =
+      ap (λ (ds : List ℕ). each ds (onward table fans missing path)) (h .row (lastOr 0 path) k)
+      ∙ each-pick (leadsTo b (lastOr 0 path)) (onward table fans missing path) (upTo (2 * length (b .segments)))
+      ∙ each-same (λ d. only (leadsTo b (lastOr 0 path) d) (onward table fans missing path d))
+      (λ d. elim (goesOn b path d) [ true ↦ extend b missing (path ++ one d) | false ↦ [] ])
+      (2 * length (b .segments))
+      (λ d l. both (leadsTo b (lastOr 0 path) d) (has (segmentOf d) (map segmentOf path))
+      (extend-same missing (path ++ one d) (rw last-append l)))
+
+  pub paths-same : (size n : ℕ) → n ≡ 2 * length (b .segments) → pathsBy table fans n size ≡ pathsOf b size
+  unfolding pathsBy pathsOf directed lastOr
+  paths-same size n e =
+      rw e
+      (each-same (λ d. extendBy table fans (size - 1) (one d)) (λ d. extend b (size - 1) (one d)) (2 * length (b .segments))
+      (λ d l. extend-same (size - 1) (one d) l))
+
+-- ---- what stands in the row of a directed segment
+
+module _ {table fans : Bytes} {d : ℕ} (c : Covered table fans d) where
+  pub covered-number : d < 128
+  covered-number = omega (arith, c .below, c .held .few)
+
+  pub covered-fan : getD fans d 0 ≤ 128
+  covered-fan = c .held .fanFits d (c .below)
+
+  -- each successor is such a directed segment again
+  pub covered-next : (i : ℕ) → i < getD fans d 0 → Covered table fans (getD table (d * 128 + i) 0)
+  unfolding successorsBy
+  covered-next i l =
+      let s : length (successorsBy table fans d) ≡ getD fans d 0 =
+      length-part table (d * 128) (getD fans d 0) (omega (arith, covered-number, covered-fan, c .held .tableLong)) in
+      let k : i < length (successorsBy table fans d) = omega arith in
+      let passes = rw (sym (c .held .row d (c .below))) at (successors-below (c .book) d) in
+      let below = all-at (λ e. ltb e (2 * length (c .book .segments))) (successorsBy table fans d) i 0 passes k in
+      record {
+        book = c .book;
+        held = c .held;
+        below = ltb-iff _ _ .0 (rw (getD-slice table (d * 128) (getD fans d 0) i 0 l) at below);
+      }
