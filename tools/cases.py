@@ -25,9 +25,13 @@ def gather(books, answer, most_bytes=MOST_BYTES, most_text=None):
     return cases, answers
 
 
+def store_bytes(crate, cases, answers):
+    """Keeps the cases and what the program is to write in its crate."""
+    for name, data in (("stdin", cases), ("stdout", answers)):
+        with open(os.path.join(CRATES, crate, name), "wb") as out:
+            out.write(data)
+
+
 def store(crate, cases, answers):
-    """Keeps the cases and the expected text in the program's crate."""
-    with open(os.path.join(CRATES, crate, "stdin"), "wb") as out:
-        out.write(cases)
-    with open(os.path.join(CRATES, crate, "stdout"), "w") as out:
-        out.write("".join(answers))
+    """The same, of answers that are text."""
+    store_bytes(crate, cases, "".join(answers).encode())

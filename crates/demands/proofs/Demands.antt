@@ -1,6 +1,6 @@
 -- The user's three demands, as theorems about the definitions that the contracts cite. Each goes from arbitrary bytes to an
 -- entry point's result; docs/DEMANDS.md lists them by the demand's sentence. Assumes nothing.
-use mathlib.Core.Path.{_≡_, refl, ap, subst}
+use mathlib.Core.Path.{_≡_, refl, sym, ap, _∙_, subst}
 use mathlib.Core.Logic.{_↔_}
 use mathlib.Core.Option.{Option, none, some}
 use Prim.Native.Nat.{ℕ, _≤_}
@@ -85,6 +85,34 @@ keeping-plan-accepted book plan b n m read room roomBack isBytes fits keeps =
       check-assignment book b read (encode I p) n plan .1
           (room, assignment-iff I (encode I p) .1 (plan-fits book b read p, sat), decode-encoded book b read plan isBytes fits keeps (no-condition I p)),
     )
+
+-- what was accepted is one result
+result-is : {x y : Bytes} → accepted x ≡ accepted y → x ≡ y
+result-is e = cc
+
+-- The two checks agree, whatever bytes they were handed: the plan that an accepted assignment decodes to is accepted,
+pub decoded-plan-accepted : (book assignment plan : Bytes) (b : Book) (planSlice assignmentSlice : ℕ) → readBook book ≡ accepted b
+    → variables (instanceOf b) ≤ assignmentSlice → checkAssignment book assignment planSlice ≡ accepted plan
+    → (back : Bytes) × (checkPlan book plan assignmentSlice ≡ accepted back)
+decoded-plan-accepted book s plan b n m read roomBack e =
+    let I = instanceOf b in
+    let k = check-assignment book b read s n plan .0 e in
+    let j = assignment-iff I s .0 (k .1) in
+    let t = satisfying-assignment-accepted book s b n m read (k .0) roomBack (j .0) (j .1) in
+    let same : t .0 ≡ plan = result-is (sym (t .1) ∙ e) in
+    subst (λ (x : Bytes). (back : Bytes) × (checkPlan book x m ≡ accepted back)) same (t .3)
+
+-- and the assignment that an accepted plan is written as is accepted, and decodes to the plan's very bytes.
+pub written-assignment-accepted : (book plan assignment : Bytes) (b : Book) (planSlice assignmentSlice : ℕ) → readBook book ≡ accepted b
+    → planLength (instanceOf b) ≤ planSlice → T (bytes plan) → checkPlan book plan assignmentSlice ≡ accepted assignment
+    → checkAssignment book assignment planSlice ≡ accepted plan
+written-assignment-accepted book plan s b n m read room isBytes e =
+    let I = instanceOf b in
+    let k = check-plan book b read plan m s .0 e in
+    let j = plan-iff I plan .0 (k .1) in
+    let t = keeping-plan-accepted book plan b n m read room (k .0) isBytes (j .0) (j .1) in
+    let same : t .0 ≡ s = result-is (sym (t .1) ∙ e) in
+    subst (λ (x : Bytes). checkAssignment book x n ≡ accepted plan) same (t .3)
 
 -- ---- Demand 3
 

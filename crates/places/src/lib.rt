@@ -1,25 +1,22 @@
-// Places of trains: what a run starts at and ends at, what a place contains, whether it serves a call,
-// who may leave, and which segments are neighbours under a set of borders. One function for each
-// rule. Places lie in tables of directed segments, as `listing::list_runs` fills them: the run with
-// number r has 16 bytes from 16 r on, and its length in a table beside. Assumes nothing.
+// Places of trains: what a run starts at and ends at, which run follows which, what a place contains,
+// whether it serves a call, and who may leave. One function for each rule. Places lie in tables of
+// directed segments, as `listing::list_runs` fills them: the run with number r has 16 bytes from 16 r
+// on, and its length in a table beside. Assumes nothing.
 use model::Book;
 use model::Call;
 use model::Train;
-use track::share_node;
 use track::wide;
 ghost use mathlib.Core.Path.{_≡_};
-ghost use mathlib.Core.Bool.{not, _&&_};
+ghost use mathlib.Core.Bool.{_&&_};
 ghost use Prim.Native.Nat.{_+_, _*_, _≤_, _<_};
 ghost use lib.ListN.{length, getD};
-ghost use lib.Dec.{T, leb};
-ghost use Rattle.spec.specs.Lists.{all, same};
-ghost use Rattle.spec.specs.Book.{goalOf, shareNode};
+ghost use lib.Dec.{leb};
+ghost use Rattle.spec.specs.Lists.{same};
+ghost use Rattle.spec.specs.Book.{goalOf};
 ghost use Rattle.spec.specs.Runs as runs;
-ghost use Rattle.spec.specs.Read.{segmentFits};
-ghost use Rattle.spec.specs.Instance.{placeServes, mayLeave, instanceOf};
-ghost use Rattle.spec.specs.Sections as sections;
+ghost use Rattle.spec.specs.Instance.{placeServes, mayLeave};
 ghost use Rattle.spec.specs.Held.{held, heldTrain, CountsFit};
-ghost use Rattle.places.specs.Placed.{placeAt, endAt, bordersOf};
+ghost use Rattle.places.specs.Placed.{placeAt, endAt};
 
 // Where the row of the run with a number begins in the table: the place that the run starts at.
 pub fn start_of(r: usize) -> usize
@@ -139,24 +136,4 @@ pub fn may_leave(b: Book, train: usize, to: Call, rows: &[u8], at: usize, l: usi
     ensures { λ r. ⌜ r ≡ mayLeave (held b) train (placeAt (now (rows .entry)) at l) ⌝ }
 {
     serves(b, to, rows, at, l)
-}
-
-// Whether the node is no border and both segments, of one TTD, touch it.
-pub fn open_between(b: Book, borders: &[u8], node: usize, s: usize, t: usize) -> bool
-    requires { ⌜ CountsFit b × (node < length (now borders)) × (s < b .«segment_count») × (t < b .«segment_count») ⌝ }
-    ensures { λ r. ⌜ r ≡ (not (bordersOf (now (borders .entry)) node) && shareNode (held b) node s t) ⌝ }
-{
-    borders[node] != 1 && share_node(b, node, s, t)
-}
-
-// Whether two segments are neighbours under a set of borders: they share a node that is none. Only
-// the two nodes of the first can be shared.
-pub fn neighbours(b: Book, borders: &[u8], s: usize, t: usize) -> bool
-    requires { ⌜ CountsFit b × T (all (segmentFits (held b)) (held b .segments)) × (b .«node_count» ≤ length (now borders))
-        × (s < b .«segment_count») × (t < b .«segment_count») ⌝ }
-    ensures { λ r. ⌜ r ≡ sections.neighbours (instanceOf (held b)) (bordersOf (now (borders .entry))) s t ⌝ }
-{
-    let one = wide(b.segments[s].a);
-    let other = wide(b.segments[s].b);
-    open_between(b, borders, one, s, t) || open_between(b, borders, other, s, t)
 }

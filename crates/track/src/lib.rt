@@ -113,14 +113,6 @@ pub fn meet(node: usize, s: usize, first: Segment, t: usize, second: Segment) ->
     s != t && first.ttd == second.ttd && touches(first, node) && touches(second, node)
 }
 
-// Whether two different segments of one TTD both touch the node.
-pub fn share_node(b: Book, node: usize, s: usize, t: usize) -> bool
-    requires { ⌜ CountsFit b × (s < b .«segment_count») × (t < b .«segment_count») ⌝ }
-    ensures { λ r. ⌜ r ≡ book.shareNode (held b) node s t ⌝ }
-{
-    meet(node, s, b.segments[s], t, b.segments[t])
-}
-
 // A train's length in segments, rounded up.
 pub fn length_in_segments(b: Book, t: Train) -> usize
     requires { ⌜ NumbersFit b × (1 ≤ b .«segment_metres») × (t .metres < 65536) ⌝ }

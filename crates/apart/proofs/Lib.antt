@@ -1,0 +1,3 @@
+pub mod Marking
+pub mod Rows
+pub mod Sharing

@@ -1,0 +1,126 @@
+-- What the checks answer and leave in their outputs, from what their parts answer: room, the judgement, and what is then written.
+-- Assumes nothing.
+use mathlib.Core.Path.{_≡_, refl, sym, ap, _∙_}
+use mathlib.Core.Bool.{Bool, true, false}
+use Prim.Native.Nat.{ℕ, _≤_, _<_}
+use native.Mathlib.Omega.{arith}
+use lib.ListN.{length}
+use lib.Dec.{T, leb}
+use borrow.Author.Tests.{le-leb, lt-leb}
+use Rattle.spec.specs.Lists.{Bytes, Verdict, accepted, refused, andThen}
+use Rattle.spec.specs.Instance.{Instance}
+use Rattle.spec.specs.Plan.{Plan, planFits, planLength, planOf}
+use Rattle.spec.specs.Formula.{variables}
+use Rattle.spec.specs.Assignment.{assigned, decoded, decode, encode}
+use Rattle.spec.specs.Entry.{demand, overwrite, written, judgeAssignment, judgePlan, decodedFor, encodedFor}
+use Rattle.demands.proofs.Encoding.{length-plan, length-encode}
+use Rattle.demands.proofs.Entries.{plan-iff}
+use Rattle.demands.proofs.Extra.{extra-length}
+use Rattle.reading.specs.declared.Answer.{Answer}
+use Rattle.reading.specs.declared.Answer.the-variants as judged
+use Rattle.reading.specs.BookAnswers.{answerOf}
+use Rattle.checking.specs.declared.OutputAnswer.{OutputAnswer}
+use Rattle.checking.specs.declared.OutputAnswer.the-variants.{Wrote, Refused}
+use Rattle.checking.specs.OutputAnswers.{outputAnswer}
+
+-- ---- a row of checks
+
+-- room, a judgement, and what is then written
+abbrev row : Bool → Verdict (Unit {0}) → Bytes → Verdict Bytes
+row room v out = andThen (demand room 12) λ _. andThen v λ _. accepted out
+
+-- what a check answers and leaves in its output, which held `old`
+abbrev Left : Verdict Bytes → Bytes → OutputAnswer → Bytes → Type 0
+Left v old answer new = (answer ≡ outputAnswer v) × (new ≡ overwrite old (written v))
+
+-- no answer is both
+not-both : {n d : ℕ} {X : Type 0} → judged.Accepted ≡ judged.Refused n d → X
+not-both p = let z : _≡_ {A = ℕ} 0 1 = cc in let no : ⊥ = omega arith in absurd no
+
+-- a refusal's number and detail, in the answer with an output
+moved : Answer → OutputAnswer
+moved judged.Accepted = Wrote 0
+moved (judged.Refused n d) = Refused n d
+
+module _ (need : ℕ) (out old : Bytes) where
+  abbrev checked : Verdict (Unit {0}) → Verdict Bytes
+  checked v = row (leb need (length old)) v out
+
+  left-short : (v : Verdict (Unit {0})) → length old < need → Left (checked v) old (Refused 12 0) old
+  unfolding demand andThen overwrite written
+  left-short v h = rw (lt-leb need (length old) h) (refl, refl)
+
+  left-refused : (v : Verdict (Unit {0})) {n d : ℕ} → need ≤ length old → judged.Refused n d ≡ answerOf v
+      → Left (checked v) old (Refused n d) old
+  unfolding demand andThen overwrite written moved
+  left-refused (accepted u) h e = not-both (sym e)
+  left-refused (refused k c) h e = rw (le-leb need (length old) h) (ap moved e, refl)
+
+  left-accepted : (v : Verdict (Unit {0})) {n : ℕ} {new : Bytes} → need ≤ length old → judged.Accepted ≡ answerOf v
+      → n ≡ length out → new ≡ overwrite old out → Left (checked v) old (Wrote n) new
+  unfolding demand andThen written
+  left-accepted (accepted u) h e f g = rw (le-leb need (length old) h) (ap {B = OutputAnswer} Wrote f, g)
+  left-accepted (refused k c) h e f g = not-both e
+
+-- a verdict that stopped with a refusal
+pub left-stopped : {v : Verdict Bytes} {n d : ℕ} (old : Bytes) → v ≡ refused n d → (Refused n d ≡ outputAnswer v) × (old ≡ overwrite old (written v))
+unfolding overwrite written
+left-stopped old e = (ap outputAnswer (sym e), ap (λ (v : Verdict Bytes). overwrite old (written v)) (sym e))
+
+-- the same verdict, by another name
+pub left-same : {v v′ : Verdict Bytes} {answer : OutputAnswer} (old : Bytes) {new : Bytes} → v ≡ v′
+    → (answer ≡ outputAnswer v) × (new ≡ overwrite old (written v)) → (answer ≡ outputAnswer v′) × (new ≡ overwrite old (written v′))
+left-same old e h = (h .0 ∙ ap outputAnswer e, h .1 ∙ ap (λ (v : Verdict Bytes). overwrite old (written v)) e)
+
+-- ---- the two checks
+
+-- a plan that is accepted fits
+accepted-of : (v : Verdict (Unit {0})) → judged.Accepted ≡ answerOf v → v ≡ accepted tt
+accepted-of (accepted u) e = refl
+accepted-of (refused k c) e = not-both e
+
+pub plan-fits : (I : Instance) (s : Bytes) → judged.Accepted ≡ answerOf (judgePlan I s) → T (planFits I s)
+plan-fits I s e = plan-iff I s .0 (accepted-of (judgePlan I s) e) .0
+
+-- how long their results are
+pub length-decode : (I : Instance) (s : Bytes) → length (decode I s) ≡ planLength I
+unfolding decode
+length-decode I s = length-plan I (decoded I (assigned s))
+
+pub length-assignment : (I : Instance) (p : Plan) → length (encode I p) ≡ variables I
+length-assignment I p = length-encode I p (extra-length I p)
+
+module _ (I : Instance) (s old : Bytes) where
+  -- of an assignment
+  abbrev pub Decoded : OutputAnswer → Bytes → Type 0
+  Decoded answer new = Left (decodedFor I s (length old)) old answer new
+
+  pub decoded-short : length old < planLength I → Decoded (Refused 12 0) old
+  unfolding decodedFor
+  decoded-short h = left-short (planLength I) (decode I s) old (judgeAssignment I s) h
+
+  pub decoded-refused : {n d : ℕ} → planLength I ≤ length old → judged.Refused n d ≡ answerOf (judgeAssignment I s) → Decoded (Refused n d) old
+  unfolding decodedFor
+  decoded-refused h e = left-refused (planLength I) (decode I s) old (judgeAssignment I s) h e
+
+  pub decoded-accepted : {n : ℕ} {new : Bytes} → planLength I ≤ length old → judged.Accepted ≡ answerOf (judgeAssignment I s)
+      → n ≡ length (decode I s) → new ≡ overwrite old (decode I s) → Decoded (Wrote n) new
+  unfolding decodedFor
+  decoded-accepted h e f g = left-accepted (planLength I) (decode I s) old (judgeAssignment I s) h e f g
+
+  -- of a plan
+  abbrev pub Encoded : OutputAnswer → Bytes → Type 0
+  Encoded answer new = Left (encodedFor I s (length old)) old answer new
+
+  pub encoded-short : length old < variables I → Encoded (Refused 12 0) old
+  unfolding encodedFor
+  encoded-short h = left-short (variables I) (encode I (planOf I s)) old (judgePlan I s) h
+
+  pub encoded-refused : {n d : ℕ} → variables I ≤ length old → judged.Refused n d ≡ answerOf (judgePlan I s) → Encoded (Refused n d) old
+  unfolding encodedFor
+  encoded-refused h e = left-refused (variables I) (encode I (planOf I s)) old (judgePlan I s) h e
+
+  pub encoded-accepted : {n : ℕ} {new : Bytes} → variables I ≤ length old → judged.Accepted ≡ answerOf (judgePlan I s)
+      → n ≡ length (encode I (planOf I s)) → new ≡ overwrite old (encode I (planOf I s)) → Encoded (Wrote n) new
+  unfolding encodedFor
+  encoded-accepted h e f g = left-accepted (variables I) (encode I (planOf I s)) old (judgePlan I s) h e f g

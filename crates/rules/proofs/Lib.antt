@@ -1,0 +1,3 @@
+pub mod Loops
+pub mod Ready
+pub mod Broken

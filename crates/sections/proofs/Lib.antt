@@ -1,0 +1,5 @@
+pub mod Least
+pub mod Joined
+pub mod Same
+pub mod Stored
+pub mod Labelled

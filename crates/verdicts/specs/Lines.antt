@@ -1,0 +1,16 @@
+-- What the programs over the checks print, and how much of an output they hand on. Assumes nothing.
+use Prim.Native.Nat.{ℕ}
+use Rattle.spec.specs.Lists.{Bytes}
+use Rattle.spec.specs.Programs.{acceptedLine, refusalLine}
+use Rattle.checking.specs.declared.OutputAnswer.{OutputAnswer}
+use Rattle.checking.specs.declared.OutputAnswer.the-variants.{Wrote, Refused}
+
+-- "the word accepted on a line", or the refusal's line
+abbrev pub answerLine : OutputAnswer → Bytes
+answerLine (Wrote n) = acceptedLine
+answerLine (Refused n d) = refusalLine n d
+
+-- how many bytes of the output are the result
+abbrev pub resultLength : OutputAnswer → ℕ
+resultLength (Wrote n) = n
+resultLength (Refused n d) = 0
