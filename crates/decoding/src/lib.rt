@@ -3,6 +3,8 @@
 // Assumes nothing.
 use clauses::value;
 use model::Book;
+use moves::ABSENT;
+use moves::GONE;
 use numbering::base_from;
 use numbering::first_variable;
 ghost use mathlib.Core.Path.{_≡_};
@@ -46,9 +48,9 @@ pub fn code_of(values: &[u8], base: usize, n: usize) -> usize
         return r;
     }
     if value(values, base + n) {
-        return 65535;
+        return GONE;
     }
-    65534
+    ABSENT
 }
 
 // Stores a number in two bytes, the lower one first.

@@ -10,7 +10,7 @@ use Rattle.laws.proofs.Tests.{meaning, and-iff, or-iff, any-iff, eqb-iff, ltb-i
 use Rattle.spec.specs.Lists.{all, any, upTo, range}
 use Rattle.spec.specs.Instance.{Instance, inWindow, servedAtDeparture}
 use Rattle.spec.specs.Sections.{together, shareSection}
-use Rattle.spec.specs.Plan.{Plan, Move, run, absent, gone, isAbsent, isGone, runs, ifRun, ofRun, isMove, rule1, rule2, rule3, rule4, rule5, rule6, servedBy, ruleFaults, keepsRules}
+use Rattle.spec.specs.Plan.{Plan, Move, run, absent, gone, isAbsent, isGone, runs, ifRun, ofRun, isMove, rule1, absentBefore, departs, rule2, leavesRightly, rule3, runsOn, rule4, keepsCalls, rule5, rule6, servedBy, ruleFaults, keepsRules}
 use Rattle.spec.specs.Formula.{borderVar, runVar, goneVar}
 use Rattle.demands.proofs.Coding.{Codes}
 
@@ -26,7 +26,7 @@ module _ (I : Instance) (p : Plan) where
       → (((t : ℕ) → t < I .departure i → T (isAbsent (p .move i t)))
       × ((t : ℕ) → I .departure i ≤ t → t < I .intervals → T (isAbsent (p .move i t)) → ⊥))
       × T (runs (p .move i (I .departure i)) (I .given i)))
-  unfolding rule2
+  unfolding rule2 departs absentBefore
   means2 = simp meaning Iff·rfl
 
   pub means3 : T (rule3 I p) ↔ ((i : ℕ) → i < I .trains
@@ -34,17 +34,17 @@ module _ (I : Instance) (p : Plan) where
       × ((t : ℕ) → t < I .intervals - 1
       → (T (isGone (p .move i (t + 1))) → T (isGone (p .move i t)) ⊎ T (runs (p .move i t) (I .leaves i)))
       × (T (isGone (p .move i t)) → T (isGone (p .move i (t + 1))))))
-  unfolding rule3
+  unfolding rule3 leavesRightly
   means3 = simp meaning (simp or-iff Iff·rfl)
 
   pub means4 : T (rule4 I p) ↔ ((i : ℕ) → i < I .trains → (t : ℕ) → t < I .intervals - 1
       → T (ifRun (p .move i t) λ r. ifRun (p .move i (t + 1)) λ q. I .follows i r q))
-  unfolding rule4
+  unfolding rule4 runsOn
   means4 = simp meaning Iff·rfl
 
   pub means5 : T (rule5 I p) ↔ ((i : ℕ) → i < I .trains → (c : ℕ) → c < I .calls i
       → T (servedAtDeparture I i c) ⊎ T (servedBy I p i c))
-  unfolding rule5
+  unfolding rule5 keepsCalls
   means5 = simp meaning (simp or-iff Iff·rfl)
 
   pub means6 : T (rule6 I p) ↔ ((t : ℕ) → t < I .intervals → (i : ℕ) → i < I .trains → (j : ℕ) → i + 1 ≤ j → j < I .trains

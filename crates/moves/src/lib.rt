@@ -15,6 +15,11 @@ ghost use Rattle.tables.specs.Tables.{Passed};
 ghost use Rattle.tables.specs.Ready.{Counted};
 ghost use Rattle.moves.specs.Moves.{heldMove};
 
+// The numbers that stand for absent and gone in a plan's bytes; all others are runs.
+pub const ABSENT: usize = 65534;
+
+pub const GONE: usize = 65535;
+
 // A train's move in an interval: a run of its list, absent, or gone.
 pub enum Move {
     Run(usize),
@@ -26,10 +31,10 @@ pub enum Move {
 pub fn move_of(code: usize) -> Move
     ensures { λ r. ⌜ heldMove r ≡ moveOf code ⌝ }
 {
-    if code == 65534 {
+    if code == ABSENT {
         return Move::Absent;
     }
-    if code == 65535 {
+    if code == GONE {
         return Move::Gone;
     }
     Move::Run(code)

@@ -7,9 +7,9 @@ use mathlib.Core.List.{List, _∷_}
 use mathlib.Core.Option.{some}
 use Rattle.spec.specs.Lists.{Fault, one, _when_, firstFault, orZero}
 use Rattle.spec.specs.Instance.{Instance}
-use Rattle.spec.specs.Plan.{Plan, rule1, rule2, rule3, rule4, rule5, rule6, ruleFaults, brokenRule}
+use Rattle.spec.specs.Plan.{Plan, rule1, rule2, rule3, rule4, rule5, rule6, ruleFaults, brokenRule, absentBefore, departs, leavesRightly, runsOn, keepsCalls}
 use Rattle.rules.specs.declared.TrainRule.the-variants.{Departing, Leaving, Running, Calling}
-use Rattle.rules.specs.Kept.{absentBefore, departs, leavesRightly, runsOn, keepsCalls, trainKeeps, trainsKeep, firstBroken}
+use Rattle.rules.specs.Kept.{trainKeeps, trainsKeep, firstBroken}
 
 module _ (I : Instance) (p : Plan) where
   pub departing : trainsKeep Departing I p ≡ rule2 I p
@@ -58,27 +58,27 @@ last true true true true true f h = refl
 
 module _ (I : Instance) (p : Plan) where
   pub first-1 : rule1 I p ≡ false → 1 ≡ firstBroken I p
-  unfolding firstBroken orZero firstFault
+  unfolding firstBroken ruleFaults orZero firstFault
   first-1 a = rw a
 
   pub first-2 : rule1 I p ≡ true → rule2 I p ≡ false → 2 ≡ firstBroken I p
-  unfolding firstBroken orZero firstFault
+  unfolding firstBroken ruleFaults orZero firstFault
   first-2 a b = rw (a, b)
 
   pub first-3 : rule1 I p ≡ true → rule2 I p ≡ true → rule3 I p ≡ false → 3 ≡ firstBroken I p
-  unfolding firstBroken orZero firstFault
+  unfolding firstBroken ruleFaults orZero firstFault
   first-3 a b c = rw (a, b, c)
 
   pub first-4 : rule1 I p ≡ true → rule2 I p ≡ true → rule3 I p ≡ true → rule4 I p ≡ false → 4 ≡ firstBroken I p
-  unfolding firstBroken orZero firstFault
+  unfolding firstBroken ruleFaults orZero firstFault
   first-4 a b c d = rw (a, b, c, d)
 
   pub first-5 : rule1 I p ≡ true → rule2 I p ≡ true → rule3 I p ≡ true → rule4 I p ≡ true → rule5 I p ≡ false → 5 ≡ firstBroken I p
-  unfolding firstBroken orZero firstFault
+  unfolding firstBroken ruleFaults orZero firstFault
   first-5 a b c d e = rw (a, b, c, d, e)
 
   pub first-none : rule1 I p ≡ true → rule2 I p ≡ true → rule3 I p ≡ true → rule4 I p ≡ true → rule5 I p ≡ true → 0 ≡ firstBroken I p
-  unfolding firstBroken orZero firstFault
+  unfolding firstBroken ruleFaults orZero firstFault
   first-none a b c d e = rw (a, b, c, d, e)
 
   -- where one of the first five rules is broken, the least of them is the plan's least broken rule

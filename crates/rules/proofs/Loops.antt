@@ -9,11 +9,10 @@ use native.Mathlib.Omega.{arith}
 use lib.Dec.{T, ltb}
 use Rattle.spec.specs.Lists.{all, upTo, range}
 use Rattle.spec.specs.Instance.{Instance}
-use Rattle.spec.specs.Plan.{Plan, Move, absent, isAbsent, isGone, runs, ifRun}
+use Rattle.spec.specs.Plan.{Plan, Move, absent, isAbsent, isGone, runs, ifRun, absentBefore, leavesRightly, runsOn}
 use Rattle.laws.proofs.Tests.{bool-ext, and-iff, not-iff, implies-iff, ltb-iff, all-upTo, all-range, decide, true-of, denied-of}
 use Rattle.laws.proofs.Tests.{le-or-lt}
 use Rattle.laws.proofs.Loops.{all-start}
-use Rattle.rules.specs.Kept.{absentBefore, leavesRightly, runsOn}
 
 not-below : (t d : ℕ) → T (not (ltb t d)) → d ≤ t
 not-below t d b = elim (le-or-lt d t) [ inl x ↦ x | inr x ↦ absurd (not-iff (ltb t d) .0 b (ltb-iff t d .1 x)) ]

@@ -26,12 +26,11 @@ ghost use lib.Dec.{T};
 ghost use Rattle.spec.specs.Book.{deniesBorder, forcesBorder, goalOf};
 ghost use Rattle.spec.specs.Instance.{instanceOf, callAt, servedAtDeparture};
 ghost use Rattle.spec.specs.Plan as plans;
-ghost use Rattle.spec.specs.Plan.{isMove, isAbsent, isGone, ifRun, planOf, planFits, servedBy};
+ghost use Rattle.spec.specs.Plan.{isMove, isAbsent, isGone, ifRun, planOf, planFits, servedBy, absentBefore, departs, leavesRightly, runsOn, keepsCalls};
 ghost use Rattle.spec.specs.Held.{held};
 ghost use Rattle.tables.specs.Tables.{Passed};
 ghost use Rattle.tables.specs.Ready.{RunsHeld, RunsReady};
 ghost use Rattle.moves.specs.Moves.{heldMove};
-ghost use Rattle.rules.specs.Kept.{absentBefore, departs, leavesRightly, runsOn, keepsCalls};
 ghost use Rattle.rules.specs.Kept.{trainKeeps, trainsKeep, firstBroken, Planned, TrainReady};
 
 // The rules that each train keeps or breaks by itself: 2, 3, 4 and 5.

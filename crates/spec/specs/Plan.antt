@@ -114,31 +114,36 @@ module _ (I : Instance) (p : Plan) where
   unfoldable pub rule1 : Bool
   rule1 = all (λ n. (not (I .denied n) || not (p .border n)) && (not (I .forced n) || p .border n)) (upTo (I .nodes))
 
-  -- 2. "Absent exactly in intervals before d; a run from the given place in interval d."
+  -- 2. "Absent exactly in intervals before d; a run from the given place in interval d.", of one train and of all
+  unfoldable pub absentBefore : ℕ → Bool
+  absentBefore i =
+      all (λ t. isAbsent (p .move i t)) (upTo (I .departure i))
+      && all (λ t. not (isAbsent (p .move i t))) (range (I .departure i) (I .intervals))
+
+  unfoldable pub departs : ℕ → Bool
+  departs i = absentBefore i && runs (p .move i (I .departure i)) (λ r. I .given i r)
+
   unfoldable pub rule2 : Bool
-  rule2 =
-      all (λ i.
-          all (λ t. isAbsent (p .move i t)) (upTo (I .departure i))
-          && all (λ t. not (isAbsent (p .move i t))) (range (I .departure i) (I .intervals))
-          && runs (p .move i (I .departure i)) (λ r. I .given i r))
-          (upTo (I .trains))
+  rule2 = all (λ i. departs i) (upTo (I .trains))
 
   -- 3. "Gone only after d, after gone or after a run whose end place contains the goal's segment. After gone, gone."
+  unfoldable pub leavesRightly : ℕ → Bool
+  leavesRightly i =
+      all (λ t. not (isGone (p .move i t))) (upTo (I .departure i + 1))
+      && all (λ t.
+          (not (isGone (p .move i (t + 1))) || (isGone (p .move i t) || runs (p .move i t) (λ r. I .leaves i r)))
+          && (not (isGone (p .move i t)) || isGone (p .move i (t + 1))))
+          (upTo (I .intervals - 1))
+
   unfoldable pub rule3 : Bool
-  rule3 =
-      all (λ i.
-          all (λ t. not (isGone (p .move i t))) (upTo (I .departure i + 1))
-          && all (λ t.
-              (not (isGone (p .move i (t + 1))) || (isGone (p .move i t) || runs (p .move i t) (λ r. I .leaves i r)))
-              && (not (isGone (p .move i t)) || isGone (p .move i (t + 1))))
-              (upTo (I .intervals - 1)))
-          (upTo (I .trains))
+  rule3 = all (λ i. leavesRightly i) (upTo (I .trains))
 
   -- 4. "A run after a run starts at the place where that one ended."
+  unfoldable pub runsOn : ℕ → Bool
+  runsOn i = all (λ t. ifRun (p .move i t) λ r. ifRun (p .move i (t + 1)) λ q. I .follows i r q) (upTo (I .intervals - 1))
+
   unfoldable pub rule4 : Bool
-  rule4 =
-      all (λ i. all (λ t. ifRun (p .move i t) λ r. ifRun (p .move i (t + 1)) λ q. I .follows i r q)
-          (upTo (I .intervals - 1))) (upTo (I .trains))
+  rule4 = all (λ i. runsOn i) (upTo (I .trains))
 
   -- "at time t > d it is the end of the run of interval t − 1, if there was one"; here t is that interval
   unfoldable pub servedBy : ℕ → ℕ → Bool
@@ -146,8 +151,11 @@ module _ (I : Instance) (p : Plan) where
       any (λ t. inWindow I i c (t + 1) && runs (p .move i t) (λ r. I .serves i c r)) (range (I .departure i) (I .intervals))
 
   -- 5. "Each call: at some time from first to last the train's place contains the segment."
+  unfoldable pub keepsCalls : ℕ → Bool
+  keepsCalls i = all (λ c. servedAtDeparture I i c || servedBy i c) (upTo (I .calls i))
+
   unfoldable pub rule5 : Bool
-  rule5 = all (λ i. all (λ c. servedAtDeparture I i c || servedBy i c) (upTo (I .calls i))) (upTo (I .trains))
+  rule5 = all (λ i. keepsCalls i) (upTo (I .trains))
 
   -- 6. "In each interval no section holds segments of two trains' runs."
   unfoldable pub rule6 : Bool

@@ -11,12 +11,11 @@ use lib.Dec.{ltb}
 use Rattle.model.specs.declared.Book.{Book as BookStruct}
 use Rattle.spec.specs.Lists.{Bytes, all, range}
 use Rattle.spec.specs.Instance.{instanceOf}
-use Rattle.spec.specs.Plan.{Move, isAbsent, planOf}
+use Rattle.spec.specs.Plan.{Move, isAbsent, planOf, absentBefore}
 use Rattle.spec.specs.Held.{held}
 use Rattle.laws.proofs.Loops.{all-turn, all-broken, all-done}
 use Rattle.tables.proofs.Here.{noTrain, few-trains, departs-here, departs-asks}
 use Rattle.tables.proofs.Small.{intervals-is}
-use Rattle.rules.specs.Kept.{absentBefore}
 use Rattle.rules.proofs.Ready.{move-asks}
 use Rattle.rules.proofs.Loops.{absentStep, absent-steps}
 use Rattle.rules.proofs.absent_before.Statement.{statement}

@@ -9,11 +9,10 @@ use lib.ListN.{length}
 use Rattle.spec.specs.Lists.{all, upTo, range}
 use Rattle.spec.specs.Book.{callsOf}
 use Rattle.spec.specs.Instance.{Instance, instanceOf, compile, servedAtDeparture}
-use Rattle.spec.specs.Plan.{Plan, planOf, servedBy}
+use Rattle.spec.specs.Plan.{Plan, planOf, servedBy, keepsCalls}
 use Rattle.spec.specs.Held.{held}
 use Rattle.model.specs.declared.Book.{Book as BookStruct}
 use Rattle.laws.proofs.Loops.{all-start, all-turn, all-broken, all-done}
-use Rattle.rules.specs.Kept.{keepsCalls}
 use Rattle.rules.proofs.train_calls.Statement.{statement}
 use Rattle.rules.proofs.train_calls.Tie as tie
 

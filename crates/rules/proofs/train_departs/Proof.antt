@@ -7,10 +7,10 @@ use denote.Ref.{now}
 use lib.ListN.{getD}
 use Rattle.model.specs.declared.Book.{Book as BookStruct}
 use Rattle.spec.specs.Instance.{Instance, instanceOf}
-use Rattle.spec.specs.Plan.{Plan, Move, runs}
+use Rattle.spec.specs.Plan.{Plan, Move, runs, absentBefore, departs}
 use Rattle.spec.specs.Held.{held}
 use Rattle.tables.proofs.Here.{noTrain, few-trains, departs-here, departs-asks}
-use Rattle.rules.specs.Kept.{Planned, absentBefore, departs}
+use Rattle.rules.specs.Kept.{Planned}
 use Rattle.rules.proofs.Ready.{planned, move-asks, move-own}
 use Rattle.rules.proofs.train_departs.Statement.{statement}
 use Rattle.rules.proofs.train_departs.Tie as tie

@@ -10,13 +10,12 @@ use lib.ListN.{getD}
 use Rattle.model.specs.declared.Book.{Book as BookStruct}
 use Rattle.spec.specs.Lists.{Bytes, all, range}
 use Rattle.spec.specs.Instance.{instanceOf}
-use Rattle.spec.specs.Plan.{runs, planOf}
+use Rattle.spec.specs.Plan.{runs, planOf, leavesRightly}
 use Rattle.spec.specs.Held.{held}
 use Rattle.laws.proofs.Loops.{all-turn, all-broken, all-done}
 use Rattle.moves.specs.Moves.{heldMove}
 use Rattle.tables.proofs.Here.{noTrain, few-trains, departs-here, departs-asks}
 use Rattle.tables.proofs.Small.{intervals-is}
-use Rattle.rules.specs.Kept.{leavesRightly}
 use Rattle.rules.proofs.Ready.{planned, move-asks, prior-own}
 use Rattle.rules.proofs.Loops.{prior, prior-next, goneStep, leaveStep, leave-steps}
 use Rattle.rules.proofs.train_leaves.Statement.{statement}

@@ -9,12 +9,11 @@ use denote.Ref.{now}
 use Rattle.model.specs.declared.Book.{Book as BookStruct}
 use Rattle.spec.specs.Lists.{Bytes, all, range}
 use Rattle.spec.specs.Instance.{instanceOf}
-use Rattle.spec.specs.Plan.{Plan, planOf}
+use Rattle.spec.specs.Plan.{Plan, planOf, runsOn}
 use Rattle.spec.specs.Held.{held}
 use Rattle.laws.proofs.Loops.{all-turn, all-broken, all-done}
 use Rattle.moves.specs.Moves.{heldMove}
 use Rattle.tables.proofs.Small.{intervals-is}
-use Rattle.rules.specs.Kept.{runsOn}
 use Rattle.rules.proofs.Ready.{planned, move-asks, move-own, prior-own}
 use Rattle.rules.proofs.Loops.{prior, prior-next, runStep, run-steps}
 use Rattle.rules.proofs.train_runs.Statement.{statement}
