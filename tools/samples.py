@@ -427,7 +427,7 @@ def damage_unjoined(rng, frames):
 
 def damage_kind(rng, frames):
     frame = rng.choice(frames)
-    frame[0] = rng.choice((0, 9, 20, 255, 256 + frame[0], 65535,
+    frame[0] = rng.choice((0, 9, 20, 255, 256 + frame[0] & 0xFFFF, 65535,
                            rng.randint(1, 8)))
 
 

@@ -10,6 +10,7 @@ use lib.IntN.{ℤ, pos}
 use Rattle.spec.specs.Lists.{Bytes, count, upTo, range, each, one}
 use Rattle.spec.specs.Formula.{Clause, wordsOf}
 use Rattle.laws.proofs.Parts.{each-append}
+use Rattle.demands.proofs.Words.{words-append}
 use Rattle.clauses.specs.declared.Walk.{Walk}
 use Rattle.clauses.specs.Walked.{walked, stored, Walks}
 use Rattle.clauses.proofs.Laws.{walked-append, stored-append, length-stored}
@@ -33,10 +34,6 @@ range-end a z h = let e : z - a ≡ 0 = omega arith in ap (count a) e
 
 -- ---- the words of rows of clauses
 
-pub words-append : (cs ds : List Clause) → wordsOf (cs ++ ds) ≡ wordsOf cs ++ wordsOf ds
-unfolding wordsOf
-words-append cs ds = each-append cs ds (λ c. c ++ one (pos 0))
-
 module _ {ℓ} {A : Type ℓ} where
   pub words-map : (f : A → Clause) (xs : List A) → wordsOf (map f xs) ≡ each xs (λ x. wordsOf (one (f x)))
   unfolding wordsOf each
@@ -48,11 +45,6 @@ module _ {ℓ} {A : Type ℓ} where
   unfolding wordsOf each
   words-each f [] = refl
   words-each f (x ∷ xs) = words-append (f x) (each xs f) ∙ ap (λ (ls : List ℤ). wordsOf (f x) ++ ls) (words-each f xs)
-
--- a clause is its literals and the 0
-pub words-one : (c : Clause) → c ++ one (pos 0) ≡ wordsOf (one c)
-unfolding wordsOf each
-words-one c = sym (append-nil (c ++ one (pos 0)))
 
 pub each-one {ℓ} : {A : Type ℓ} (f : A → ℤ) (xs : List A) → each xs (λ x. one (f x)) ≡ map f xs
 unfolding each

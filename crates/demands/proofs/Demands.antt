@@ -17,7 +17,7 @@ use Rattle.spec.specs.Plan.{Plan, IsPlan, planFits, planOf, planLength, brokenR
 use Rattle.spec.specs.Formula.{formula, variables, wordsOf}
 use Rattle.spec.specs.Assignment.{satisfies, assigned, assignmentFits, decode, encode}
 use Rattle.spec.specs.Refutation.{ProofStep, Lent, fileOf, InFields, GoodSteps, clausesFit}
-use Rattle.spec.specs.Entry.{overwrite, written, formulaWritten, writeFormula, formulaOutput, decodedFor, checkAssignment, checkPlan, checkRefutation, formulaFits, wordsAfter}
+use Rattle.spec.specs.Entry.{overwrite, written, formulaWritten, writeFormula, formulaOutput, decodedFor, checkAssignment, checkPlan, checkRefutation, refutedFor, formulaFits, wordsAfter}
 use Rattle.demands.proofs.Encoding.{shape}
 use Rattle.demands.proofs.Extra.{no-condition}
 use Rattle.demands.proofs.Plans.{plan-satisfies, plan-fits, decoded-fits, decoded-coded, decoded-keeps, decode-encoded}
@@ -139,7 +139,7 @@ accepted-assignment-is-plan book s plan n e =
 pub accepted-refutation-no-plan : (book refutation : Bytes) (lent : Lent) → checkRefutation book refutation lent ≡ accepted tt
     → (b : Book) × (readBook book ≡ accepted b)
     × ((p : Plan) → IsPlan (instanceOf b) p → (rule : ℕ) × (brokenRule (instanceOf b) p ≡ some rule))
-unfolding checkRefutation
+unfolding checkRefutation refutedFor
 accepted-refutation-no-plan book r lent e =
     let k = read-of book _ tt e in
     let I = instanceOf (k .0) in

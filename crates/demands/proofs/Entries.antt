@@ -17,7 +17,7 @@ use Rattle.spec.specs.Plan.{Plan, planFits, planOf, planLength, rule1, rule2, r
 use Rattle.spec.specs.Formula.{Clause, formula, variables, wordsOf}
 use Rattle.spec.specs.Assignment.{satisfies, holds, firstFalse, assigned, assignmentFits, decode, encode}
 use Rattle.spec.specs.Refutation.{Lent, checkFile}
-use Rattle.spec.specs.Entry.{demand, findNone, readInstance, formulaWritten, writeFormula, judgeAssignment, judgePlan, decodedFor, checkAssignment, encodedFor, checkPlan, checkRefutation, formulaFits, writtenFor}
+use Rattle.spec.specs.Entry.{demand, findNone, readInstance, formulaWritten, writeFormula, judgeAssignment, judgePlan, decodedFor, checkAssignment, encodedFor, checkPlan, checkRefutation, refutedFor, formulaFits, writtenFor}
 use Rattle.demands.proofs.Faults.{passes, first-none, clear-first}
 
 -- ---- the parts of a check
@@ -143,7 +143,7 @@ module _ (book : Bytes) (b : Book) (read : readBook book ≡ accepted b) where
 
   pub check-refutation : (s : Bytes) (lent : Lent) → (checkRefutation book s lent ≡ accepted tt)
       ↔ (T (formulaFits lent (instanceOf b)) × (checkFile lent (variables (instanceOf b)) (formula (instanceOf b)) s ≡ accepted tt))
-  unfolding checkRefutation
+  unfolding checkRefutation refutedFor
   check-refutation s lent =
       let e : checkRefutation book s lent ≡ _ = then-goes _ read-instance in (
         (λ h. let r = then-accepted (demand (formulaFits lent (instanceOf b)) 12) _ tt (sym e ∙ h) in (demand-iff _ 12 .0 (r .1), r .2)),

@@ -110,14 +110,14 @@ hints-read p = refl
 
 -- a payload whose length is right
 module _ (p : Bytes) (sized : T (stepLengthFits p)) where
-  counts : length p ≡ 2 + (4 * literalCount p + 4 * hintCount p)
+  pub counts : length p ≡ 2 + (4 * literalCount p + 4 * hintCount p)
   unfolding stepLengthFits literalCount hintCount
   counts = let q = simp (and-iff, leb-iff, eqb-iff) at sized in omega arith
 
-  literals-length : length (stepIn p .literals) ≡ literalCount p
+  pub literals-length : length (stepIn p .literals) ≡ literalCount p
   literals-length = rw (literals-read p) (length-readRow (signed 4) (unsigned 4) p 2 0 (literalCount p))
 
-  hints-length : length (stepIn p .hints) ≡ hintCount p
+  pub hints-length : length (stepIn p .hints) ≡ hintCount p
   hints-length = rw (hints-read p) (length-readRow (λ h. h) (λ h. h) p (2 + 4 * literalCount p) 0 (hintCount p))
 
   module _ (b : T (bytes p)) where

@@ -21,8 +21,8 @@ use Rattle.spec.specs.Instance.{Instance, instanceOf}
 use Rattle.spec.specs.Plan.{planFits, planOf, planLength, ruleFaults, brokenRule}
 use Rattle.spec.specs.Formula.{Clause, formula, variables, wordsOf}
 use Rattle.spec.specs.Assignment.{holds, firstFalse, assigned, assignmentFits}
-use Rattle.spec.specs.Refutation.{Lent, clauseAt, stepFaults, stepDetail, checkSteps, checkFile}
-use Rattle.spec.specs.Entry.{demand, findNone, overwrite, written, readInstance, writeFormula, formulaText, judgeAssignment, judgePlan, decodedFor, checkAssignment, encodedFor, checkPlan, checkRefutation, formulaFits, writtenFor}
+use Rattle.spec.specs.Refutation.{Lent, clauseAt, stepFaults, stepDetail, checkSteps, checkFile, isBad}
+use Rattle.spec.specs.Entry.{demand, findNone, overwrite, written, readInstance, writeFormula, formulaText, judgeAssignment, judgePlan, decodedFor, checkAssignment, encodedFor, checkPlan, checkRefutation, refutedFor, formulaFits, writtenFor}
 use Rattle.demands.proofs.Faults.{passes, FirstHolds, first-none, first-some}
 use Rattle.demands.proofs.Reading.{refusal-has-reason}
 use Rattle.demands.proofs.Refuting.{stepAt, added}
@@ -232,7 +232,7 @@ module _ (lent : Lent) (vars : ℕ) (cs₀ : List Clause) (file : Bytes) where
 
   -- a step of which no condition holds is a whole frame
   step-whole : (cs : List Clause) (s : Bytes) → T (all passes (stepFaults lent vars cs s)) → T (not (cutShort s))
-  unfolding stepFaults all passes
+  unfolding stepFaults isBad all passes
   step-whole cs s h = let p = simp (and-iff, neither-iff) at h in p .0 .0 .0
 
   -- the check from any step that it comes to; each frame has four bytes at least, so there is fuel enough
@@ -265,7 +265,7 @@ module _ (lent : Lent) (vars : ℕ) (cs₀ : List Clause) (file : Bytes) where
 -- Refused only by the book, by 12 where the formula does not fit the slices, or for what is wrong with the refutation.
 pub refutation-refusal : (book refutation : Bytes) (lent : Lent) (k d : ℕ) → checkRefutation book refutation lent ≡ refused k d
     → Refusal book (λ I. T (not (formulaFits lent I))) (λ I. RefutationFault lent (variables I) (formula I) refutation) k d
-unfolding checkRefutation checkFile
+unfolding checkRefutation refutedFor checkFile
 refutation-refusal book s lent k d e =
     in-order book _ _ (formulaFits lent) _ (λ I. (λ h. h, λ h. h))
     (λ I r. steps-fault lent (variables I) (formula I) s (suc (length s)) 1 (formula I) s (omega arith) firstStep r) e

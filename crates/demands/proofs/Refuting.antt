@@ -19,21 +19,21 @@ use Rattle.spec.specs.Refutation.{ProofStep, stepIn, variableOf, risesFrom, lit
 use Rattle.spec.specs.Refutation.{Values, makeTrue, makeFalse, refuting, isNo, isOpen, clauseAt, notFalse}
 use Rattle.spec.specs.Refutation.{Hinted, proves, makes, useless, hinted, goThrough, followsRule}
 use Rattle.spec.specs.Refutation.{AllFalse, Forces, Proves, atLast, onward, TakenFalse}
-use Rattle.spec.specs.Refutation.{stepFaults, stepDetail, checkSteps, checkFile}
+use Rattle.spec.specs.Refutation.{isBad, stepFaults, stepDetail, checkSteps, checkFile}
 use Rattle.demands.proofs.Faults.{passes, first-none, clear-first}
 use Rattle.laws.proofs.Tests.{and-iff, leb-iff, ltb-iff, eqb-iff, any-iff, decide, true-of, false-of, from-true, neither-iff, not-not-iff, all-at}
 use Rattle.laws.proofs.Rows.{all-append, all-one}
 use Rattle.laws.proofs.Frames.{length-behind}
 
 -- a test is true or false
-split {ℓ} : {X : Type ℓ} (b : Bool) → (b ≡ true → X) → (b ≡ false → X) → X
+pub split {ℓ} : {X : Type ℓ} (b : Bool) → (b ≡ true → X) → (b ≡ false → X) → X
 split true f g = f refl
 split false f g = g refl
 
 -- ---- the literals that are not false
 
 -- a value is false or not
-no-or-not : (v : Value) → (v ≡ no′) ⊎ (not (isNo v) ≡ true)
+pub no-or-not : (v : Value) → (v ≡ no′) ⊎ (not (isNo v) ≡ true)
 unfolding isNo
 no-or-not open′ = inr refl
 no-or-not yes′ = inr refl
@@ -51,11 +51,11 @@ is-open e = ap isOpen e
 
 module _ (known : Values) where
   -- a false literal is passed over, any other is kept
-  passed : (l : Literal) (c : Clause) → truth known l ≡ no′ → notFalse known (l ∷ c) ≡ notFalse known c
+  pub passed : (l : Literal) (c : Clause) → truth known l ≡ no′ → notFalse known (l ∷ c) ≡ notFalse known c
   unfolding notFalse pick only isNo
   passed l c e = rw e refl
 
-  kept : (l : Literal) (c : Clause) → not (isNo (truth known l)) ≡ true → notFalse known (l ∷ c) ≡ l ∷ notFalse known c
+  pub kept : (l : Literal) (c : Clause) → not (isNo (truth known l)) ≡ true → notFalse known (l ∷ c) ≡ l ∷ notFalse known c
   unfolding notFalse pick only
   kept l c e = rw e refl
 
@@ -385,7 +385,7 @@ pub record Passes (lent : Lent) (vars : ℕ) (cs : List Clause) (s : Bytes) : Ty
 
 passes-iff : (lent : Lent) (vars : ℕ) (cs : List Clause) (s : Bytes)
     → firstFault (stepFaults lent vars cs s) ≡ none ↔ Passes lent vars cs s
-unfolding stepFaults all passes
+unfolding stepFaults isBad all passes
 passes-iff lent vars cs s = (
   λ e. let p = simp (and-iff, neither-iff, not-not-iff, eqb-iff) at (first-none (stepFaults lent vars cs s) e) in record {
     whole = p .0 .0 .0;
@@ -410,7 +410,7 @@ pub data Accepts (lent : Lent) (vars : ℕ) : List Clause → Bytes → Type 0 w
 -- ---- the walk over the steps
 
 -- `checkSteps` at one step, by the four tests that it makes
-oneStep : Lent → ℕ → ℕ → ℕ → List Clause → Bytes → Bool → Option ℕ → Bool → Bool → Verdict (Unit {0})
+unfoldable pub oneStep : Lent → ℕ → ℕ → ℕ → List Clause → Bytes → Bool → Option ℕ → Bool → Bool → Verdict (Unit {0})
 oneStep lent vars fuel step cs s none′ fault last′ end′ =
     elim none′ [
       | true ↦ refused 21 0
@@ -451,17 +451,17 @@ whole-some (x ∷ s) h = refl
 
 module _ (lent : Lent) (vars : ℕ) where
   -- the four tests at the start of s, with what they give
-  record Tested (cs : List Clause) (s : Bytes) (none′ : Bool) (fault : Option ℕ) (last′ end′ : Bool) : Type 0 where
-    noStep : empty s ≡ none′
-    faults : firstFault (stepFaults lent vars cs s) ≡ fault
-    isLast : empty (stepAt s .literals) ≡ last′
-    isEnd : empty (behind s) ≡ end′
+  pub record Tested (cs : List Clause) (s : Bytes) (none′ : Bool) (fault : Option ℕ) (last′ end′ : Bool) : Type 0 where
+    pub noStep : empty s ≡ none′
+    pub faults : firstFault (stepFaults lent vars cs s) ≡ fault
+    pub isLast : empty (stepAt s .literals) ≡ last′
+    pub isEnd : empty (behind s) ≡ end′
 
   tested : (cs : List Clause) (s : Bytes)
       → Tested cs s (empty s) (firstFault (stepFaults lent vars cs s)) (empty (stepAt s .literals)) (empty (behind s))
   tested cs s = record { noStep = refl; faults = refl; isLast = refl; isEnd = refl }
 
-  at-step : (fuel step : ℕ) (cs : List Clause) (s : Bytes) {n : Bool} {f : Option ℕ} {l e : Bool} → Tested cs s n f l e
+  pub at-step : (fuel step : ℕ) (cs : List Clause) (s : Bytes) {n : Bool} {f : Option ℕ} {l e : Bool} → Tested cs s n f l e
       → checkSteps lent vars (suc fuel) step cs s ≡ oneStep lent vars fuel step cs s n f l e
   unfolding checkSteps oneStep
   at-step fuel step cs s t = λ i. oneStep lent vars fuel step cs s (t .noStep i) (t .faults i) (t .isLast i) (t .isEnd i)

@@ -5,23 +5,20 @@ use mathlib.Core.Logic.{_↔_, inl, inr}
 use mathlib.Core.Bool.{Bool, _&&_}
 use Prim.Native.Nat.{ℕ, zero, suc, _+_, _*_, _≤_, _<_}
 use native.Mathlib.Omega.{arith}
-use mathlib.Core.List.{List, [], _∷_, _++_}
+use mathlib.Core.List.{List, [], _∷_, _++_, append-nil}
 use lib.ListN.{length, getD, length-append}
 use lib.IntN.{ℤ, pos, negsuc}
 use lib.Dec.{T, leb}
 use lib.Arith.{digits-lt}
 use Rattle.laws.proofs.Tests.{meaning, and-iff, leb-iff, le-or-lt, all-iff}
 use Rattle.laws.proofs.Rows.{rows, all-append, all-cons}
+use Rattle.laws.proofs.Parts.{each-append}
 use Rattle.spec.specs.Lists.{all, each, one, sumTo}
 use Rattle.spec.specs.Instance.{Instance}
 use Rattle.spec.specs.Formula.{Literal, Clause, is, not′, width, firstVar, base, borderVar, runVar, goneVar, claimVar, ownVariables, variables, familyA, familyB, familyC, familyD, familyE, familyF, familyG, familyH, familyI, formula, wordsOf}
 use Rattle.spec.specs.Extra.{extraClauses}
-use Rattle.spec.specs.Refutation.{variableOf}
+use Rattle.spec.specs.Refutation.{variableOf, withWord, clausesOf, inRange}
 use Rattle.demands.proofs.Wellformed.{Sound}
-
--- every literal is of one of n variables
-abbrev pub inRange : ℕ → List Clause → Bool
-inRange n cs = all (λ c. all (λ l. leb 1 (variableOf l) && leb (variableOf l) n) c) cs
 
 -- the clauses behind family I keep to the variables; they are none today
 pub extra-in-range : (I : Instance) → T (inRange (variables I) (extraClauses I (ownVariables I)))
@@ -160,6 +157,18 @@ module _ (I : Instance) where
       simp (all-append, and-iff)
       (keptA, (keptB sound, (keptC, (keptD sound, (keptE, (keptF, (keptG sound, (keptH, (keptI, extra-in-range I)))))))))
 
+-- ---- the words of clauses
+
+-- behind the words of others
+pub words-append : (cs ds : List Clause) → wordsOf (cs ++ ds) ≡ wordsOf cs ++ wordsOf ds
+unfolding wordsOf
+words-append cs ds = each-append cs ds (λ c. c ++ one (pos 0))
+
+-- of one clause
+pub words-one : (c : Clause) → c ++ one (pos 0) ≡ wordsOf (one c)
+unfolding wordsOf each
+words-one c = sym (append-nil (c ++ one (pos 0)))
+
 -- ---- the words say which clauses they are
 
 -- every literal has a variable, so it is no closing 0
@@ -170,37 +179,24 @@ proper cs = all (λ c. all (λ l. leb 1 (variableOf l)) c) cs
 pub range-proper : (n : ℕ) (cs : List Clause) → T (inRange n cs) → T (proper cs)
 range-proper n cs h = let k = simp (all-iff, and-iff) at h in simp all-iff (λ c m l p. k c m l p .0)
 
--- a word in front of clauses: 0 closes a new clause, a literal goes to the first one (it is lost where there is none)
-read : ℤ → List Clause → List Clause
-read (pos zero) cs = [] ∷ cs
-read (pos (suc v)) [] = []
-read (pos (suc v)) (c ∷ cs) = (is v ∷ c) ∷ cs
-read (negsuc v) [] = []
-read (negsuc v) (c ∷ cs) = (not′ v ∷ c) ∷ cs
-
--- the clauses that words say
-clausesOf : List ℤ → List Clause
-clausesOf [] = []
-clausesOf (w ∷ ws) = read w (clausesOf ws)
-
 -- a literal goes to the first clause
-read-literal : (l : Literal) → T (leb 1 (variableOf l)) → (c : Clause) (cs : List Clause) → read l (c ∷ cs) ≡ (l ∷ c) ∷ cs
-unfolding read variableOf
-read-literal (pos zero) h c cs = absurd h
-read-literal (pos (suc v)) h c cs = refl
-read-literal (negsuc v) h c cs = refl
+with-literal : (l : Literal) → T (leb 1 (variableOf l)) → (c : Clause) (cs : List Clause) → withWord l (c ∷ cs) ≡ (l ∷ c) ∷ cs
+unfolding withWord variableOf
+with-literal (pos zero) h c cs = absurd h
+with-literal (pos (suc v)) h c cs = refl
+with-literal (negsuc v) h c cs = refl
 
 -- a clause and its 0 in front of words
 clause-back : (c : Clause) → T (all (λ l. leb 1 (variableOf l)) c) → (ws : List ℤ)
     → clausesOf ((c ++ one (pos 0)) ++ ws) ≡ c ∷ clausesOf ws
-unfolding clausesOf read
+unfolding clausesOf withWord
 clause-back [] h ws = refl
 clause-back (l ∷ c) h ws =
     let k = simp (all-cons, and-iff) at h in
-    ap (read l) (clause-back c (k .1) ws) ∙ read-literal l (k .0) c (clausesOf ws)
+    ap (withWord l) (clause-back c (k .1) ws) ∙ with-literal l (k .0) c (clausesOf ws)
 
 -- the words of clauses say these clauses
-words-back : (cs : List Clause) → T (proper cs) → clausesOf (wordsOf cs) ≡ cs
+pub words-back : (cs : List Clause) → T (proper cs) → clausesOf (wordsOf cs) ≡ cs
 unfolding wordsOf each clausesOf
 words-back [] h = refl
 words-back (c ∷ cs) h =

@@ -9,7 +9,7 @@ use lib.IntN.{ℤ}
 use Rattle.spec.specs.Lists.{Bytes, each, one}
 use Rattle.spec.specs.Instance.{Instance}
 use Rattle.spec.specs.Formula.{Clause, is, not′, wordsOf}
-use Rattle.clauses.proofs.Turns.{words-append}
+use Rattle.demands.proofs.Words.{words-append}
 use Rattle.meets.specs.Meets.{meetBytes}
 use Rattle.meets.proofs.Triples.{bytes-next, bytes-end, triples, triples-next, triples-end, triples-meet}
 use Rattle.families.specs.Rows.{rowsH}

@@ -14,7 +14,7 @@ use Rattle.spec.specs.Extra.{extraClauses}
 use Rattle.laws.proofs.Tests.{upTo-mem}
 use Rattle.laws.proofs.Parts.{length-count, length-upTo}
 use Rattle.clauses.specs.Walked.{most}
-use Rattle.clauses.proofs.Turns.{words-append}
+use Rattle.demands.proofs.Words.{words-append}
 use Rattle.families.specs.Rows.{rowsB, rowsC, rowsI, rowsD, followersE, clauseE, rowsE, serversF, claimsG, rowsG, rowsH}
 use Rattle.formula.specs.declared.Family.{Family}
 use Rattle.formula.specs.declared.Family.the-variants.{B, C, D, E, G, H}

@@ -12,7 +12,7 @@ use Rattle.spec.specs.Instance.{Instance, instanceOf, servedAtDeparture}
 use Rattle.spec.specs.Formula.{firstVar, base, wordsOf}
 use Rattle.spec.specs.Held.{held}
 use Rattle.clauses.proofs.Laws.{only-true, only-false}
-use Rattle.clauses.proofs.Turns.{words-one}
+use Rattle.demands.proofs.Words.{words-one}
 use Rattle.tables.specs.Ready.{RunsReady}
 use Rattle.tables.proofs.Small.{runs-small, begins-small, base-at}
 use Rattle.tables.proofs.Here.{lent, runs-lent}

@@ -108,11 +108,11 @@ module _ (s : Bytes) (at w : ℕ) (b : T (bytes s)) (fits : at + w ≤ length s)
 -- ---- two's complement
 
 -- the sign, by the test that decides it
-signed-low : (w n : ℕ) → n * 2 < 256 ^ w → signed w n ≡ pos n
+pub signed-low : (w n : ℕ) → n * 2 < 256 ^ w → signed w n ≡ pos n
 unfolding signed
 signed-low w n h = rw (true-of (ltb (n * 2) (256 ^ w)) (lt→ltb (n * 2) (256 ^ w) h), signed)
 
-signed-high : (w n : ℕ) → 256 ^ w ≤ n * 2 → signed w n ≡ negsuc (256 ^ w - suc n)
+pub signed-high : (w n : ℕ) → 256 ^ w ≤ n * 2 → signed w n ≡ negsuc (256 ^ w - suc n)
 unfolding signed
 signed-high w n h = rw (denied-of (ltb (n * 2) (256 ^ w)) (le→nltb (n * 2) (256 ^ w) h), signed)
 

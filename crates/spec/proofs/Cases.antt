@@ -20,8 +20,8 @@ use Rattle.spec.specs.Plan.{isAbsent, isGone, runs, ifRun, ofRun, moveCo
 use Rattle.spec.specs.Extra.{extraVariables, extraClauses, extraCondition, extraValues}
 use Rattle.spec.specs.Formula.{width, firstVar, base, borderVar, runVar, goneVar, claimVar, ownVariables, variables, familyA, familyB, familyC, familyD, familyE, familyF, familyG, familyH, familyI, formula, wordsOf, dimacsOpening, dimacsLine, dimacsText}
 use Rattle.spec.specs.Assignment.{deny, truth, isYes, valueOf, isTrue, holds, satisfies, firstFalse, assigned, assignmentFits, firstRun, chosen, decoded, decode, claims, encode}
-use Rattle.spec.specs.Refutation.{ProofStep, Lent, stepPayload, fileOf, literalCount, hintCount, stepIn, variableOf, risesFrom, literalsFit, hintsFit, makeTrue, makeFalse, refuting, isNo, isOpen, clauseAt, notFalse, hinted, goThrough, followsRule, clausesFit, stepFaults, stepDetail, checkSteps, checkFile}
-use Rattle.spec.specs.Entry.{demand, findNone, readInstance, formulaWritten, writtenFor, writeFormula, formulaText, judgeAssignment, decodedFor, checkAssignment, judgePlan, encodedFor, checkPlan, formulaFits, checkRefutation}
+use Rattle.spec.specs.Refutation.{ProofStep, Lent, stepPayload, fileOf, literalCount, hintCount, stepIn, variableOf, risesFrom, literalsFit, hintsFit, makeTrue, makeFalse, refuting, isNo, isOpen, clauseAt, notFalse, hinted, goThrough, followsRule, clausesFit, isBad, stepFaults, stepDetail, checkSteps, checkFile}
+use Rattle.spec.specs.Entry.{demand, findNone, readInstance, formulaWritten, writtenFor, writeFormula, formulaText, judgeAssignment, decodedFor, checkAssignment, judgePlan, encodedFor, checkPlan, formulaFits, refutedFor, checkRefutation}
 use Rattle.spec.specs.Programs.{sliceBytes, sliceOf, programLent, unlessLong, isLong, acceptedLine, refusalLine, printed, printFormula, printAssignment, printPlan, printRefutation}
 
 -- An answer: rows of numbers, a text or a clause, or a refusal's number and detail.
@@ -330,7 +330,7 @@ unfolding
     extraVariables extraClauses extraCondition extraValues
     width firstVar base borderVar runVar goneVar claimVar ownVariables variables familyA familyB familyC familyD familyE familyF familyG familyH familyI formula wordsOf dimacsOpening dimacsLine dimacsText
     deny truth isYes valueOf isTrue holds satisfies firstFalse assigned assignmentFits firstRun chosen decoded decode claims encode
-    stepPayload fileOf literalCount hintCount stepIn variableOf risesFrom literalsFit hintsFit makeTrue makeFalse refuting isNo isOpen clauseAt notFalse hinted goThrough followsRule clausesFit stepFaults stepDetail checkSteps checkFile
-    demand findNone readInstance formulaWritten writtenFor writeFormula formulaText judgeAssignment decodedFor checkAssignment judgePlan encodedFor checkPlan formulaFits checkRefutation
+    stepPayload fileOf literalCount hintCount stepIn variableOf risesFrom literalsFit hintsFit makeTrue makeFalse refuting isNo isOpen clauseAt notFalse hinted goThrough followsRule clausesFit isBad stepFaults stepDetail checkSteps checkFile
+    demand findNone readInstance formulaWritten writtenFor writeFormula formulaText judgeAssignment decodedFor checkAssignment judgePlan encodedFor checkPlan formulaFits refutedFor checkRefutation
     sliceBytes sliceOf programLent unlessLong isLong acceptedLine refusalLine printed printFormula printAssignment printPlan printRefutation
 cases = refl

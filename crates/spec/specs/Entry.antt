@@ -130,8 +130,11 @@ unfoldable pub formulaFits : Lent → Instance → Bool
 formulaFits lent I =
     clausesFit lent (formula I) && leb (variables I) (lent .values) && leb (variables I) (lent .trail)
 
-unfoldable pub checkRefutation : Bytes → Bytes → Lent → Verdict (Unit {0})
-checkRefutation book refutation lent =
-    andThen (readInstance book) λ I.
+-- of an instance: 12, then the file of steps
+unfoldable pub refutedFor : Instance → Bytes → Lent → Verdict (Unit {0})
+refutedFor I refutation lent =
     andThen (demand (formulaFits lent I) 12) λ _.
     checkFile lent (variables I) (formula I) refutation
+
+unfoldable pub checkRefutation : Bytes → Bytes → Lent → Verdict (Unit {0})
+checkRefutation book refutation lent = andThen (readInstance book) λ I. refutedFor I refutation lent

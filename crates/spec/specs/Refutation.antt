@@ -16,7 +16,7 @@ use Rattle.spec.specs.Frames.{frame, stepKind, stepLengthFits, kindField
 use Rattle.spec.specs.Formula.{Literal, Clause, wordsOf}
 use Rattle.spec.specs.Assignment.{Value, open′, yes′, no′, truth, isYes}
 
--- A step: the clause that it claims, and the numbers of the clauses that prove it.
+-- A step (document 01's term): its clause, and its hints, the numbers of the clauses that prove it.
 pub record ProofStep : Type 0 where
   pub literals : Clause
   pub hints : List ℕ
@@ -98,7 +98,7 @@ isOpen open′ = true
 isOpen yes′ = false
 isOpen no′ = false
 
--- the clause with a number, from 1
+-- the clause with a number, from 1; past the last it would be the empty one, which 19 keeps out
 unfoldable pub clauseAt : List Clause → ℕ → Clause
 clauseAt cs h = getD cs (h - 1) []
 
@@ -176,6 +176,25 @@ pub record InFields (s : ProofStep) : Type 0 where
   pub literalsShort : (l : Literal) → List·Memᴰ l (s .literals) → mag l * 2 < 256 ^ 4
   pub hintsShort : (h : ℕ) → List·Memᴰ h (s .hints) → h < 256 ^ 4
 
+-- ---- clauses in a lent slice of words
+
+-- a word in front of clauses: 0 closes a new clause, a literal goes to the first one (it is lost where there is none)
+unfoldable pub withWord : ℤ → List Clause → List Clause
+withWord (pos zero) cs = [] ∷ cs
+withWord (pos (suc v)) [] = []
+withWord (pos (suc v)) (c ∷ cs) = (pos (suc v) ∷ c) ∷ cs
+withWord (negsuc v) [] = []
+withWord (negsuc v) (c ∷ cs) = (negsuc v ∷ c) ∷ cs
+
+-- "each clause closed by 0": the clauses that words say, `wordsOf` the other way
+unfoldable pub clausesOf : List ℤ → List Clause
+clausesOf [] = []
+clausesOf (w ∷ ws) = withWord w (clausesOf ws)
+
+-- every literal is of one of n variables
+abbrev pub inRange : ℕ → List Clause → Bool
+inRange n cs = all (λ c. all (λ l. leb 1 (variableOf l) && leb (variableOf l) n) c) cs
+
 -- ---- the list of steps
 
 -- How long the lent slices are that hold the formula's words and the steps', an entry a clause, and two entries a variable.
@@ -189,11 +208,15 @@ pub record Lent : Type 0 where
 unfoldable pub clausesFit : Lent → List Clause → Bool
 clausesFit lent cs = leb (length (wordsOf cs)) (lent .words) && leb (length cs) (lent .clauses)
 
+-- 17: "frame cut, kind not 20, payload not 2 + 4n + 4h"
+unfoldable pub isBad : Bytes → Bool
+isBad s = cutShort s || not (eqb (kindField s) stepKind) || not (stepLengthFits (payloadOf s))
+
 -- 17, 18, 19, 12 and 20 for the frame at the start of s; cs are the clauses that hints may name
 unfoldable pub stepFaults : Lent → ℕ → List Clause → Bytes → List Fault
 stepFaults lent vars cs s =
     let st : ProofStep = stepIn (payloadOf s) in
-    17 when (cutShort s || not (eqb (kindField s) stepKind) || not (stepLengthFits (payloadOf s)))
+    17 when isBad s
     ∷ 18 when not (literalsFit vars (st .literals))
     ∷ 19 when not (hintsFit (length cs + 1) (st .hints))
     ∷ 12 when not (clausesFit lent (cs ++ one (st .literals)))

@@ -4,6 +4,8 @@ use Rattle.spec.specs.Lists.{Bytes}
 use Rattle.spec.specs.Programs.{acceptedLine, refusalLine}
 use Rattle.checking.specs.declared.OutputAnswer.{OutputAnswer}
 use Rattle.checking.specs.declared.OutputAnswer.the-variants.{Wrote, Refused}
+use Rattle.reading.specs.declared.Answer.{Answer}
+use Rattle.reading.specs.declared.Answer.the-variants as plain
 
 -- "the word accepted on a line", or the refusal's line
 abbrev pub answerLine : OutputAnswer → Bytes
@@ -14,3 +16,8 @@ answerLine (Refused n d) = refusalLine n d
 abbrev pub resultLength : OutputAnswer → ℕ
 resultLength (Wrote n) = n
 resultLength (Refused n d) = 0
+
+-- the line of an answer without a result
+abbrev pub plainLine : Answer → Bytes
+plainLine plain.Accepted = acceptedLine
+plainLine (plain.Refused n d) = refusalLine n d

@@ -1,5 +1,6 @@
-// The programs over the checks: their files, and what they print. `assignment_text` and `plan_text`
-// make the line of a verdict and the result; their contracts say that these are the specification's.
+// The programs over the checks: their files, and what they print. `assignment_text`, `plan_text` and
+// `refutation_text` make the line of a verdict, and the result where there is one; their contracts say
+// that these are the specification's.
 // The other functions only read files by the arguments' names, and hand bytes to the output and to a
 // file. A slice has at most 64 KiB: longer input is refused by 12 first.
 use checking::OutputAnswer;
@@ -10,12 +11,16 @@ use dimacs::put_refusal;
 use libc::STDERR_FILENO;
 use printing::print;
 use printing::print_refusal;
+use reading::Answer;
+use refutations::check_refutation;
 ghost use mathlib.Core.Path.{_≡_};
 ghost use Prim.Native.Nat.{_≤_};
 ghost use lib.ListN.{length};
 ghost use lib.Seq.{sets};
-ghost use Rattle.spec.specs.Entry.{written, checkAssignment, checkPlan, planOutput, assignmentOutput};
+ghost use lib.IntN.{pos};
+ghost use Rattle.spec.specs.Entry.{written, zeroed, checkAssignment, checkPlan, checkRefutation, planOutput, assignmentOutput};
 ghost use Rattle.spec.specs.Programs.{acceptedLine, printed};
+ghost use Rattle.refutations.specs.Lent.{lengths};
 ghost use Rattle.verdicts.specs.Lines.{answerLine, resultLength};
 
 // How many bytes are printed, and how many bytes the result has.
@@ -66,6 +71,35 @@ pub fn plan_text(book: &[u8], plan: &[u8], values: &mut [u8], line: &mut [u8]) -
 {
     let answer = check_plan(book, plan, values);
     say(answer, line)
+}
+
+// The line of the verdict on a refutation, which has no result.
+pub fn refutation_text(
+    book: &[u8],
+    r: &[u8],
+    words: &mut [i32],
+    clauses: &mut [usize],
+    values: &mut [u8],
+    trail: &mut [usize],
+    line: &mut [u8],
+) -> Said
+    requires { ⌜ length (now line) ≡ 64 ⌝ }
+    ensures { λ s. ⌜ (now (line .exit) ≡ sets (now (line .entry)) 0 (printed (λ _. acceptedLine) (checkRefutation (now (book .entry)) (now (r .entry))
+        (lengths (now (words .entry)) (now (clauses .entry)) (now (values .entry)) (now (trail .entry))))))
+        × (s .len ≡ length (printed (λ _. acceptedLine) (checkRefutation (now (book .entry)) (now (r .entry))
+        (lengths (now (words .entry)) (now (clauses .entry)) (now (values .entry)) (now (trail .entry))))))
+        × (s .result ≡ 0)
+        × (s .len ≤ 64)
+        × (now (words .exit) ≡ zeroed (pos 0) (length (now (words .entry))))
+        × (now (clauses .exit) ≡ zeroed 0 (length (now (clauses .entry))))
+        × (now (values .exit) ≡ zeroed 0 (length (now (values .entry))))
+        × (now (trail .exit) ≡ zeroed 0 (length (now (trail .entry)))) ⌝ }
+{
+    let answer = check_refutation(book, r, words, clauses, values, trail);
+    match answer {
+        Answer::Accepted => say(OutputAnswer::Wrote(0), line),
+        Answer::Refused(number, detail) => say(OutputAnswer::Refused(number, detail), line),
+    }
 }
 
 // What became of a file: its bytes are at the start of the buffer, it is longer than the buffer, or
@@ -137,6 +171,17 @@ fn save(argument: usize, bytes: &[u8]) {
 pub enum Check {
     Assignment,
     Plan,
+    Refutation,
+}
+
+// How many arguments a program takes at most, its own name among them: a refutation has no result to
+// write.
+fn most_arguments(check: Check) -> usize {
+    match check {
+        Check::Assignment => 4,
+        Check::Plan => 4,
+        Check::Refutation => 3,
+    }
 }
 
 // Prints the line of a verdict; its result goes to the file that the third argument names, if there is
@@ -149,6 +194,25 @@ fn hand_out(said: Said, line: &[u8], out: &[u8]) {
     if 0 < n && n <= out.len() && os::arg_count() == 4 {
         save(3, &out[..n]);
     }
+}
+
+// The verdict on a refutation, with slices of 64 KiB each.
+fn judge_refutation(book: &[u8], r: &[u8]) {
+    let mut words = [0i32; 16384];
+    let mut clauses = [0usize; 8192];
+    let mut values = io::large_buffer();
+    let mut trail = [0usize; 8192];
+    let mut line = [0u8; 64];
+    let said = refutation_text(
+        book,
+        r,
+        &mut words,
+        &mut clauses,
+        &mut values,
+        &mut trail,
+        &mut line,
+    );
+    print(&line, said.len);
 }
 
 // The verdict on the second input.
@@ -164,6 +228,7 @@ fn judge(check: Check, book: &[u8], second: &[u8]) {
             let said = plan_text(book, second, &mut out, &mut line);
             hand_out(said, &line, &out);
         }
+        Check::Refutation => judge_refutation(book, second),
     }
 }
 
@@ -177,7 +242,7 @@ fn judge_loaded(check: Check, book: &[u8], n: usize, second: &[u8], m: usize) {
 // A program: the book and the second input by the names of their files.
 pub fn run(check: Check, usage: &[u8]) {
     let names = os::arg_count();
-    if names < 3 || 4 < names {
+    if names < 3 || most_arguments(check) < names {
         io::write_all(STDERR_FILENO, usage);
         return;
     }

@@ -7,7 +7,8 @@ use lib.IntN.{ℤ}
 use Rattle.spec.specs.Lists.{range, each, one}
 use Rattle.spec.specs.Formula.{is}
 use Rattle.clauses.proofs.Laws.{walks-same, walks-behind, walks-length}
-use Rattle.clauses.proofs.Turns.{words-one, literals-row, Ahead, ahead-start, turn, turned}
+use Rattle.demands.proofs.Words.{words-one}
+use Rattle.clauses.proofs.Turns.{literals-row, Ahead, ahead-start, turn, turned}
 use Rattle.clauses.proofs.some_of.Statement.{statement}
 use Rattle.clauses.proofs.some_of.Tie as tie
 

@@ -12,7 +12,8 @@ use Rattle.spec.specs.Lists.{Bytes, each, one}
 use Rattle.spec.specs.Book.{segmentOf}
 use Rattle.spec.specs.Formula.{Clause, is, not′, wordsOf}
 use Rattle.clauses.proofs.Laws.{walks-same}
-use Rattle.clauses.proofs.Turns.{words-append, Ahead, ahead-start, ahead-same, ahead-pass, ahead-done}
+use Rattle.demands.proofs.Words.{words-append}
+use Rattle.clauses.proofs.Turns.{Ahead, ahead-start, ahead-same, ahead-pass, ahead-done}
 use Rattle.track.proofs.Walks.{slice-next, slice-end}
 use Rattle.places.specs.Placed.{placeAt}
 use Rattle.families.proofs.claims_of.Statement.{statement}

@@ -2,7 +2,7 @@
 use borrow.Author.Needs.{needs}
 use native.Mathlib.Omega.{arith}
 use Rattle.clauses.proofs.Laws.{walks-same, walks-behind, walks-length}
-use Rattle.clauses.proofs.Turns.{words-one}
+use Rattle.demands.proofs.Words.{words-one}
 use Rattle.families.proofs.clause_e.Statement.{statement}
 use Rattle.families.proofs.clause_e.Tie as tie
 

@@ -13,7 +13,8 @@ use Rattle.spec.specs.Instance.{instanceOf, compile}
 use Rattle.spec.specs.Formula.{Clause, is, not′, borderVar, familyA, wordsOf}
 use Rattle.spec.specs.Held.{held}
 use Rattle.clauses.proofs.Laws.{walks-same, walks-behind}
-use Rattle.clauses.proofs.Turns.{words-append, Ahead, ahead-start, turn, turned}
+use Rattle.demands.proofs.Words.{words-append}
+use Rattle.clauses.proofs.Turns.{Ahead, ahead-start, turn, turned}
 use Rattle.content.proofs.Packing.{nodes-counted}
 use Rattle.families.proofs.Rest.{words-range}
 use Rattle.tables.proofs.Answers.{denied-held, forced-held}

@@ -6,7 +6,7 @@ use lib.IntN.{ℤ}
 use Rattle.spec.specs.Lists.{one}
 use Rattle.spec.specs.Formula.{wordsOf}
 use Rattle.clauses.proofs.Laws.{walks-same, walks-behind, walks-length}
-use Rattle.clauses.proofs.Turns.{words-append}
+use Rattle.demands.proofs.Words.{words-append}
 use Rattle.families.specs.Rows.{rowsC}
 use Rattle.families.proofs.Rest.{map-last}
 use Rattle.families.proofs.rows_c.Statement.{statement}

@@ -14,7 +14,8 @@ use Rattle.spec.specs.Instance.{instanceOf}
 use Rattle.spec.specs.Formula.{Clause, not′, wordsOf}
 use Rattle.spec.specs.Held.{held, heldTrain}
 use Rattle.clauses.proofs.Laws.{walks-same, walks-behind, walks-length}
-use Rattle.clauses.proofs.Turns.{words-append, Ahead, ahead-start, turn, turned}
+use Rattle.demands.proofs.Words.{words-append}
+use Rattle.clauses.proofs.Turns.{Ahead, ahead-start, turn, turned}
 use Rattle.places.specs.Placed.{placeAt}
 use Rattle.families.specs.Rows.{rowsD}
 use Rattle.families.proofs.Rest.{words-range}

@@ -14,7 +14,8 @@ use Rattle.spec.specs.Instance.{Instance, instanceOf}
 use Rattle.spec.specs.Formula.{is, not′, wordsOf}
 use Rattle.spec.specs.Held.{held}
 use Rattle.clauses.proofs.Laws.{walks-same, walks-behind, walks-length}
-use Rattle.clauses.proofs.Turns.{words-append, words-row, Ahead, ahead-start, turn, turned}
+use Rattle.demands.proofs.Words.{words-append}
+use Rattle.clauses.proofs.Turns.{words-row, Ahead, ahead-start, turn, turned}
 use Rattle.places.specs.Placed.{placeAt}
 use Rattle.families.specs.Rows.{rowsE, clauseE, followersE}
 use Rattle.families.specs.Chained.{Chained}

@@ -11,7 +11,7 @@ use Rattle.spec.specs.Held.{held}
 use Rattle.clauses.specs.declared.Walk.{Walk}
 use Rattle.clauses.specs.Walked.{Walks}
 use Rattle.clauses.proofs.Laws.{walks-same, walks-behind, walks-nothing, walks-length}
-use Rattle.clauses.proofs.Turns.{words-append}
+use Rattle.demands.proofs.Words.{words-append}
 use Rattle.formula.proofs.Shapes.{shape-b, shape-c, shape-d, shape-e, shape-g, shape-h}
 use Rattle.formula.proofs.walk_formula.Statement.{statement}
 use Rattle.formula.proofs.walk_formula.Tie as tie

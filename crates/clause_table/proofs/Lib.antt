@@ -1,0 +1,4 @@
+pub mod Lookup
+pub mod Adding
+pub mod Storing
+pub mod Indexing

@@ -1,0 +1,2 @@
+pub mod StepFaults
+pub mod StepAnswers

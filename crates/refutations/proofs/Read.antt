@@ -1,0 +1,44 @@
+-- From the answer to a book's bytes: the struct holds a book that passed, and a check of it goes on from its instance; or the check
+-- stops with the book's refusal. Assumes nothing.
+use mathlib.Core.Path.{_≡_, sym, ap, _∙_, subst}
+use Prim.Native.Nat.{ℕ, _<_}
+use lib.ListN.{getD}
+use Rattle.spec.specs.Lists.{Bytes, Verdict, accepted, andThen}
+use Rattle.spec.specs.Book.{Book}
+use Rattle.spec.specs.Read.{readBook}
+use Rattle.spec.specs.Instance.{Instance, instanceOf}
+use Rattle.spec.specs.Held.{held, packed}
+use Rattle.spec.specs.Entry.{readInstance}
+use Rattle.content.proofs.Packing.{held-packed}
+use Rattle.reading.specs.declared.Answer.{Answer}
+use Rattle.reading.specs.declared.Answer.the-variants.{Accepted, Refused}
+use Rattle.reading.specs.declared.BookRead.{BookRead}
+use Rattle.reading.specs.BookAnswers.{answerOf, bookReadOf}
+use Rattle.reading.proofs.Accepted.{accepted-by, refused-by}
+use Rattle.reading.proofs.Verdicts.{goes-on, stops}
+use Rattle.reading.proofs.Way.{bytes-of}
+use Rattle.tables.specs.Tables.{Passed}
+use Rattle.tables.proofs.Passing.{passed-read}
+
+module _ (bytes : Bytes) (r : BookRead) (e : r ≡ bookReadOf (readBook bytes)) where
+  -- an accepted book
+  module _ (told : r .answer ≡ Accepted) where
+    -- it is the one that the bytes hold
+    found : (b : Book) × (readBook bytes ≡ accepted b) × (r .book ≡ packed b)
+    found = accepted-by r (readBook bytes) e told
+
+    -- it passed
+    pub passed : ((i : ℕ) → getD bytes i 0 < 256) → Passed (r .book)
+    passed known = subst Passed (sym (found .2)) (passed-read bytes (found .0) (bytes-of bytes known) (found .1))
+
+    -- the answer for its instance is the answer to the bytes
+    pub went-on : {A : Type 0} {a : Answer} (f : Instance → Verdict A) → a ≡ answerOf (f (instanceOf (held (r .book))))
+        → a ≡ answerOf (andThen (readInstance bytes) f)
+    went-on f h =
+        h ∙ ap (λ (b : Book). answerOf (f (instanceOf b))) (ap held (found .2) ∙ held-packed (found .0))
+        ∙ ap answerOf (sym (goes-on bytes f (found .0) (found .1)))
+
+  -- a refusal is the answer
+  pub stopped : {A : Type 0} {n d : ℕ} (f : Instance → Verdict A) → r .answer ≡ Refused n d
+      → Refused n d ≡ answerOf (andThen (readInstance bytes) f)
+  stopped {n = n} {d} f told = ap answerOf (sym (stops bytes f n d (refused-by r (readBook bytes) e told)))

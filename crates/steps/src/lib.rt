@@ -1,0 +1,72 @@
+// A step of a refutation in its file: the frame at a place (17), and the stretches of the file that its
+// literals and its hints are in. Assumes nothing.
+use frames::Framed;
+use frames::StepFrame;
+use frames::frame_at;
+use frames::pair;
+ghost use mathlib.Core.Path.{_≡_};
+ghost use Prim.Native.Nat.{_+_, _*_, _≤_, _<_};
+ghost use lib.ListN.{length, drop};
+ghost use Rattle.spec.specs.Frames.{payloadOf};
+ghost use Rattle.spec.specs.Refutation.{hintBytes};
+ghost use Rattle.steps.specs.declared.Step.the-variants as step;
+ghost use Rattle.steps.specs.Found.{stepFound, literalBytes};
+
+// What stands at a place of a refutation: a step, with how many literals and hints it has, or none.
+pub enum Step {
+    Whole { literals: usize, hints: usize },
+    Bad,
+}
+
+// The step at a place.
+pub fn step_at(s: &[u8], at: usize) -> Step
+    requires { ⌜ at ≤ length (now s) ⌝ }
+    ensures { λ r. ⌜ r ≡ stepFound (drop at (now (s .entry))) ⌝ }
+{
+    match frame_at(s, at) {
+        Framed::Cut => Step::Bad,
+        Framed::Whole { kind, len } => {
+            if kind != StepFrame::KIND || len < StepFrame::LEN {
+                return Step::Bad;
+            }
+            let literals = pair(s, at + 4);
+            if len - StepFrame::LEN < 4 * literals {
+                return Step::Bad;
+            }
+            let rest = len - StepFrame::LEN - 4 * literals;
+            if rest % 4 != 0 {
+                return Step::Bad;
+            }
+            Step::Whole {
+                literals,
+                hints: rest / 4,
+            }
+        }
+    }
+}
+
+// The bytes of a step's literals: a part of the file.
+pub fn literals_at(s: &[u8], at: usize, literals: usize, hints: usize) -> &[u8]
+    requires { ⌜ (at ≤ length (now s)) × (stepFound (drop at (now s)) ≡ step.Whole literals hints) ⌝ }
+    ensures { λ r. ⌜ now r ≡ literalBytes (payloadOf (drop at (now (s .entry)))) ⌝ }
+{
+    let first = StepFrame::cursor(at + 4).end;
+    &s[first..first + 4 * literals]
+}
+
+// The bytes of a step's hints: a part of the file, to the payload's end.
+pub fn hints_at(s: &[u8], at: usize, literals: usize, hints: usize) -> &[u8]
+    requires { ⌜ (at ≤ length (now s)) × (stepFound (drop at (now s)) ≡ step.Whole literals hints) ⌝ }
+    ensures { λ r. ⌜ now r ≡ hintBytes (payloadOf (drop at (now (s .entry)))) ⌝ }
+{
+    let first = StepFrame::cursor(at + 4).end + 4 * literals;
+    &s[first..first + 4 * hints]
+}
+
+// Where the frame of a step with so many literals and hints ends.
+pub fn step_end(at: usize, literals: usize, hints: usize) -> usize
+    requires { ⌜ at + 6 + 4 * (literals + hints) < 0x1_0000_0000_0000_0000 ⌝ }
+    ensures { λ r. ⌜ r ≡ at + 6 + 4 * (literals + hints) ⌝ }
+{
+    StepFrame::cursor(at + 4).end + 4 * (literals + hints)
+}
