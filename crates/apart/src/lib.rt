@@ -40,7 +40,7 @@ pub fn row_of(m: Move, sizes: &[u8], train: usize) -> Row
 }
 
 // Whether some segment of a row has a marked label.
-pub fn touches(labels: &[usize], marks: &[u8; 64], rows: &[u8], row: Row) -> bool
+fn touches(labels: &[usize], marks: &[u8; 64], rows: &[u8], row: Row) -> bool
     requires { ⌜ RowFits (now labels) (now rows) row ⌝ }
     ensures { λ r. ⌜ r ≡ any (isMarked (now (marks .entry))) (labelsOf (now (labels .entry)) (now (rows .entry)) row) ⌝ }
 {
@@ -71,7 +71,7 @@ pub fn mark(labels: &[usize], rows: &[u8], row: Row, marks: &mut [u8; 64])
 }
 
 // Rule 6 of one interval: whether no two trains' runs share a section.
-pub fn interval_apart(
+fn interval_apart(
     b: Book,
     rows: &[u8],
     sizes: &[u8],

@@ -15,7 +15,7 @@ ghost use Rattle.meets.specs.Meets.{MeetsReady};
 ghost use Rattle.tables.specs.Ready.{Counted, RunsReady, ChainsReady};
 
 // 13: whether the bytes are an assignment's, 0 or 1 a variable.
-pub fn assignment_fits(b: Book, runs: [usize; 8], values: &[u8]) -> bool
+fn assignment_fits(b: Book, runs: [usize; 8], values: &[u8]) -> bool
     requires { ⌜ Counted b runs ⌝ }
     ensures { λ r. ⌜ r ≡ assignmentFits (instanceOf (held b)) (now (values .entry)) ⌝ }
 {

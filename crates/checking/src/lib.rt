@@ -36,7 +36,7 @@ pub enum OutputAnswer {
 }
 
 // 12, then the verdict on an assignment, then its plan, by the tables of a book.
-pub fn decode_by(
+fn decode_by(
     b: Book,
     runs: [usize; 8],
     rows: &[u8],
@@ -67,7 +67,7 @@ pub fn decode_by(
 }
 
 // The check of an assignment for a book that passed: its tables are filled, then the assignment is judged.
-pub fn decode_for(b: Book, values: &[u8], out: &mut [u8]) -> OutputAnswer
+fn decode_for(b: Book, values: &[u8], out: &mut [u8]) -> OutputAnswer
     requires { ⌜ Passed b ⌝ }
     ensures { λ r. ⌜ (r ≡ outputAnswer (decodedFor (instanceOf (held b)) (now (values .entry)) (length (now (out .entry)))))
         × (now (out .exit) ≡ overwrite (now (out .entry)) (written (decodedFor (instanceOf (held b)) (now (values .entry)) (length (now (out .entry)))))) ⌝ }
@@ -109,7 +109,7 @@ pub fn check_assignment(book: &[u8], values: &[u8], out: &mut [u8]) -> OutputAns
 }
 
 // Writes a plan that was accepted as an assignment: it claims exactly the sections that its runs touch.
-pub fn write_plan(
+fn write_plan(
     b: Book,
     runs: [usize; 8],
     rows: &[u8],
@@ -129,7 +129,7 @@ pub fn write_plan(
 }
 
 // 12, then the verdict on a plan, then its assignment, by the tables of a book.
-pub fn encode_by(
+fn encode_by(
     b: Book,
     runs: [usize; 8],
     rows: &[u8],
@@ -158,7 +158,7 @@ pub fn encode_by(
 }
 
 // The check of a plan for a book that passed: its tables are filled, then the plan is judged.
-pub fn encode_for(b: Book, plan: &[u8], out: &mut [u8]) -> OutputAnswer
+fn encode_for(b: Book, plan: &[u8], out: &mut [u8]) -> OutputAnswer
     requires { ⌜ Passed b ⌝ }
     ensures { λ r. ⌜ (r ≡ outputAnswer (encodedFor (instanceOf (held b)) (now (plan .entry)) (length (now (out .entry)))))
         × (now (out .exit) ≡ overwrite (now (out .entry)) (written (encodedFor (instanceOf (held b)) (now (plan .entry)) (length (now (out .entry)))))) ⌝ }

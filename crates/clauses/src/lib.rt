@@ -41,7 +41,7 @@ pub fn begin() -> Walk
 }
 
 // A count with k more, as far as 2^60.
-pub fn more(n: usize, k: usize) -> usize
+fn more(n: usize, k: usize) -> usize
     requires { ⌜ k ≤ most ⌝ }
     ensures { λ r. ⌜ r ≡ walked.more n k ⌝ }
 {
@@ -56,7 +56,7 @@ pub fn value(values: &[u8], v: usize) -> bool
 }
 
 // Stores a word where the output has room for it.
-pub fn store(out: &mut [i32], at: usize, word: i32)
+fn store(out: &mut [i32], at: usize, word: i32)
     ensures { λ _. ⌜ now (out .exit) ≡ set (now (out .entry)) at word ⌝ }
 {
     if at < out.len() {
@@ -65,7 +65,7 @@ pub fn store(out: &mut [i32], at: usize, word: i32)
 }
 
 // The literal of a variable, counted from 0, that affirms it.
-pub fn positive(v: usize) -> i32
+fn positive(v: usize) -> i32
     requires { ⌜ v < 1000000000 ⌝ }
     ensures { λ r. ⌜ r ≡ is v ⌝ }
 {
@@ -73,7 +73,7 @@ pub fn positive(v: usize) -> i32
 }
 
 // The literal that denies it.
-pub fn negative(v: usize) -> i32
+fn negative(v: usize) -> i32
     requires { ⌜ v < 1000000000 ⌝ }
     ensures { λ r. ⌜ r ≡ not′ v ⌝ }
 {
@@ -105,7 +105,7 @@ pub fn deny(w: Walk, v: usize, values: &[u8], out: &mut [i32]) -> Walk
 }
 
 // The number of the first clause that did not hold, or 0, after the clause with this number was closed.
-pub fn first_wrong(w: Walk, number: usize) -> usize
+fn first_wrong(w: Walk, number: usize) -> usize
     ensures { λ r. ⌜ r ≡ cond (eqb (w .wrong) 0 && not (w .holds)) number (w .wrong) ⌝ }
 {
     if w.wrong != 0 {
@@ -141,7 +141,7 @@ pub fn unit_not(w: Walk, v: usize, values: &[u8], out: &mut [i32]) -> Walk
 }
 
 // The clause that affirms a variable.
-pub fn unit_is(w: Walk, v: usize, values: &[u8], out: &mut [i32]) -> Walk
+fn unit_is(w: Walk, v: usize, values: &[u8], out: &mut [i32]) -> Walk
     requires { ⌜ v < 1000000000 ⌝ }
     ensures { λ r. ⌜ Walks (now (values .entry)) (wordsOf (one (one (is v)))) w (now (out .entry)) r (now (out .exit)) ⌝ }
 {
@@ -242,7 +242,7 @@ pub fn some_of(w: Walk, from: usize, n: usize, values: &[u8], out: &mut [i32]) -
 }
 
 // Clauses of two literals that hold, k of them, at once: nothing is stored.
-pub fn skip_pairs(w: Walk, k: usize) -> Walk
+fn skip_pairs(w: Walk, k: usize) -> Walk
     requires { ⌜ k ≤ 1000000 ⌝ }
     ensures { λ r. ⌜ r ≡ walked.skipped k w ⌝ }
 {
@@ -258,7 +258,7 @@ pub fn skip_pairs(w: Walk, k: usize) -> Walk
 }
 
 // The clauses "not both" of the variable at m in a row and each behind it up to n.
-pub fn each_pair(w: Walk, from: usize, m: usize, n: usize, values: &[u8], out: &mut [i32]) -> Walk
+fn each_pair(w: Walk, from: usize, m: usize, n: usize, values: &[u8], out: &mut [i32]) -> Walk
     requires { ⌜ (from + n < 1000000000) × (m < n) ⌝ }
     ensures { λ r. ⌜ Walks (now (values .entry)) (wordsOf (map (λ k. not′ (from + m) ∷ one (not′ (from + k))) (range (m + 1) n))) w (now (out .entry)) r (now (out .exit)) ⌝ }
 {
@@ -272,7 +272,7 @@ pub fn each_pair(w: Walk, from: usize, m: usize, n: usize, values: &[u8], out: &
 }
 
 // Stores the words of the same clauses from `at` on, in an output that has room for them.
-pub fn store_pairs(out: &mut [i32], at: usize, from: usize, m: usize, n: usize)
+fn store_pairs(out: &mut [i32], at: usize, from: usize, m: usize, n: usize)
     requires { ⌜ (from + n < 1000000000) × (m < n) × (at + 3 * (n - m - 1) ≤ length (now out)) × (at + 3 * (n - m - 1) ≤ most) ⌝ }
     ensures { λ _. ⌜ now (out .exit) ≡ walked.stored at (wordsOf (map (λ k. not′ (from + m) ∷ one (not′ (from + k))) (range (m + 1) n))) (now (out .entry)) ⌝ }
 {
@@ -291,7 +291,7 @@ pub fn store_pairs(out: &mut [i32], at: usize, from: usize, m: usize, n: usize)
 
 // The same clauses; where the variable at m is not 1 they all hold, and are counted at once, and
 // stored, if at all, without a test of each.
-pub fn pairs_of(w: Walk, from: usize, m: usize, n: usize, values: &[u8], out: &mut [i32]) -> Walk
+fn pairs_of(w: Walk, from: usize, m: usize, n: usize, values: &[u8], out: &mut [i32]) -> Walk
     requires { ⌜ (from + n < 1000000000) × (m < n) × (n ≤ 1000000) ⌝ }
     ensures { λ r. ⌜ Walks (now (values .entry)) (wordsOf (map (λ k. not′ (from + m) ∷ one (not′ (from + k))) (range (m + 1) n))) w (now (out .entry)) r (now (out .exit)) ⌝ }
 {

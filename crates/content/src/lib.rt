@@ -111,7 +111,7 @@ pub fn add_node(b: Book, p: &[u8]) -> Added
 }
 
 // 6 of a Segment: two different nodes that were read, TTD 0 to 63.
-pub fn segment_fits(b: Book, s: Segment) -> bool
+fn segment_fits(b: Book, s: Segment) -> bool
     requires { ⌜ CountsFit b ⌝ }
     ensures { λ r. ⌜ r ≡ read.segmentFits (held b) s ⌝ }
 {
@@ -147,7 +147,7 @@ pub fn add_segment(b: Book, p: &[u8]) -> Added
 }
 
 // 6 of a Join: a node, and two different segments that touch it.
-pub fn join_fits(b: Book, j: Join) -> bool
+fn join_fits(b: Book, j: Join) -> bool
     requires { ⌜ CountsFit b ⌝ }
     ensures { λ r. ⌜ r ≡ read.joinFits (held b) j ⌝ }
 {
@@ -190,7 +190,7 @@ pub fn add_join(b: Book, p: &[u8]) -> Added
 }
 
 // 7: length and speed in segments are 1 to 8.
-pub fn reach_fits(b: Book, t: Train) -> bool
+fn reach_fits(b: Book, t: Train) -> bool
     requires { ⌜ NumbersFit b × (1 ≤ b .«segment_metres») × (t .metres < 65536) × (t .speed < 65536) ⌝ }
     ensures { λ r. ⌜ r ≡ read.reachFits (held b) (heldTrain t) ⌝ }
 {
@@ -200,7 +200,7 @@ pub fn reach_fits(b: Book, t: Train) -> bool
 }
 
 // 6 of a Call: a train and a segment that were read, first ≤ last ≤ T.
-pub fn call_fits(b: Book, c: Call) -> bool
+fn call_fits(b: Book, c: Call) -> bool
     requires { ⌜ CountsFit b ⌝ }
     ensures { λ r. ⌜ r ≡ read.callFits (held b) c ⌝ }
 {
@@ -256,14 +256,14 @@ pub fn add_call(b: Book, p: &[u8]) -> Added
 }
 
 // 4 of a Train: n directed segments stand behind the fixed part.
-pub fn train_length_fits(p: &[u8]) -> bool
+fn train_length_fits(p: &[u8]) -> bool
     ensures { λ r. ⌜ r ≡ frames.lengthFits frames.trainKind (now (p .entry)) ⌝ }
 {
     TrainFrame::LEN <= p.len() && p.len() == TrainFrame::LEN + wide(p[5])
 }
 
 // 6 of a Train: at least one metre, a departure below T, and directed segments that were read.
-pub fn train_fits(b: Book, p: &[u8]) -> bool
+fn train_fits(b: Book, p: &[u8]) -> bool
     requires { ⌜ CountsFit b × (6 ≤ length (now p)) ⌝ }
     ensures { λ r. ⌜ r ≡ read.trainFits (held b) (read.trainIn (now (p .entry))) ⌝ }
 {
@@ -271,7 +271,7 @@ pub fn train_fits(b: Book, p: &[u8]) -> bool
 }
 
 // A Train's numbers, without its place.
-pub fn train_numbers(p: &[u8]) -> Train
+fn train_numbers(p: &[u8]) -> Train
     requires { ⌜ 6 ≤ length (now p) ⌝ }
     ensures { λ r. ⌜ NumbersOf (now (p .entry)) r ⌝ }
 {
@@ -285,7 +285,7 @@ pub fn train_numbers(p: &[u8]) -> Train
 }
 
 // 8: the row behind a Train's fixed part is a path of l directed segments.
-pub fn place_fits(b: Book, p: &[u8], l: usize) -> bool
+fn place_fits(b: Book, p: &[u8], l: usize) -> bool
     requires { ⌜ CountsFit b × (6 ≤ length (now p)) × (l ≤ 8) × T (lists.all (λ d. ltb d (2 * b .«segment_count»)) (drop 6 (now p))) ⌝ }
     ensures { λ r. ⌜ r ≡ (eqb (length (drop 6 (now (p .entry)))) l && runs.isPath (held b) (drop 6 (now (p .entry)))) ⌝ }
 {

@@ -23,7 +23,7 @@ ghost use Rattle.tables.specs.Ready.{Counted};
 ghost use Rattle.decoding.specs.Decoded.{borderBytes, codeOf, trainBytes};
 
 // The first of n runs whose variable is 1, or n where none is; run r's variable is base + r.
-pub fn first_run(values: &[u8], base: usize, n: usize) -> usize
+fn first_run(values: &[u8], base: usize, n: usize) -> usize
     requires { ⌜ (base < 800000000) × (n ≤ 256) ⌝ }
     ensures { λ r. ⌜ r ≡ leastFrom (λ k. assigned (now (values .entry)) (base + k)) 0 n ⌝ }
 {
@@ -39,7 +39,7 @@ pub fn first_run(values: &[u8], base: usize, n: usize) -> usize
 
 // The plan's number of an interval whose first variable is `base`, of a train with n runs: the run's,
 // or the one for gone, whose variable is the one behind the runs', or for absent.
-pub fn code_of(values: &[u8], base: usize, n: usize) -> usize
+fn code_of(values: &[u8], base: usize, n: usize) -> usize
     requires { ⌜ (base < 800000000) × (n ≤ 256) ⌝ }
     ensures { λ r. ⌜ (r ≡ codeOf (now (values .entry)) base n) × (r < 65536) ⌝ }
 {
@@ -54,7 +54,7 @@ pub fn code_of(values: &[u8], base: usize, n: usize) -> usize
 }
 
 // Stores a number in two bytes, the lower one first.
-pub fn put_code(out: &mut [u8], at: usize, code: usize)
+fn put_code(out: &mut [u8], at: usize, code: usize)
     requires { ⌜ (at + 2 ≤ length (now out)) × (code < 65536) ⌝ }
     ensures { λ _. ⌜ now (out .exit) ≡ sets (now (out .entry)) at (littleEndian 2 code) ⌝ }
 {
@@ -63,14 +63,7 @@ pub fn put_code(out: &mut [u8], at: usize, code: usize)
 }
 
 // Stores the numbers of a train's intervals, from `at` on.
-pub fn decode_train(
-    b: Book,
-    runs: [usize; 8],
-    train: usize,
-    values: &[u8],
-    out: &mut [u8],
-    at: usize,
-)
+fn decode_train(b: Book, runs: [usize; 8], train: usize, values: &[u8], out: &mut [u8], at: usize)
     requires { ⌜ Counted b runs × (train < b .«train_count») × (at + b .intervals * 2 ≤ length (now out)) ⌝ }
     ensures { λ _. ⌜ now (out .exit) ≡ sets (now (out .entry)) at (trainBytes (instanceOf (held b)) (now (values .entry)) train) ⌝ }
 {
@@ -88,7 +81,7 @@ pub fn decode_train(
 }
 
 // Stores the border bytes: node n's variable is n.
-pub fn decode_borders(b: Book, values: &[u8], out: &mut [u8])
+fn decode_borders(b: Book, values: &[u8], out: &mut [u8])
     requires { ⌜ Passed b × (b .«node_count» ≤ length (now out)) ⌝ }
     ensures { λ _. ⌜ now (out .exit) ≡ sets (now (out .entry)) 0 (borderBytes (instanceOf (held b)) (now (values .entry))) ⌝ }
 {

@@ -10,7 +10,7 @@ ghost use Rattle.spec.specs.Programs.{refusalLine};
 ghost use Rattle.dimacs.specs.Text.{wordText, wordsText, taken, headerText};
 
 // Stores a byte where the buffer has room.
-pub fn put(buf: &mut [u8], at: usize, x: u8)
+fn put(buf: &mut [u8], at: usize, x: u8)
     ensures { λ _. ⌜ now (buf .exit) ≡ set (now (buf .entry)) at x ⌝ }
 {
     if at < buf.len() {
@@ -32,7 +32,7 @@ pub fn put_bytes(buf: &mut [u8], at: usize, s: &[u8]) -> usize
 }
 
 // Stores a number's figures, base ten; answers where they end.
-pub fn put_number(buf: &mut [u8], at: usize, n: usize) -> usize
+fn put_number(buf: &mut [u8], at: usize, n: usize) -> usize
     requires { ⌜ at ≤ 2000000000 ⌝ }
     ensures { λ r. ⌜ (r ≡ at + length (decimal n)) × (r ≤ at + 20) × (now (buf .exit) ≡ sets (now (buf .entry)) at (decimal n)) ⌝ }
 {
@@ -47,7 +47,7 @@ pub fn put_number(buf: &mut [u8], at: usize, n: usize) -> usize
 }
 
 // A literal without its sign.
-pub fn magnitude(l: i32) -> usize
+fn magnitude(l: i32) -> usize
     ensures { λ r. ⌜ r ≡ natAbs l ⌝ }
 {
     if l < 0 {
@@ -57,7 +57,7 @@ pub fn magnitude(l: i32) -> usize
 }
 
 // Stores a word's text: a literal and a blank, or 0 and the end of the line; answers where it ends.
-pub fn put_word(buf: &mut [u8], at: usize, l: i32) -> usize
+fn put_word(buf: &mut [u8], at: usize, l: i32) -> usize
     requires { ⌜ at ≤ 1000000000 ⌝ }
     ensures { λ r. ⌜ (r ≡ at + length (wordText l)) × (r ≤ at + 24) × (now (buf .exit) ≡ sets (now (buf .entry)) at (wordText l)) ⌝ }
 {

@@ -25,7 +25,7 @@ ghost use Rattle.apart.specs.Marks.{PlanLabelled, isMarked};
 ghost use Rattle.encoding.specs.Encoded.{moveBytes, intervalBytes, trainBytes};
 
 // Writes a byte for each of the first n nodes: 1 where the plan has a border.
-pub fn write_borders(plan: &[u8], n: usize, out: &mut [u8])
+fn write_borders(plan: &[u8], n: usize, out: &mut [u8])
     requires { ⌜ (n ≤ length (now plan)) × (n ≤ length (now out)) ⌝ }
     ensures { λ _. ⌜ now (out .exit) ≡ sets (now (out .entry)) 0 (map (λ k. plans.bit (eqb (getD (now (plan .entry)) k 0) 1)) (upTo n)) ⌝ }
 {
@@ -37,7 +37,7 @@ pub fn write_borders(plan: &[u8], n: usize, out: &mut [u8])
 }
 
 // Whether a move is the run with a number.
-pub fn is_run(m: Move, r: usize) -> bool
+fn is_run(m: Move, r: usize) -> bool
     ensures { λ v. ⌜ v ≡ plans.runs (heldMove m) (eqb r) ⌝ }
 {
     match m {
@@ -48,7 +48,7 @@ pub fn is_run(m: Move, r: usize) -> bool
 }
 
 // Writes a byte for each of n runs, 1 for the one that the move is, and gone's byte, from `at` on.
-pub fn write_move(m: Move, n: usize, at: usize, out: &mut [u8])
+fn write_move(m: Move, n: usize, at: usize, out: &mut [u8])
     requires { ⌜ at + n + 1 ≤ length (now out) ⌝ }
     ensures { λ _. ⌜ now (out .exit) ≡ sets (now (out .entry)) at (moveBytes (heldMove m) n) ⌝ }
 {
@@ -61,7 +61,7 @@ pub fn write_move(m: Move, n: usize, at: usize, out: &mut [u8])
 }
 
 // Writes a byte for each of the first n segments from `at` on: 1 where its label is marked.
-pub fn write_marked(labels: &[usize], marks: &[u8; 64], n: usize, at: usize, out: &mut [u8])
+fn write_marked(labels: &[usize], marks: &[u8; 64], n: usize, at: usize, out: &mut [u8])
     requires { ⌜ (n ≤ length (now labels)) × ((s : ℕ) → s < n → getD (now labels) s 0 < 64) × (at + n ≤ length (now out)) ⌝ }
     ensures { λ _. ⌜ now (out .exit) ≡ sets (now (out .entry)) at
         (map (λ s. plans.bit (isMarked (now (marks .entry)) (getD (now (labels .entry)) s 0))) (upTo n)) ⌝ }
@@ -75,7 +75,7 @@ pub fn write_marked(labels: &[usize], marks: &[u8; 64], n: usize, at: usize, out
 }
 
 // Writes the bytes of a train's interval from `at` on; answers where they end.
-pub fn write_interval(
+fn write_interval(
     b: Book,
     runs: [usize; 8],
     rows: &[u8],
@@ -105,7 +105,7 @@ pub fn write_interval(
 }
 
 // Writes the bytes of a train from `at` on; answers where they end.
-pub fn write_train(
+fn write_train(
     b: Book,
     runs: [usize; 8],
     rows: &[u8],

@@ -110,7 +110,7 @@ pub fn rows_d(
 
 // E: the literals of the runs that may follow run r, whose variables lie from `base` on: those that
 // pass the test that the tables chain.
-pub fn followers(
+fn followers(
     w: Walk,
     base: usize,
     n: usize,
@@ -136,7 +136,7 @@ pub fn followers(
 
 // E: run r of an interval, from `base` on, and what may come after it in the next, from `after` on: the
 // runs that pass the test that the tables chain, and gone where the train `leaves`.
-pub fn clause_e(
+fn clause_e(
     w: Walk,
     base: usize,
     after: usize,
@@ -227,7 +227,7 @@ pub fn servers(
 }
 
 // G: a run claims each segment of its path.
-pub fn claims_of(
+fn claims_of(
     w: Walk,
     base: usize,
     n: usize,

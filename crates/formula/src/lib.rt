@@ -47,7 +47,7 @@ pub enum Family {
 }
 
 // The first interval of the family's rows, for a train that departs in interval d.
-pub fn first_interval(family: Family, d: usize) -> usize
+fn first_interval(family: Family, d: usize) -> usize
     ensures { λ r. ⌜ r ≡ fromBy family d ⌝ }
 {
     match family {
@@ -62,7 +62,7 @@ pub fn first_interval(family: Family, d: usize) -> usize
 
 // The interval behind the last of the family's rows, of `all` intervals. E's rows are those of the
 // interval before.
-pub fn end_interval(family: Family, d: usize, all: usize) -> usize
+fn end_interval(family: Family, d: usize, all: usize) -> usize
     requires { ⌜ (d < all) × (all < 65536) ⌝ }
     ensures { λ r. ⌜ r ≡ toBy family d all ⌝ }
 {
@@ -77,7 +77,7 @@ pub fn end_interval(family: Family, d: usize, all: usize) -> usize
 }
 
 // The rows of a family in one interval of a train, whose first variable is `base`.
-pub fn interval_rows(
+fn interval_rows(
     family: Family,
     b: Book,
     train: usize,
@@ -125,7 +125,7 @@ pub fn interval_rows(
 }
 
 // The rows of a family for one train: its intervals in order.
-pub fn train_rows(
+fn train_rows(
     family: Family,
     b: Book,
     train: usize,
@@ -175,7 +175,7 @@ pub fn train_rows(
 }
 
 // A family that goes by train and interval: the trains in order.
-pub fn by_train(
+fn by_train(
     family: Family,
     b: Book,
     runs: [usize; 8],
@@ -220,7 +220,7 @@ pub fn by_train(
 }
 
 // F: the literals of a call's clause: by time, the runs whose end serves it.
-pub fn call_runs(
+fn call_runs(
     b: Book,
     train: usize,
     number: usize,
@@ -263,7 +263,7 @@ pub fn call_runs(
 }
 
 // F: the clause of a call, or none where the train's given place serves it at its departure.
-pub fn call_clause(
+fn call_clause(
     b: Book,
     train: usize,
     number: usize,
@@ -288,7 +288,7 @@ pub fn call_clause(
 }
 
 // F: the calls of a train, in file order.
-pub fn train_calls(
+fn train_calls(
     b: Book,
     train: usize,
     n: usize,
@@ -313,7 +313,7 @@ pub fn train_calls(
 }
 
 // F: the calls of every train.
-pub fn family_f(
+fn family_f(
     b: Book,
     runs: [usize; 8],
     w: Walk,
@@ -348,7 +348,7 @@ pub fn family_f(
 }
 
 // I: a train and each behind it, in an interval.
-pub fn pairs_behind(
+fn pairs_behind(
     b: Book,
     runs: [usize; 8],
     interval: usize,
@@ -379,7 +379,7 @@ pub fn pairs_behind(
 }
 
 // I: the pairs of trains in an interval.
-pub fn interval_pairs(
+fn interval_pairs(
     b: Book,
     runs: [usize; 8],
     interval: usize,
@@ -401,7 +401,7 @@ pub fn interval_pairs(
 }
 
 // I: in every interval.
-pub fn family_i(b: Book, runs: [usize; 8], w: Walk, values: &[u8], out: &mut [i32]) -> Walk
+fn family_i(b: Book, runs: [usize; 8], w: Walk, values: &[u8], out: &mut [i32]) -> Walk
     requires { ⌜ Counted b runs ⌝ }
     ensures { λ r. ⌜ Walks (now (values .entry)) (wordsOf (familyI (instanceOf (held b)))) w (now (out .entry)) r (now (out .exit)) ⌝ }
 {

@@ -33,7 +33,7 @@ pub struct Path {
 }
 
 // Writes the successors of d into its row of the table; answers how many they are.
-pub fn fill_row(b: Book, d: usize, table: &mut [u8]) -> usize
+fn fill_row(b: Book, d: usize, table: &mut [u8]) -> usize
     requires { ⌜ CountsFit b × (d < 2 * b .«segment_count») × (length (now table) ≡ 16384) ⌝ }
     ensures { λ r. ⌜ (r ≡ length (successors (held b) d)) × (r ≤ 128)
         × (now (table .exit) ≡ sets (now (table .entry)) (d * 128) (successors (held b) d)) ⌝ }
@@ -70,7 +70,7 @@ pub fn fill_successors(b: Book, table: &mut [u8], fans: &mut [u8])
 }
 
 // Whether a path has a directed segment on the segment.
-pub fn uses(path: Path, segment: usize) -> bool
+fn uses(path: Path, segment: usize) -> bool
     requires { ⌜ path .n ≤ 16 ⌝ }
     ensures { λ r. ⌜ r ≡ has segment (map book.segmentOf (pathOf path)) ⌝ }
 {
@@ -85,7 +85,7 @@ pub fn uses(path: Path, segment: usize) -> bool
 }
 
 // The last directed segment of a path.
-pub fn last_of(path: Path) -> usize
+fn last_of(path: Path) -> usize
     requires { ⌜ (1 ≤ path .n) × (path .n ≤ 16) ⌝ }
     ensures { λ r. ⌜ r ≡ lastOr 0 (pathOf path) ⌝ }
 {
@@ -94,7 +94,7 @@ pub fn last_of(path: Path) -> usize
 }
 
 // The path with one more directed segment.
-pub fn pushed(path: Path, d: usize) -> Path
+fn pushed(path: Path, d: usize) -> Path
     requires { ⌜ (path ≡ packedPath (pathOf path)) × (path .n < 16) × (d < 128) ⌝ }
     ensures { λ r. ⌜ r ≡ packedPath (pathOf path ++ one d) ⌝ }
 {
@@ -106,7 +106,7 @@ pub fn pushed(path: Path, d: usize) -> Path
 }
 
 // Keeps a run behind the first `count`, where there is room for it.
-pub fn keep(rows: &mut [u8], sizes: &mut [u8], count: usize, path: Path)
+fn keep(rows: &mut [u8], sizes: &mut [u8], count: usize, path: Path)
     requires { ⌜ (length (now rows) ≡ 4096) × (length (now sizes) ≡ 256) × (count ≤ 256) × (path ≡ packedPath (pathOf path)) × (path .n ≤ 16) ⌝ }
     ensures { λ _. ⌜ (now (rows .exit) ≡ rowsAfter count (one (pathOf path)) (now (rows .entry)))
         × (now (sizes .exit) ≡ sizesAfter count (one (pathOf path)) (now (sizes .entry))) ⌝ }
@@ -123,7 +123,7 @@ pub fn keep(rows: &mut [u8], sizes: &mut [u8], count: usize, path: Path)
 }
 
 // The run of `size` segments in the rows under a number, as a path by value.
-pub fn path_at(rows: &[u8], r: usize, size: usize) -> Path
+fn path_at(rows: &[u8], r: usize, size: usize) -> Path
     requires { ⌜ (length (now rows) ≡ 4096) × (r < 256) × (size ≤ 16) ⌝ }
     ensures { λ p. ⌜ p ≡ packedPath (runIn (now (rows .entry)) size r) ⌝ }
 {
@@ -139,7 +139,7 @@ pub fn path_at(rows: &[u8], r: usize, size: usize) -> Path
 
 // Lists the paths that extend a path by `missing` segments, in dictionary order, behind the first
 // `count`; answers how many runs there are then, as far as 257. `missing` falls at each call.
-pub fn extend(
+fn extend(
     table: &[u8],
     fans: &[u8],
     rows: &mut [u8],
@@ -183,7 +183,7 @@ pub fn extend(
 
 // Lists the paths of `size` segments behind the first `count`; answers how many runs there are then,
 // as far as 257.
-pub fn list_paths(
+fn list_paths(
     table: &[u8],
     fans: &[u8],
     directed: usize,
@@ -215,7 +215,7 @@ pub fn list_paths(
 // Extends each of the runs `first` to `count` - 1, of `size` segments each, by one segment, and lists
 // what comes of it behind them; answers how many runs there are then, as far as 257. What is written
 // stands behind what is read.
-pub fn list_longer(
+fn list_longer(
     table: &[u8],
     fans: &[u8],
     rows: &mut [u8],
@@ -246,7 +246,7 @@ pub fn list_longer(
 // Lists behind the first `count` runs, of l segments each, the paths that extend them by 1 to k
 // segments, each length from the runs of the length before: where there is none, none is longer.
 // Answers how many runs there are then, as far as 257.
-pub fn list_further(
+fn list_further(
     table: &[u8],
     fans: &[u8],
     rows: &mut [u8],

@@ -13,7 +13,7 @@ ghost use Rattle.spec.specs.Held.{held, CountsFit};
 ghost use Rattle.meets.specs.Meets.{meetsOf, meetsAt, meetBytes};
 
 // Stores a number below 256 where the table has room.
-pub fn store_byte(table: &mut [u8], at: usize, n: usize)
+fn store_byte(table: &mut [u8], at: usize, n: usize)
     requires { ⌜ n < 256 ⌝ }
     ensures { λ _. ⌜ now (table .exit) ≡ set (now (table .entry)) at n ⌝ }
 {
@@ -23,7 +23,7 @@ pub fn store_byte(table: &mut [u8], at: usize, n: usize)
 }
 
 // Lists the second segments that meet the first at the node, from `at` on; answers where they end.
-pub fn list_of(b: Book, node: usize, s: usize, table: &mut [u8], at: usize) -> usize
+fn list_of(b: Book, node: usize, s: usize, table: &mut [u8], at: usize) -> usize
     requires { ⌜ CountsFit b × (node < 96) × (s < b .«segment_count») × (at ≤ 2000000) ⌝ }
     ensures { λ r. ⌜ (r ≡ at + length (meetsOf (instanceOf (held b)) node s))
         × (now (table .exit) ≡ sets (now (table .entry)) at (meetsOf (instanceOf (held b)) node s)) ⌝ }
@@ -45,7 +45,7 @@ pub fn list_of(b: Book, node: usize, s: usize, table: &mut [u8], at: usize) -> u
 }
 
 // Lists the pairs of segments that meet at the node, from `at` on; answers where they end.
-pub fn list_at(b: Book, node: usize, table: &mut [u8], at: usize) -> usize
+fn list_at(b: Book, node: usize, table: &mut [u8], at: usize) -> usize
     requires { ⌜ CountsFit b × (node < 96) × (at ≤ 1500000) ⌝ }
     ensures { λ r. ⌜ (r ≡ at + length (meetsAt (instanceOf (held b)) node))
         × (now (table .exit) ≡ sets (now (table .entry)) at (meetsAt (instanceOf (held b)) node)) ⌝ }

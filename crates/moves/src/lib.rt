@@ -28,7 +28,7 @@ pub enum Move {
 }
 
 // The move that a plan's number stands for.
-pub fn move_of(code: usize) -> Move
+fn move_of(code: usize) -> Move
     ensures { λ r. ⌜ heldMove r ≡ moveOf code ⌝ }
 {
     if code == ABSENT {
@@ -50,7 +50,7 @@ pub fn move_at(b: Book, plan: &[u8], train: usize, interval: usize) -> Move
 }
 
 // Whether a move is one of a train with n runs.
-pub fn is_move(m: Move, n: usize) -> bool
+fn is_move(m: Move, n: usize) -> bool
     ensures { λ r. ⌜ r ≡ ifRun (heldMove m) (λ k. ltb k n) ⌝ }
 {
     match m {
@@ -72,7 +72,7 @@ pub fn is_gone(m: Move) -> bool
 }
 
 // Whether a train's moves are those of a train with n runs.
-pub fn train_fits(b: Book, plan: &[u8], train: usize, n: usize) -> bool
+fn train_fits(b: Book, plan: &[u8], train: usize, n: usize) -> bool
     requires { ⌜ Passed b × (length (now plan) ≡ planLength (instanceOf (held b))) × (train < b .«train_count»)
         × (n ≡ instanceOf (held b) .runs train) ⌝ }
     ensures { λ r. ⌜ r ≡ all (λ t. isMove (instanceOf (held b)) train (planOf (instanceOf (held b)) (now (plan .entry)) .move train t))
@@ -91,7 +91,7 @@ pub fn train_fits(b: Book, plan: &[u8], train: usize, n: usize) -> bool
 }
 
 // Whether every train's moves are its own.
-pub fn moves_fit(b: Book, runs: [usize; 8], plan: &[u8]) -> bool
+fn moves_fit(b: Book, runs: [usize; 8], plan: &[u8]) -> bool
     requires { ⌜ Counted b runs × (length (now plan) ≡ planLength (instanceOf (held b))) ⌝ }
     ensures { λ r. ⌜ r ≡ all (λ i. all (λ t. isMove (instanceOf (held b)) i (planOf (instanceOf (held b)) (now (plan .entry)) .move i t))
         (upTo (instanceOf (held b) .intervals))) (upTo (instanceOf (held b) .trains)) ⌝ }

@@ -33,7 +33,7 @@ pub fn first_variable(b: Book, runs: [usize; 8], train: usize) -> usize
 }
 
 // The first variable of a train's interval.
-pub fn base_of(b: Book, runs: [usize; 8], train: usize, interval: usize) -> usize
+fn base_of(b: Book, runs: [usize; 8], train: usize, interval: usize) -> usize
     requires { ⌜ Counted b runs × (train < b .«train_count») × (interval < b .intervals) ⌝ }
     ensures { λ r. ⌜ (r ≡ base (instanceOf (held b)) train interval) × (r < 800000000) ⌝ }
 {

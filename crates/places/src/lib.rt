@@ -68,7 +68,7 @@ pub fn is_given(t: Train, rows: &[u8], at: usize, l: usize) -> bool
 }
 
 // Whether a place of l directed segments contains the segment.
-pub fn contains(rows: &[u8], at: usize, l: usize, segment: usize) -> bool
+fn contains(rows: &[u8], at: usize, l: usize, segment: usize) -> bool
     requires { ⌜ at + l ≤ length (now rows) ⌝ }
     ensures { λ r. ⌜ r ≡ runs.contains (placeAt (now (rows .entry)) at l) segment ⌝ }
 {

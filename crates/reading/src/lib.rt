@@ -62,7 +62,7 @@ pub struct BookRead {
 }
 
 // The book before any frame.
-pub fn empty_book() -> Book
+fn empty_book() -> Book
     ensures { λ r. ⌜ r ≡ packed noBook ⌝ }
 {
     Book {
@@ -98,7 +98,7 @@ pub fn empty_book() -> Book
 }
 
 // A refusal beside the empty book.
-pub fn refused_book(number: usize) -> BookRead
+fn refused_book(number: usize) -> BookRead
     ensures { λ r. ⌜ r ≡ bookReadOf (refused number 0) ⌝ }
 {
     BookRead {
@@ -108,7 +108,7 @@ pub fn refused_book(number: usize) -> BookRead
 }
 
 // 4 to 9 of a frame, by its kind, and the book after it.
-pub fn add_frame(b: Book, kind: usize, p: &[u8]) -> Added
+fn add_frame(b: Book, kind: usize, p: &[u8]) -> Added
     requires { ⌜ Packed b × (rank kind < 9) × (kind ≢ 1 → Growing (held b)) ⌝ }
     ensures { λ r. ⌜ r ≡ addedFound (held b) (findKind kind kindOrder) (now (p .entry)) ⌝ }
 {
@@ -158,7 +158,7 @@ pub struct Stepped {
 }
 
 // A refusal beside the book as far as it was read.
-pub fn stopped(b: Book, number: usize) -> Stepped
+fn stopped(b: Book, number: usize) -> Stepped
     ensures { λ r. ⌜ (r .next ≡ Next.Stop number) × (r .book ≡ b) ⌝ }
 {
     Stepped {
@@ -168,7 +168,7 @@ pub fn stopped(b: Book, number: usize) -> Stepped
 }
 
 // A whole frame at a place: 2 to 9, and how reading goes on.
-pub fn step_whole(b: Book, last: usize, s: &[u8], at: usize, kind: usize, len: usize) -> Stepped
+fn step_whole(b: Book, last: usize, s: &[u8], at: usize, kind: usize, len: usize) -> Stepped
     requires { ⌜ Packed b × Reached (record { last = last; book = held b }) × (framedAt (drop at (now s)) ≡ Framed.Whole kind len)
         × (at + (4 + len) ≤ length (now s)) ⌝ }
     ensures { λ r. ⌜ r ≡ steppedAt (record { last = last; book = held b }) (drop at (now (s .entry))) at ⌝ }
@@ -207,7 +207,7 @@ pub fn step_whole(b: Book, last: usize, s: &[u8], at: usize, kind: usize, len: u
 }
 
 // One frame: 1, and then the whole frame.
-pub fn step(b: Book, last: usize, s: &[u8], at: usize) -> Stepped
+fn step(b: Book, last: usize, s: &[u8], at: usize) -> Stepped
     requires { ⌜ Packed b × Reached (record { last = last; book = held b }) × (at ≤ length (now s)) ⌝ }
     ensures { λ r. ⌜ r ≡ steppedAt (record { last = last; book = held b }) (drop at (now (s .entry))) at ⌝ }
 {
@@ -218,7 +218,7 @@ pub fn step(b: Book, last: usize, s: &[u8], at: usize) -> Stepped
 }
 
 // 10: there is a train, and each has a call.
-pub fn all_called(b: Book) -> bool
+fn all_called(b: Book) -> bool
     requires { ⌜ CountsFit b ⌝ }
     ensures { λ r. ⌜ r ≡ not (empty (held b .trains) || any (λ i. empty (callsOf (held b) i)) (upTo (length (held b .trains)))) ⌝ }
 {
@@ -234,7 +234,7 @@ pub fn all_called(b: Book) -> bool
 }
 
 // 11: no train has over 256 runs.
-pub fn few_runs(b: Book) -> bool
+fn few_runs(b: Book) -> bool
     requires { ⌜ Packed b × Growing (held b) × FitsFields (held b) ⌝ }
     ensures { λ r. ⌜ r ≡ not (any (λ t. ltb maxRuns (length (runsOf (held b) t))) (held b .trains)) ⌝ }
 {
@@ -256,7 +256,7 @@ pub fn few_runs(b: Book) -> bool
 }
 
 // The book's own refusals, 10 and 11, after its End.
-pub fn finish(b: Book) -> BookRead
+fn finish(b: Book) -> BookRead
     requires { ⌜ Packed b × Growing (held b) × FitsFields (held b) ⌝ }
     ensures { λ r. ⌜ r ≡ bookReadOf (refuseOr (firstFault (bookFaults (held b))) (held b)) ⌝ }
 {

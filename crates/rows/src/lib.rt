@@ -23,7 +23,7 @@ pub fn number_at(row: &[u8], i: usize) -> usize
 }
 
 // The literal that a number of four bytes stands for.
-pub fn literal(n: usize) -> i32
+fn literal(n: usize) -> i32
     requires { ⌜ n < 4294967296 ⌝ }
     ensures { λ r. ⌜ r ≡ signed 4 n ⌝ }
 {

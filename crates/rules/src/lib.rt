@@ -42,7 +42,7 @@ pub enum TrainRule {
 }
 
 // Whether a border, or none, respects the kind of its node.
-pub fn border_fits(kind: u8, border: bool) -> bool
+fn border_fits(kind: u8, border: bool) -> bool
     ensures { λ r. ⌜ r ≡ ((not (deniesBorder kind) || not border) && (not (forcesBorder kind) || border)) ⌝ }
 {
     if border {
@@ -53,7 +53,7 @@ pub fn border_fits(kind: u8, border: bool) -> bool
 }
 
 // 1: "Borders respect their kinds."
-pub fn rule_1(b: Book, plan: &[u8]) -> bool
+fn rule_1(b: Book, plan: &[u8]) -> bool
     requires { ⌜ Passed b × T (planFits (instanceOf (held b)) (now plan)) ⌝ }
     ensures { λ r. ⌜ r ≡ plans.rule1 (instanceOf (held b)) (planOf (instanceOf (held b)) (now (plan .entry))) ⌝ }
 {
@@ -69,7 +69,7 @@ pub fn rule_1(b: Book, plan: &[u8]) -> bool
 }
 
 // Whether a move is absent, where its interval is before the departure, or else is not absent.
-pub fn absent_if(m: Move, before: bool) -> bool
+fn absent_if(m: Move, before: bool) -> bool
     ensures { λ r. ⌜ r ≡ cond before (isAbsent (heldMove m)) (not (isAbsent (heldMove m))) ⌝ }
 {
     match m {
@@ -80,7 +80,7 @@ pub fn absent_if(m: Move, before: bool) -> bool
 }
 
 // Whether a move is a run from the place that the train is given.
-pub fn starts_given(b: Book, train: usize, l: usize, rows: &[u8], sizes: &[u8], m: Move) -> bool
+fn starts_given(b: Book, train: usize, l: usize, rows: &[u8], sizes: &[u8], m: Move) -> bool
     requires { ⌜ TrainReady b train l (now rows) (now sizes) × T (isMove (instanceOf (held b)) train (heldMove m)) ⌝ }
     ensures { λ v. ⌜ v ≡ plans.runs (heldMove m) (λ r. instanceOf (held b) .given train r) ⌝ }
 {
@@ -92,7 +92,7 @@ pub fn starts_given(b: Book, train: usize, l: usize, rows: &[u8], sizes: &[u8], 
 }
 
 // Whether a move is a run after which the train, with this goal, may be gone.
-pub fn may_go(b: Book, train: usize, to: Call, l: usize, rows: &[u8], sizes: &[u8], m: Move) -> bool
+fn may_go(b: Book, train: usize, to: Call, l: usize, rows: &[u8], sizes: &[u8], m: Move) -> bool
     requires { ⌜ TrainReady b train l (now rows) (now sizes) × T (isMove (instanceOf (held b)) train (heldMove m))
         × (to ≡ goalOf (held b) train) ⌝ }
     ensures { λ v. ⌜ v ≡ plans.runs (heldMove m) (λ r. instanceOf (held b) .leaves train r) ⌝ }
@@ -105,7 +105,7 @@ pub fn may_go(b: Book, train: usize, to: Call, l: usize, rows: &[u8], sizes: &[u
 }
 
 // Whether a move is a run that ends at a place which serves the train's call with a number.
-pub fn run_serves(
+fn run_serves(
     b: Book,
     train: usize,
     number: usize,
@@ -127,15 +127,7 @@ pub fn run_serves(
 }
 
 // Whether a move is no run, or starts at the place where run r ended.
-pub fn goes_from(
-    b: Book,
-    train: usize,
-    l: usize,
-    rows: &[u8],
-    sizes: &[u8],
-    r: usize,
-    m: Move,
-) -> bool
+fn goes_from(b: Book, train: usize, l: usize, rows: &[u8], sizes: &[u8], r: usize, m: Move) -> bool
     requires { ⌜ TrainReady b train l (now rows) (now sizes) × (r < instanceOf (held b) .runs train)
         × T (isMove (instanceOf (held b)) train (heldMove m)) ⌝ }
     ensures { λ v. ⌜ v ≡ ifRun (heldMove m) (λ q. instanceOf (held b) .follows train r q) ⌝ }
@@ -148,7 +140,7 @@ pub fn goes_from(
 }
 
 // Whether, where both moves are runs, the second starts at the place where the first ended.
-pub fn goes_on(
+fn goes_on(
     b: Book,
     train: usize,
     l: usize,
@@ -170,7 +162,7 @@ pub fn goes_on(
 
 // Whether a move may come after another as to who is gone; `late` says that it is after the
 // departure.
-pub fn gone_fits(
+fn gone_fits(
     b: Book,
     train: usize,
     to: Call,
@@ -195,7 +187,7 @@ pub fn gone_fits(
 }
 
 // 2, of one train: "Absent exactly in intervals before d".
-pub fn absent_before(b: Book, train: usize, plan: &[u8]) -> bool
+fn absent_before(b: Book, train: usize, plan: &[u8]) -> bool
     requires { ⌜ Planned b train (now plan) ⌝ }
     ensures { λ r. ⌜ r ≡ absentBefore (instanceOf (held b)) (planOf (instanceOf (held b)) (now (plan .entry))) train ⌝ }
 {
@@ -213,14 +205,7 @@ pub fn absent_before(b: Book, train: usize, plan: &[u8]) -> bool
 }
 
 // 2, of one train: "Absent exactly in intervals before d; a run from the given place in interval d."
-pub fn train_departs(
-    b: Book,
-    train: usize,
-    l: usize,
-    rows: &[u8],
-    sizes: &[u8],
-    plan: &[u8],
-) -> bool
+fn train_departs(b: Book, train: usize, l: usize, rows: &[u8], sizes: &[u8], plan: &[u8]) -> bool
     requires { ⌜ TrainReady b train l (now rows) (now sizes) × T (planFits (instanceOf (held b)) (now plan)) ⌝ }
     ensures { λ r. ⌜ r ≡ departs (instanceOf (held b)) (planOf (instanceOf (held b)) (now (plan .entry))) train ⌝ }
 {
@@ -231,7 +216,7 @@ pub fn train_departs(
 
 // 3, of one train: "Gone only after d, after gone or after a run whose end place contains the goal's
 // segment. After gone, gone."
-pub fn train_leaves(b: Book, train: usize, l: usize, rows: &[u8], sizes: &[u8], plan: &[u8]) -> bool
+fn train_leaves(b: Book, train: usize, l: usize, rows: &[u8], sizes: &[u8], plan: &[u8]) -> bool
     requires { ⌜ TrainReady b train l (now rows) (now sizes) × T (planFits (instanceOf (held b)) (now plan)) ⌝ }
     ensures { λ r. ⌜ r ≡ leavesRightly (instanceOf (held b)) (planOf (instanceOf (held b)) (now (plan .entry))) train ⌝ }
 {
@@ -252,7 +237,7 @@ pub fn train_leaves(b: Book, train: usize, l: usize, rows: &[u8], sizes: &[u8], 
 }
 
 // 4, of one train: "A run after a run starts at the place where that one ended."
-pub fn train_runs(b: Book, train: usize, l: usize, rows: &[u8], sizes: &[u8], plan: &[u8]) -> bool
+fn train_runs(b: Book, train: usize, l: usize, rows: &[u8], sizes: &[u8], plan: &[u8]) -> bool
     requires { ⌜ TrainReady b train l (now rows) (now sizes) × T (planFits (instanceOf (held b)) (now plan)) ⌝ }
     ensures { λ r. ⌜ r ≡ runsOn (instanceOf (held b)) (planOf (instanceOf (held b)) (now (plan .entry))) train ⌝ }
 {
@@ -272,7 +257,7 @@ pub fn train_runs(b: Book, train: usize, l: usize, rows: &[u8], sizes: &[u8], pl
 
 // 5: whether the call is served after the departure: "at time t > d it is the end of the run of
 // interval t − 1, if there was one". Here t is that interval.
-pub fn served_after(
+fn served_after(
     b: Book,
     train: usize,
     number: usize,
@@ -302,7 +287,7 @@ pub fn served_after(
 
 // 5, of one call: "at some time from first to last the train's place contains the segment. At time d
 // its place is the given one".
-pub fn call_served(
+fn call_served(
     b: Book,
     train: usize,
     number: usize,
@@ -324,7 +309,7 @@ pub fn call_served(
 }
 
 // 5, of one train: each call.
-pub fn train_calls(b: Book, train: usize, l: usize, rows: &[u8], sizes: &[u8], plan: &[u8]) -> bool
+fn train_calls(b: Book, train: usize, l: usize, rows: &[u8], sizes: &[u8], plan: &[u8]) -> bool
     requires { ⌜ TrainReady b train l (now rows) (now sizes) × T (planFits (instanceOf (held b)) (now plan)) ⌝ }
     ensures { λ r. ⌜ r ≡ keepsCalls (instanceOf (held b)) (planOf (instanceOf (held b)) (now (plan .entry))) train ⌝ }
 {
@@ -340,7 +325,7 @@ pub fn train_calls(b: Book, train: usize, l: usize, rows: &[u8], sizes: &[u8], p
 }
 
 // Whether a train keeps a rule.
-pub fn train_keeps(
+fn train_keeps(
     rule: TrainRule,
     b: Book,
     train: usize,
@@ -361,7 +346,7 @@ pub fn train_keeps(
 }
 
 // Whether every train keeps a rule.
-pub fn trains_keep(
+fn trains_keep(
     rule: TrainRule,
     b: Book,
     runs: [usize; 8],
@@ -393,7 +378,7 @@ pub fn trains_keep(
 }
 
 // 2: "Absent exactly in intervals before d; a run from the given place in interval d."
-pub fn rule_2(b: Book, runs: [usize; 8], rows: &[u8], sizes: &[u8], plan: &[u8]) -> bool
+fn rule_2(b: Book, runs: [usize; 8], rows: &[u8], sizes: &[u8], plan: &[u8]) -> bool
     requires { ⌜ RunsReady b runs (now rows) (now sizes) × T (planFits (instanceOf (held b)) (now plan)) ⌝ }
     ensures { λ r. ⌜ r ≡ plans.rule2 (instanceOf (held b)) (planOf (instanceOf (held b)) (now (plan .entry))) ⌝ }
 {
@@ -402,7 +387,7 @@ pub fn rule_2(b: Book, runs: [usize; 8], rows: &[u8], sizes: &[u8], plan: &[u8])
 
 // 3: "Gone only after d, after gone or after a run whose end place contains the goal's segment. After
 // gone, gone."
-pub fn rule_3(b: Book, runs: [usize; 8], rows: &[u8], sizes: &[u8], plan: &[u8]) -> bool
+fn rule_3(b: Book, runs: [usize; 8], rows: &[u8], sizes: &[u8], plan: &[u8]) -> bool
     requires { ⌜ RunsReady b runs (now rows) (now sizes) × T (planFits (instanceOf (held b)) (now plan)) ⌝ }
     ensures { λ r. ⌜ r ≡ plans.rule3 (instanceOf (held b)) (planOf (instanceOf (held b)) (now (plan .entry))) ⌝ }
 {
@@ -410,7 +395,7 @@ pub fn rule_3(b: Book, runs: [usize; 8], rows: &[u8], sizes: &[u8], plan: &[u8])
 }
 
 // 4: "A run after a run starts at the place where that one ended."
-pub fn rule_4(b: Book, runs: [usize; 8], rows: &[u8], sizes: &[u8], plan: &[u8]) -> bool
+fn rule_4(b: Book, runs: [usize; 8], rows: &[u8], sizes: &[u8], plan: &[u8]) -> bool
     requires { ⌜ RunsReady b runs (now rows) (now sizes) × T (planFits (instanceOf (held b)) (now plan)) ⌝ }
     ensures { λ r. ⌜ r ≡ plans.rule4 (instanceOf (held b)) (planOf (instanceOf (held b)) (now (plan .entry))) ⌝ }
 {
@@ -418,7 +403,7 @@ pub fn rule_4(b: Book, runs: [usize; 8], rows: &[u8], sizes: &[u8], plan: &[u8])
 }
 
 // 5: "Each call: at some time from first to last the train's place contains the segment."
-pub fn rule_5(b: Book, runs: [usize; 8], rows: &[u8], sizes: &[u8], plan: &[u8]) -> bool
+fn rule_5(b: Book, runs: [usize; 8], rows: &[u8], sizes: &[u8], plan: &[u8]) -> bool
     requires { ⌜ RunsReady b runs (now rows) (now sizes) × T (planFits (instanceOf (held b)) (now plan)) ⌝ }
     ensures { λ r. ⌜ r ≡ plans.rule5 (instanceOf (held b)) (planOf (instanceOf (held b)) (now (plan .entry))) ⌝ }
 {

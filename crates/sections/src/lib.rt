@@ -17,7 +17,7 @@ ghost use Rattle.meets.specs.Meets.{MeetsReady};
 ghost use Rattle.sections.specs.Labels.{mergedLabel, joinedLabel, sectionLabels};
 
 // Gives each segment its own number as its label: no two are together yet.
-pub fn number_labels(labels: &mut [usize], segments: usize)
+fn number_labels(labels: &mut [usize], segments: usize)
     requires { ⌜ segments ≤ length (now labels) ⌝ }
     ensures { λ _. ⌜ now (labels .exit) ≡ sets (now (labels .entry)) 0 (map (λ s. s) (upTo segments)) ⌝ }
 {
@@ -29,14 +29,14 @@ pub fn number_labels(labels: &mut [usize], segments: usize)
 }
 
 // A label where all labels `from` become `to`.
-pub fn merged_label(from: usize, to: usize, label: usize) -> usize
+fn merged_label(from: usize, to: usize, label: usize) -> usize
     ensures { λ r. ⌜ r ≡ mergedLabel from to label ⌝ }
 {
     if label == from { to } else { label }
 }
 
 // Gives every segment with the label `from` the label `to`.
-pub fn merge(labels: &mut [usize], segments: usize, from: usize, to: usize)
+fn merge(labels: &mut [usize], segments: usize, from: usize, to: usize)
     requires { ⌜ segments ≤ length (now labels) ⌝ }
     ensures { λ _. ⌜ now (labels .exit) ≡ sets (now (labels .entry)) 0
         (map (λ s. mergedLabel from to (getD (now (labels .entry)) s 0)) (upTo segments)) ⌝ }
@@ -50,7 +50,7 @@ pub fn merge(labels: &mut [usize], segments: usize, from: usize, to: usize)
 
 // Two segments are together, so their sections are one: the greater of the two labels becomes the
 // smaller one, at every segment that has it.
-pub fn join(labels: &mut [usize], segments: usize, s: usize, u: usize)
+fn join(labels: &mut [usize], segments: usize, s: usize, u: usize)
     requires { ⌜ (segments ≤ length (now labels)) × (s < segments) × (u < segments) ⌝ }
     ensures { λ _. ⌜ now (labels .exit) ≡ sets (now (labels .entry)) 0
         (map (λ x. joinedLabel (getD (now (labels .entry)) s 0) (getD (now (labels .entry)) u 0) (getD (now (labels .entry)) x 0))

@@ -25,7 +25,7 @@ ghost use Rattle.tables.specs.Tables.{Passed, runsAt, leastFrom, firstFo
 ghost use Rattle.tables.specs.Ready.{RunsHeld, RunsReady};
 
 // Lists a train's runs; answers how many it has. The tables hold the book's successors.
-pub fn fill_train(
+fn fill_train(
     b: Book,
     train: usize,
     table: &[u8],
@@ -43,13 +43,7 @@ pub fn fill_train(
 }
 
 // Lists the runs of every train; answers how many each has.
-pub fn fill_trains(
-    b: Book,
-    table: &[u8],
-    fans: &[u8],
-    rows: &mut [u8],
-    sizes: &mut [u8],
-) -> [usize; 8]
+fn fill_trains(b: Book, table: &[u8], fans: &[u8], rows: &mut [u8], sizes: &mut [u8]) -> [usize; 8]
     requires { ⌜ Passed b × (length (now rows) ≡ 32768) × (length (now sizes) ≡ 2048) × SuccessorsHeld (held b) (now table) (now fans) ⌝ }
     ensures { λ r. ⌜ (r ≡ padded 8 0 (map (λ i. length (runsAt (held b) i)) (upTo (b .«train_count»))))
         × (now (rows .exit) ≡ filled (λ i. rowsAfter 0 (runsAt (held b) i)) 4096 (b .«train_count») (now (rows .entry)))
@@ -88,7 +82,7 @@ pub fn fill_runs(b: Book, rows: &mut [u8], sizes: &mut [u8]) -> [usize; 8]
 }
 
 // The first of n runs that follows run r, or n.
-pub fn first_follower(rows: &[u8], sizes: &[u8], r: usize, l: usize, n: usize) -> usize
+fn first_follower(rows: &[u8], sizes: &[u8], r: usize, l: usize, n: usize) -> usize
     requires { ⌜ (length (now rows) ≡ 4096) × (length (now sizes) ≡ 256) × (r < n) × (n ≤ 256)
         × (l ≤ getD (now sizes) r 0) × (getD (now sizes) r 0 ≤ 16) ⌝ }
     ensures { λ v. ⌜ v ≡ leastFrom (λ q. same (placeAt (now (rows .entry)) (endAt (now (sizes .entry)) r l) l)
@@ -105,7 +99,7 @@ pub fn first_follower(rows: &[u8], sizes: &[u8], r: usize, l: usize, n: usize) -
 }
 
 // The first of n runs behind run q that starts at the same place as q, or n.
-pub fn next_alike(rows: &[u8], q: usize, l: usize, n: usize) -> usize
+fn next_alike(rows: &[u8], q: usize, l: usize, n: usize) -> usize
     requires { ⌜ (length (now rows) ≡ 4096) × (q < n) × (n ≤ 256) × (l ≤ 16) ⌝ }
     ensures { λ v. ⌜ v ≡ leastFrom (λ p. same (placeAt (now (rows .entry)) (16 * q) l) (placeAt (now (rows .entry)) (16 * p) l))
         (q + 1) (n - (q + 1)) ⌝ }
@@ -121,7 +115,7 @@ pub fn next_alike(rows: &[u8], q: usize, l: usize, n: usize) -> usize
 }
 
 // Writes, for each of n runs, the first run that follows it and the next that starts where it does.
-pub fn chain_runs(
+fn chain_runs(
     rows: &[u8],
     sizes: &[u8],
     l: usize,
@@ -147,7 +141,7 @@ pub fn chain_runs(
 }
 
 // Writes the chains of a train's n runs.
-pub fn chain_train(
+fn chain_train(
     b: Book,
     train: usize,
     n: usize,

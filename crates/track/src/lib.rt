@@ -52,7 +52,7 @@ pub fn start_in(s: Segment, d: usize) -> usize
 }
 
 // The node where a directed segment begins.
-pub fn start_node(b: Book, d: usize) -> usize
+fn start_node(b: Book, d: usize) -> usize
     requires { ⌜ CountsFit b × (d < 2 * b .«segment_count») ⌝ }
     ensures { λ r. ⌜ (r ≡ book.startNode (held b) d) × (r < 256) ⌝ }
 {
@@ -73,7 +73,7 @@ pub fn end_node(b: Book, d: usize) -> usize
 }
 
 // Whether the join is of these two segments at this node, in either order.
-pub fn join_is(node: usize, s: usize, t: usize, j: Join) -> bool
+fn join_is(node: usize, s: usize, t: usize, j: Join) -> bool
     ensures { λ r. ⌜ r ≡ book.joinIs node s t j ⌝ }
 {
     let left = wide(j.left);
@@ -98,7 +98,7 @@ pub fn joined(b: Book, node: usize, s: usize, t: usize) -> bool
 }
 
 // Whether directed segment d ends where e begins, with a join of the two there.
-pub fn leads_to(b: Book, d: usize, e: usize) -> bool
+fn leads_to(b: Book, d: usize, e: usize) -> bool
     requires { ⌜ CountsFit b × (d < 2 * b .«segment_count») × (e < 2 * b .«segment_count») ⌝ }
     ensures { λ r. ⌜ r ≡ runs.leadsTo (held b) d e ⌝ }
 {
@@ -130,7 +130,7 @@ pub fn speed_in_segments(b: Book, t: Train) -> usize
 }
 
 // Whether the first n directed segments of the row are on different segments.
-pub fn all_different(row: [u8; 8], n: usize) -> bool
+fn all_different(row: [u8; 8], n: usize) -> bool
     requires { ⌜ n ≤ 8 ⌝ }
     ensures { λ r. ⌜ r ≡ lists.different (map book.segmentOf (take n row)) ⌝ }
 {
@@ -149,7 +149,7 @@ pub fn all_different(row: [u8; 8], n: usize) -> bool
 }
 
 // Whether each of the first n directed segments of the row leads to the next.
-pub fn all_linked(b: Book, row: [u8; 8], n: usize) -> bool
+fn all_linked(b: Book, row: [u8; 8], n: usize) -> bool
     requires { ⌜ CountsFit b × (n ≤ 8) × T (lists.all (λ d. ltb d (2 * b .«segment_count»)) (take n row)) ⌝ }
     ensures { λ r. ⌜ r ≡ runs.linked (held b) (take n row) ⌝ }
 {

@@ -1,5 +1,5 @@
--- What writing answers and leaves in the output: the words of the formula where there is room, and how it goes on from the book's
--- bytes. Assumes nothing.
+-- What writing answers and leaves in the output: the words of the formula where there is room, and a refusal otherwise. Assumes
+-- nothing.
 use mathlib.Core.Path.{_≡_, sym, ap, _∙_}
 use mathlib.Core.Bool.{Bool}
 use Prim.Native.Nat.{ℕ, _≤_, _<_}
@@ -9,16 +9,13 @@ use lib.ListN.{length}
 use lib.IntN.{ℤ}
 use Rattle.model.specs.declared.Book.{Book as BookStruct}
 use Rattle.spec.specs.Lists.{Bytes, Verdict, accepted, refused, andThen}
-use Rattle.spec.specs.Book.{Book}
-use Rattle.spec.specs.Read.{readBook}
 use Rattle.spec.specs.Instance.{Instance, instanceOf}
 use Rattle.spec.specs.Formula.{firstVar, formula, wordsOf}
 use Rattle.spec.specs.Held.{held}
-use Rattle.spec.specs.Entry.{Written, demand, formulaWritten, writeFormula, formulaOutput, overwrite, written, writtenFor, wordsAfter}
+use Rattle.spec.specs.Entry.{Written, demand, formulaWritten, overwrite, written, writtenFor, wordsAfter}
 use Rattle.clauses.specs.declared.Walk.{Walk}
 use Rattle.clauses.specs.Walked.{start, Walks}
 use Rattle.clauses.proofs.Totals.{stored-front}
-use Rattle.reading.proofs.Verdicts.{goes-on, stops}
 use Rattle.tables.specs.Tables.{Passed}
 use Rattle.tables.proofs.Small.{all-variables}
 use Rattle.formula.proofs.Totals.{is-small}
@@ -26,30 +23,14 @@ use Rattle.writing.specs.declared.FormulaAnswer.{FormulaAnswer}
 use Rattle.writing.specs.declared.FormulaAnswer.the-variants.{Totals, Refused}
 use Rattle.writing.specs.FormulaAnswers.{formulaAnswer}
 
--- ---- from the book's bytes
+-- ---- a verdict that stopped with a refusal, which leaves the output as it was
 
--- the entry point goes on from the book's instance
-module _ (s : Bytes) (b : Book) (e : readBook s ≡ accepted b) where
-  pub write-read : (room : ℕ) → writeFormula s room ≡ writtenFor (instanceOf b) room
-  unfolding writeFormula
-  write-read room = goes-on s _ b e
+pub stopped-answer : {v : Verdict Written} {n d : ℕ} → v ≡ refused n d → Refused n d ≡ formulaAnswer v
+stopped-answer e = ap formulaAnswer (sym e)
 
-  pub output-read : (old : List ℤ) → formulaOutput s old ≡ wordsAfter old (writtenFor (instanceOf b) (length old))
-  unfolding formulaOutput
-  output-read old = ap (wordsAfter old) (write-read (length old))
-
--- or stops with the book's refusal
-module _ (s : Bytes) (n d : ℕ) (e : readBook s ≡ refused n d) where
-  stopped : (room : ℕ) → writeFormula s room ≡ refused n d
-  unfolding writeFormula
-  stopped room = stops s _ n d e
-
-  pub write-refused : (room : ℕ) → Refused n d ≡ formulaAnswer (writeFormula s room)
-  write-refused room = ap formulaAnswer (sym (stopped room))
-
-  pub output-refused : (old : List ℤ) → old ≡ formulaOutput s old
-  unfolding formulaOutput wordsAfter andThen overwrite written
-  output-refused old = ap (λ (v : Verdict Written). overwrite old (written (andThen v λ w. accepted (w .words)))) (sym (stopped (length old)))
+pub stopped-output : {v : Verdict Written} {n d : ℕ} (old : List ℤ) → v ≡ refused n d → old ≡ wordsAfter old v
+unfolding wordsAfter andThen overwrite written
+stopped-output old e = ap (λ (v : Verdict Written). overwrite old (written (andThen v λ w. accepted (w .words)))) (sym e)
 
 -- ---- of a book that passed
 

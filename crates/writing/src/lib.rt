@@ -30,7 +30,7 @@ pub enum FormulaAnswer {
 }
 
 // 12, then the words, by the tables of a book: measured with an empty output, then written.
-pub fn write_by(
+fn write_by(
     b: Book,
     runs: [usize; 8],
     rows: &[u8],
@@ -70,7 +70,7 @@ pub fn write_by(
 }
 
 // The formula of a book that passed: its tables are filled, then its words are written.
-pub fn write_words(b: Book, out: &mut [i32]) -> FormulaAnswer
+fn write_words(b: Book, out: &mut [i32]) -> FormulaAnswer
     requires { ⌜ Passed b ⌝ }
     ensures { λ r. ⌜ (r ≡ formulaAnswer (writtenFor (instanceOf (held b)) (length (now (out .entry)))))
         × (now (out .exit) ≡ wordsAfter (now (out .entry)) (writtenFor (instanceOf (held b)) (length (now (out .entry))))) ⌝ }

@@ -1,12 +1,14 @@
 -- `refutations::refute` meets its contract: the book's refusal, or the check of the book that the bytes hold. Assumes nothing.
 use borrow.Author.Needs.{needs}
 use native.Mathlib.Omega.{arith}
+use mathlib.Core.Path.{sym, ap, _∙_}
 use denote.Ref.{now}
 use Rattle.spec.specs.Lists.{Verdict}
 use Rattle.spec.specs.Instance.{Instance}
 use Rattle.spec.specs.Entry.{refutedFor, checkRefutation}
 use Rattle.refutations.specs.Lent.{lengths}
-use Rattle.refutations.proofs.Read.{passed, went-on, stopped}
+use Rattle.reading.specs.BookAnswers.{answerOf}
+use Rattle.instances.proofs.Read.{passed, went-on, stopped}
 use Rattle.refutations.proofs.refute.Statement.{statement}
 use Rattle.refutations.proofs.refute.Tie as tie
 
@@ -40,7 +42,7 @@ returns : tie.Need-returns
 unfolding checkRefutation
 returns c =
     let r = c .before .before .before .before in
-    stopped _ _ (r .read-book .ensures) (onward r) (c .before .answer .given .1)
+    ap answerOf (sym (stopped _ _ (r .read-book .ensures) (onward r) (c .before .answer .given .1)))
 
 same-length : tie.Need-same-length
 same-length c = search needs
@@ -60,7 +62,7 @@ returns-2 c =
     let d = c .before .before .before .before .before .before .before in
     let told = d .before .before .before .before .before in
     let r = told .before .before .before in
-    went-on _ _ (r .read-book .ensures) (told .enum-told .given .1) (onward r) (d .refute-for .ensures)
+    d .refute-for .ensures ∙ ap answerOf (went-on _ _ (r .read-book .ensures) (told .enum-told .given .1) (onward r))
 
 pub refute-spec : {M : Type 1} → statement M
 refute-spec =

@@ -1,0 +1,110 @@
+#!/usr/bin/env python3
+"""Makes the books that bench.rs runs on, with tools/reference.py and tools/samples.py.
+
+  make_books.py        writes big_star.book, big_ring.book, big_lanes.book, small_l.book, stand.book with stand.plan, and shut.book
+                       beside itself
+
+Each big book has T = 32, 8 trains (l = 1, k = 1, departure 0) and about 250 runs a train. In stand.book the trains stand where
+their calls are. shut.book has a call whose window shuts before the departure, so its formula has an empty clause. The
+reference must accept each (read_book raises otherwise).
+"""
+
+import os
+import struct
+import sys
+
+HERE = os.path.dirname(os.path.abspath(__file__))
+sys.path.insert(0, os.path.join(HERE, "..", "tools"))
+import reference as ref   # noqa: E402
+import samples            # noqa: E402
+
+
+def with_trains(spec, stride, calls):
+    """8 trains on segments `stride` apart, each with calls elsewhere and windows 0 to 32."""
+    spec.T = 32
+    count = len(spec.segments)
+    for tr in range(8):
+        at = tr * stride % count
+        spec.trains.append((100, 36, 0, [2 * at + tr % 2]))
+        for c in range(calls):
+            spec.calls.append((tr, (at + 5 + 7 * c) % count, 0, 32))
+    return spec
+
+
+def star():
+    """62 segments of one TTD at one node, 63 joins there: 124 + 126 = 250 runs; family H is large."""
+    spec = samples.Spec()
+    n = 62
+    spec.nodes = [1] + [x % 3 for x in range(n)]
+    spec.segments = [(0, s + 1, 0) if s % 2 else (s + 1, 0, 0) for s in range(n)]
+    spec.joins = [(0, s, (s + 1) % n) for s in range(n)] + [(0, 0, 2)]
+    return with_trains(spec, 7, 2)
+
+
+def ring():
+    """A ring of 64 segments, each its own TTD: 128 + 128 = 256 runs, the most; no H."""
+    spec = samples.Spec()
+    spec.nodes = [1] * 64
+    spec.segments = [(s, (s + 1) % 64, s) for s in range(64)]
+    spec.joins = [((s + 1) % 64, s, (s + 1) % 64) for s in range(64)]
+    return with_trains(spec, 8, 1)
+
+
+def lanes():
+    """12 tracks side by side between two nodes, all joined at one and most at the other, with 8 stubs:
+    few segments, many joins, so that each run has many followers; family E is large."""
+    spec = samples.Spec()
+    spec.nodes = [1, 1] + [0] * 8
+    spec.segments = [(0, 1, 0)] * 12 + [(1, 2 + s, 1) for s in range(8)]
+    pairs = [(v, x, y) for v in (0, 1) for x in range(12) for y in range(x + 1, 12)]
+    spec.joins = pairs[:105]
+    return with_trains(spec, 1, 4)
+
+
+def stand():
+    """The ring with trains that stand where their calls are: the plan of trains that never move keeps the rules."""
+    spec = ring()
+    spec.trains, spec.calls = [], []
+    for tr in range(8):
+        spec.trains.append((100, 36, 0, [2 * tr * 8]))
+        spec.calls.append((tr, tr * 8, 0, 32))
+    return spec
+
+
+def standing_plan(spec):
+    """No border; each train in every interval the run of its own place, which has its directed segment's number."""
+    codes = [struct.pack("<H", row[0]) for _, _, _, row in spec.trains for _ in range(spec.T)]
+    return bytes(len(spec.nodes)) + b"".join(codes)
+
+
+def shut():
+    """A ring of 16 segments in 4 TTDs, 3 trains, T = 8; the first train's call is over before it departs."""
+    spec = samples.Spec()
+    spec.T = 8
+    spec.nodes = [1] * 16
+    spec.segments = [(s, (s + 1) % 16, s // 4) for s in range(16)]
+    spec.joins = [((s + 1) % 16, s, (s + 1) % 16) for s in range(16)]
+    for tr in range(3):
+        spec.trains.append((100, 36, 1, [2 * 4 * tr]))
+        spec.calls.append((tr, 4 * tr + 2, 0, 0 if tr == 0 else 8))
+    return spec
+
+
+def main():
+    standing = stand()
+    files = {"big_star.book": samples.spec_bytes(star()), "big_ring.book": samples.spec_bytes(ring()),
+             "big_lanes.book": samples.spec_bytes(lanes()), "small_l.book": samples.BOOK_L,
+             "stand.book": samples.spec_bytes(standing), "stand.plan": standing_plan(standing),
+             "shut.book": samples.spec_bytes(shut())}
+    for name, data in files.items():
+        with open(os.path.join(HERE, name), "wb") as f:
+            f.write(data)
+        if name.endswith(".book"):
+            book = ref.read_book(data)
+            print("%s: %d bytes, %d nodes, %d segments, %d joins, %d trains, T %d, runs %s" % (
+                name, len(data), len(book.nodes), len(book.segments), len(book.joins),
+                len(book.trains), book.T, [len(r) for r in book.runs]))
+
+
+if __name__ == "__main__":
+    main()

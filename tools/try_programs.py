@@ -1,0 +1,539 @@
+#!/usr/bin/env python3
+"""Tries the built programs as a user would: names, files, lengths, outputs, and the verdicts of document 01's examples.
+
+    try_programs.py [BIN]
+
+BIN is the folder of the programs, by default target/bin of the repository that this script stands in. Prints each expectation that
+fails, and then how many were tried. Expected lines and bytes are worked out by hand, but for a long text and a long assignment,
+which are the reference's.
+
+Exit status: 0 all held, 1 some failed, 2 a program is missing.
+"""
+
+import os
+import shutil
+import subprocess
+import sys
+import tempfile
+import time
+from collections import namedtuple
+
+import reference
+import samples
+
+PROGRAMS = ("print_formula", "check_assignment", "check_plan", "check_refutation")
+MOST = reference.LENT_BYTES
+# seconds for one try
+LIMIT = 10
+# the user "nobody", where the script itself may read everything
+NOBODY = 65534
+
+BOOK_L, BOOK_M, BOOK_M_SHUT = samples.BOOK_L, samples.book_m(0, 1), samples.book_m(0, 0)
+# of book L: no borders, run 0 and its claim
+ASSIGNMENT_L, PLAN_L = bytes.fromhex("000001000001"), bytes(4)
+REFUTATION_M = samples.step_frame([], [16, 17, 19])
+
+# A program that checks: a book and an input that it accepts, the result, and two inputs that it refuses, with their lines.
+Check = namedtuple("Check", "program book good result bad bad_line short short_line")
+CHECKS = (
+    # all zeros: clause 3, "3 4 5", is the first that is false
+    Check("check_assignment", BOOK_L, ASSIGNMENT_L, PLAN_L, bytes(6), b"14 3\n", ASSIGNMENT_L[:-1], b"13 0\n"),
+    # run 1 begins elsewhere: rule 2
+    Check("check_plan", BOOK_L, PLAN_L, ASSIGNMENT_L, bytes([0, 0, 1, 0]), b"16 2\n", PLAN_L[:-1], b"15 0\n"),
+    # document 01 gives this order of hints
+    Check("check_refutation", BOOK_M, REFUTATION_M, None, samples.step_frame([], [19, 16, 17]), b"20 1\n", REFUTATION_M[:-1], b"17 1\n"),
+)
+WITH_RESULT = [check for check in CHECKS if check.result is not None]
+
+ACCEPTED, TOO_LONG = b"accepted\n", b"12 0\n"
+
+Answer = namedtuple("Answer", "out err status")
+
+
+class Tries:
+    """Runs programs in a folder of its own, and counts what was expected and what failed."""
+
+    def __init__(self, programs, folder):
+        self.programs, self.folder = programs, folder
+        self.tried, self.failed, self.made = 0, 0, 0
+        self.left_out = []
+
+    def expect(self, what, holds, answer):
+        self.tried += 1
+        if not holds:
+            self.failed += 1
+            print(f"FAILED: {what}: {shown(answer)}")
+
+    def path(self, name):
+        return os.path.join(self.folder, name)
+
+    def unused(self):
+        self.made += 1
+        return self.path(f"file{self.made}")
+
+    def file(self, data):
+        """A new file with these bytes; its name."""
+        name = self.unused()
+        write(name, data)
+        return name
+
+    def run(self, program, *names, stdin=b"", **how):
+        """What the program printed on each output, and its status; status None where it did not end in time."""
+        how = {"stdout": subprocess.PIPE, "stderr": subprocess.PIPE, "cwd": self.folder, **how}
+        how["stdin" if isinstance(stdin, int) else "input"] = stdin
+        try:
+            done = subprocess.run([os.path.join(self.programs, program), *names], timeout=LIMIT, check=False, **how)
+        except subprocess.TimeoutExpired:
+            return Answer(b"", b"", None)
+        return Answer(done.stdout or b"", done.stderr or b"", done.returncode)
+
+    def verdict(self, what, line, answer):
+        """This line, whole, and nothing on standard error."""
+        self.expect(f"{what}: expected {line!r}", answer[:2] == (line, b"") and ended(answer), answer)
+
+    def no_verdict(self, what, said, answer):
+        """Nothing on standard output, and this on standard error."""
+        holds = not answer.out and answer.err and said in answer.err and ended(answer)
+        self.expect(f"{what}: expected no verdict, and {said!r} on standard error", holds, answer)
+
+
+def ended(answer):
+    """By itself: neither too late nor by a signal."""
+    return answer.status is not None and answer.status >= 0
+
+
+def shown(answer):
+    """An answer, cut where it is long."""
+    if not isinstance(answer, Answer):
+        return repr(answer)[:300]
+    if answer.status is None:
+        return f"still running after {LIMIT} s"
+    return f"printed {answer.out[:100]!r}, on standard error {answer.err[:200]!r}, status {answer.status}"
+
+
+def write(name, data):
+    with open(name, "wb") as file:
+        file.write(data)
+
+
+def read(name):
+    try:
+        with open(name, "rb") as file:
+            return file.read()
+    except FileNotFoundError:
+        return None
+
+
+def stamp(name):
+    """What changes when a file is written: its bytes, and when that was."""
+    return read(name), os.stat(name).st_mtime_ns
+
+
+# ---- document 01's examples
+
+
+def try_examples(t):
+    t.verdict("print_formula, book L", samples.FORMULA_L, t.run("print_formula", stdin=BOOK_L))
+    for book, clause, what in ((BOOK_M, b"6 7 0", "window 0 to 1"), (BOOK_M_SHUT, b"0", "window 0 to 0")):
+        answer = t.run("print_formula", stdin=book)
+        lines = answer.out.split(b"\n")
+        # line 0 is the header, so clause 19 is line 19
+        t.expect(f"print_formula, book M, {what}: clause 19 is {clause!r}", len(lines) > 19 and lines[19] == clause, answer)
+        t.expect(f"print_formula, book M, {what}: ends with a line end", answer.out.endswith(b" 0\n"), answer)
+    for book, hints, line in (
+            (BOOK_M, [16, 17, 19], ACCEPTED), (BOOK_M, [19, 16, 17], b"20 1\n"), (BOOK_M_SHUT, [19], ACCEPTED), (BOOK_M, [19], b"20 1\n")):
+        names = t.file(book), t.file(samples.step_frame([], hints))
+        t.verdict(f"check_refutation, book M, hints {hints}", line, t.run("check_refutation", *names))
+
+
+# ---- the result
+
+
+def try_results(t):
+    for check in CHECKS:
+        book, good, bad = t.file(check.book), t.file(check.good), t.file(check.bad)
+        before = os.listdir(t.folder)
+        t.verdict(f"{check.program}, two names", ACCEPTED, t.run(check.program, book, good))
+        t.verdict(f"{check.program}, two names, refused", check.bad_line, t.run(check.program, book, bad))
+        t.verdict(f"{check.program}, a short input", check.short_line, t.run(check.program, book, t.file(check.short)))
+        made = set(os.listdir(t.folder)) - set(before) - {f"file{t.made}"}
+        t.expect(f"{check.program}, two names: no file is made", not made, made)
+    for check in WITH_RESULT:
+        try_third(t, check)
+        try_refused_third(t, check)
+
+
+def try_third(t, check):
+    """The result alone stands in the third file: made anew, over a longer file, over a shorter one."""
+    book, good = t.file(check.book), t.file(check.good)
+    for what, third in (("new", t.unused()), ("longer before", t.file(b"x" * 100000)), ("empty before", t.file(b""))):
+        t.verdict(f"{check.program}, third file {what}", ACCEPTED, t.run(check.program, book, good, third))
+        t.expect(f"{check.program}, third file {what}: exactly the result", read(third) == check.result, read(third))
+    t.expect(f"{check.program}: inputs untouched", (read(book), read(good)) == (check.book, check.good), None)
+
+
+def refused_inputs(check):
+    """Pairs of inputs that are refused for several reasons, with their lines."""
+    yield check.book, check.bad, check.bad_line
+    yield check.book, check.short, check.short_line
+    yield b"", check.good, b"1 0\n"
+    yield check.book + b"\0", check.good, b"3 0\n"
+    yield bytes(MOST + 1), check.good, TOO_LONG
+    yield check.book, bytes(MOST + 1), TOO_LONG
+
+
+def try_refused_third(t, check):
+    """A refusal neither makes the third file nor touches it."""
+    for book, second, line in refused_inputs(check):
+        names, old, new = (t.file(book), t.file(second)), t.file(b"kept"), t.unused()
+        before = stamp(old)
+        what = f"{check.program}, refused, third file"
+        t.verdict(f"{what} there", line, t.run(check.program, *names, old))
+        t.expect(f"{what} there: untouched", stamp(old) == before, read(old))
+        t.verdict(f"{what} missing", line, t.run(check.program, *names, new))
+        t.expect(f"{what} missing: not made", not os.path.exists(new), read(new))
+
+
+# ---- names
+
+
+def try_name_counts(t):
+    """Too few and too many names: a line of usage, no verdict, and no file is written."""
+    for check in CHECKS:
+        book, good, third = t.file(check.book), t.file(check.good), t.file(b"kept")
+        names = (book, good, third, t.file(b""), t.file(b""))
+        for count in (0, 1, 4, 5) if check.result is not None else (0, 1, 3, 4):
+            answer = t.run(check.program, *names[:count])
+            t.no_verdict(f"{check.program}, {count} names", b"usage: " + check.program.encode(), answer)
+        untouched = list(map(read, names[:3])) == [check.book, check.good, b"kept"]
+        t.expect(f"{check.program}, wrong numbers of names: files untouched", untouched, None)
+
+
+def try_unreadable(t):
+    """A file that cannot be read is named on standard error, and there is no verdict, whatever the other file is."""
+    os.mkdir(t.path("folder"))
+    inside = t.file(b"") + "/x"
+    wrong = [("missing", t.path("missing")), ("a folder", t.path("folder")), ("inside a file", inside), ("empty name", "")]
+    for check in CHECKS:
+        for what, name in wrong:
+            for other in (check.book, check.good, bytes(MOST + 1), b""):
+                try_unreadable_places(t, check, what, name, t.file(other))
+        both = t.run(check.program, t.path("missing"), t.path("missing2"))
+        t.no_verdict(f"{check.program}, both missing", b"missing: ", both)
+
+
+def try_unreadable_places(t, check, what, name, other):
+    """The file in each place, with this file in the other one."""
+    third, said = t.file(b"kept"), os.fsencode(name) + b": "
+    rest = [third] if check.result is not None else []
+    t.no_verdict(f"{check.program}, book {what}", said, t.run(check.program, name, other, *rest))
+    t.no_verdict(f"{check.program}, second input {what}", said, t.run(check.program, other, name, *rest))
+    t.expect(f"{check.program}, an input {what}: third file untouched", read(third) == b"kept", read(third))
+
+
+def try_unreadable_standard_input(t):
+    """print_formula has no name to give, but a book that cannot be read has no verdict either."""
+    folder = os.open(t.folder, os.O_RDONLY)
+    t.no_verdict("print_formula, standard input is a folder", b"\n", t.run("print_formula", stdin=folder))
+    os.close(folder)
+    closed = t.run("print_formula", stdin=subprocess.DEVNULL, preexec_fn=lambda: os.close(0))
+    t.no_verdict("print_formula, standard input is closed", b"\n", closed)
+
+
+def try_without_permission(t):
+    """As one who may not read everything, if the script itself may."""
+    how = {"user": NOBODY, "group": NOBODY, "extra_groups": []} if os.geteuid() == 0 else {}
+    try:
+        for check in CHECKS:
+            try_closed_files(t, check, how)
+    except (PermissionError, subprocess.SubprocessError) as error:
+        t.left_out.append(f"files without permission ({error})")
+
+
+def try_closed_files(t, check, how):
+    book, good, closed = t.file(check.book), t.file(check.good), t.file(check.good)
+    for name in (book, good):
+        os.chmod(name, 0o644)
+    os.chmod(closed, 0)
+    said = os.fsencode(closed) + b": "
+    t.no_verdict(f"{check.program}, book without permission", said, t.run(check.program, closed, good, **how))
+    t.no_verdict(f"{check.program}, second input without permission", said, t.run(check.program, book, closed, **how))
+    if check.result is not None:
+        answer = t.run(check.program, book, good, closed, **how)
+        stands(t, f"{check.program}, third file without permission", closed, answer)
+        os.chmod(closed, 0o600)
+        t.expect(f"{check.program}, third file without permission: untouched", read(closed) == check.good, read(closed))
+
+
+def stands(t, what, name, answer):
+    """The verdict, and a word about the file on standard error."""
+    said = os.fsencode(name) + b": "
+    holds = answer.out == ACCEPTED and said in answer.err and ended(answer)
+    t.expect(f"{what}: expected accepted, and {said!r} on standard error", holds, answer)
+
+
+def try_unwritable_third(t):
+    for check in WITH_RESULT:
+        book, good = t.file(check.book), t.file(check.good)
+        for third in (t.path("folder"), t.path("missing/x"), "/dev/full", ""):
+            if third != "/dev/full" or os.path.exists(third):
+                stands(t, f"{check.program}, third name {third!r}", third, t.run(check.program, book, good, third))
+
+
+def try_same_names(t):
+    """One file as both inputs, or as an input and the result."""
+    for check, line in zip(CHECKS, (b"13 0\n", b"15 0\n", b"17 1\n")):
+        book = t.file(check.book)
+        t.verdict(f"{check.program}, the book twice", line, t.run(check.program, book, book))
+    for check in WITH_RESULT:
+        for place in (0, 1):
+            names = [t.file(check.book), t.file(check.bad)]
+            what = f"{check.program}, input {place + 1} is the third file too"
+            t.verdict(f"{what}, refused", check.bad_line, t.run(check.program, *names, names[place]))
+            t.expect(f"{what}, refused: untouched", list(map(read, names)) == [check.book, check.bad], None)
+            write(names[1], check.good)
+            t.verdict(f"{what}, accepted", ACCEPTED, t.run(check.program, *names, names[place]))
+            t.expect(f"{what}, accepted: the result", read(names[place]) == check.result, read(names[place]))
+
+
+def try_odd_names(t):
+    """Blanks, a dash in front, bytes that are no text, a link, the longest name and one longer than that."""
+    check = CHECKS[0]
+    good = t.file(check.good)
+    os.symlink(t.file(check.book), t.path("link"))
+    for name in ("a book", "-h", "--", b"\xff\xfe", "x" * 255, "./" * 2047 + "b"):
+        write(os.path.join(os.fsencode(t.folder), os.fsencode(name)) if len(name) < 256 else t.path("b"), check.book)
+        t.verdict(f"{check.program}, book named {name[:20]!r}", ACCEPTED, t.run(check.program, name, good))
+    t.verdict(f"{check.program}, book named by a link", ACCEPTED, t.run(check.program, "link", good))
+    # such a name must not be cut: it would name another file
+    t.no_verdict(f"{check.program}, book with a name of 4,099 bytes", b": ", t.run(check.program, "./" * 2048 + "bad", good))
+    answer = t.run(check.program, t.path("link"), good, "a plan")
+    t.verdict(f"{check.program}, third file with a blank in its name", ACCEPTED, answer)
+    t.expect(f"{check.program}, third file with a blank in its name: the result", read(t.path("a plan")) == check.result, answer)
+
+
+# ---- lengths
+
+
+def padded(call):
+    """Document 01's book M, its call on this segment, with as many Unbreakable frames as make 65,536 bytes; they change nothing else."""
+    spec = samples.Spec(100, 10, 1)
+    spec.nodes, spec.segments = [0, 0, 0], [(0, 1, 0), (1, 2, 0)]
+    spec.trains, spec.calls = [(80, 36, 0, [0])], [(0, call, 0, 1)]
+    spec.unbreakable = [0] * ((MOST - len(samples.spec_bytes(spec))) // 5)
+    data = samples.spec_bytes(spec)
+    assert len(data) == MOST
+    return data
+
+
+# Of that book with the call on segment 0: no borders, run 0, and the claims of both segments, which are one section.
+ASSIGNMENT_PADDED, PLAN_PADDED = bytes.fromhex("00000001000000000101"), bytes(5)
+
+
+def long_books(good, line):
+    """A good book of 65,536 bytes with its line, a bad one, and each with a byte more."""
+    bad = b"\xff" * MOST
+    yield "65,536 bytes", good, line
+    yield "65,536 bad bytes", bad, b"1 0\n"
+    yield "65,537 bytes", good + b"\0", TOO_LONG
+    yield "65,537 bad bytes", bad + b"\xff", TOO_LONG
+
+
+def try_book_lengths(t):
+    text = reference.print_formula(padded(0))
+    t.expect("the reference accepts a book of 65,536 bytes", text.startswith(b"p cnf 10 "), text)
+    for what, book, line in long_books(padded(0), text):
+        t.verdict(f"print_formula, {what}", line, t.run("print_formula", stdin=book))
+    for check, second, call in zip(CHECKS, (ASSIGNMENT_PADDED, PLAN_PADDED, REFUTATION_M), (0, 0, 1)):
+        for what, book, line in long_books(padded(call), ACCEPTED):
+            t.verdict(f"{check.program}, book of {what}", line, t.run(check.program, t.file(book), t.file(second)))
+
+
+def try_second_lengths(t):
+    """12 comes before all else: whatever the book is, an input of 65,537 bytes has that line, and one of 65,536 another."""
+    for check, line in zip(CHECKS, (b"13 0\n", b"15 0\n", b"17 1\n")):
+        books = (("a good book", check.book, line), ("an empty book", b"", b"1 0\n"), ("a bad book", b"\xff" * 9, b"1 0\n"),
+                 ("a book with a byte behind", check.book + b"\0", b"3 0\n"))
+        for what, book, expected in books:
+            for size in (MOST, MOST + 1):
+                answer = t.run(check.program, t.file(book), t.file(bytes(size)))
+                t.verdict(f"{check.program}, {what} and {size} bytes", expected if size == MOST else TOO_LONG, answer)
+        both = t.file(bytes(MOST + 1))
+        t.verdict(f"{check.program}, both of 65,537 bytes", TOO_LONG, t.run(check.program, both, both))
+
+
+def standing(nodes):
+    """Eight trains that stand still for 31 intervals on a row of 63 segments, 200 runs each: nodes + 65,472 variables, and the plan."""
+    spec = samples.Spec(100, 10, 31)
+    spec.nodes = [1] * nodes
+    spec.segments = [(s, s + 1, s) for s in range(63)]
+    spec.joins = [(s + 1, s, s + 1) for s in range(37)]
+    for train in range(8):
+        spec.trains.append((100, 36, 0, [2 * train]))
+        spec.calls.append((train, train, 0, 31))
+    moves = [[2 * train] * 31 for train in range(8)]
+    return samples.spec_bytes(spec), samples.plan_bytes([0] * nodes, moves), moves
+
+
+def try_full_output(t):
+    """An assignment of exactly 65,536 bytes, which fills the slice, written and read; with one node more it is 12."""
+    data, plan, moves = standing(64)
+    good = reference.write_assignment(reference.read_book(data), [0] * 64, moves)
+    assert len(good) == MOST
+    book, third = t.file(data), t.unused()
+    t.verdict("check_plan, a result of 65,536 bytes", ACCEPTED, t.run("check_plan", book, t.file(plan), third))
+    t.expect("check_plan, a result of 65,536 bytes: written whole", read(third) == good, len(read(third) or b""))
+    back = t.unused()
+    t.verdict("check_assignment, 65,536 bytes", ACCEPTED, t.run("check_assignment", book, t.file(good), back))
+    t.expect("check_assignment, 65,536 bytes: the plan again", read(back) == plan, read(back))
+    data, plan, _ = standing(65)
+    t.verdict("check_plan, 65,537 variables", TOO_LONG, t.run("check_plan", t.file(data), t.file(plan)))
+    t.verdict("check_assignment, 65,537 variables", b"13 0\n", t.run("check_assignment", t.file(data), t.file(good)))
+    t.verdict("check_refutation, 65,537 variables", TOO_LONG, t.run("check_refutation", t.file(data), t.file(REFUTATION_M)))
+    t.verdict("print_formula, 65,537 variables", TOO_LONG, t.run("print_formula", stdin=data))
+
+
+def try_full_refutation(t):
+    """A refutation of exactly 65,536 bytes, and the same with a byte behind it."""
+    steps = [([6], [19, 17])] * 3 + [([-5], [15])] * 4676
+    data = samples.encode_steps(steps) + REFUTATION_M
+    assert len(data) == MOST
+    book = t.file(BOOK_M)
+    t.verdict("check_refutation, 65,536 bytes", ACCEPTED, t.run("check_refutation", book, t.file(data)))
+    t.verdict("check_refutation, 65,537 bytes", TOO_LONG, t.run("check_refutation", book, t.file(data + b"\0")))
+    t.verdict("check_refutation, 65,535 bytes", b"17 4680\n", t.run("check_refutation", book, t.file(data[:-1])))
+
+
+def try_empty(t):
+    t.verdict("print_formula, nothing", b"1 0\n", t.run("print_formula"))
+    for check, line in zip(CHECKS, (b"13 0\n", b"15 0\n", b"21 0\n")):
+        empty, book, good = t.file(b""), t.file(check.book), t.file(check.good)
+        t.verdict(f"{check.program}, empty book", b"1 0\n", t.run(check.program, empty, good))
+        t.verdict(f"{check.program}, empty second input", line, t.run(check.program, book, empty))
+        t.verdict(f"{check.program}, both empty", b"1 0\n", t.run(check.program, empty, empty))
+        t.verdict(f"{check.program}, /dev/null", b"1 0\n", t.run(check.program, "/dev/null", "/dev/null"))
+
+
+# ---- outputs and inputs that are no plain files
+
+
+def without_reader():
+    """The writing end of a pipe that nobody reads."""
+    reading, writing = os.pipe()
+    os.close(reading)
+    return writing
+
+
+def close_output():
+    os.close(1)
+
+
+def close_all():
+    os.closerange(0, 3)
+
+
+def try_closed_output(t):
+    """Nothing can be said then; but the program ends, and the inputs are as they were: a file that is opened next may get number 1."""
+    long_text = padded(0)
+    jobs = [("print_formula", (), BOOK_L), ("print_formula", (), long_text), ("print_formula", (), b"")]
+    for check in CHECKS:
+        rest = [t.unused()] if check.result is not None else []
+        jobs.append((check.program, (t.file(check.book), t.file(check.good), *rest), b""))
+        jobs.append((check.program, (t.file(check.book), t.file(check.bad), *rest), b""))
+        jobs.append((check.program, (), b""))
+        jobs.append((check.program, (t.path("missing"), t.path("missing")), b""))
+    for program, names, stdin in jobs:
+        before = [read(name) for name in names[:2]]
+        for what, answer in closed_outputs(t, program, names, stdin):
+            t.expect(f"{program}, {len(names)} names, {what}: ends", answer.status is not None, answer)
+            t.expect(f"{program}, {len(names)} names, {what}: inputs untouched", [read(name) for name in names[:2]] == before, answer)
+
+
+def closed_outputs(t, program, names, stdin):
+    """The program with each output that takes nothing."""
+    yield "output closed", t.run(program, *names, stdin=stdin, stdout=None, preexec_fn=close_output)
+    yield "all closed", t.run(program, *names, stdin=stdin, stdout=None, stderr=None, preexec_fn=close_all)
+    writing = without_reader()
+    yield "no reader", t.run(program, *names, stdin=stdin, stdout=writing)
+    os.close(writing)
+    if os.path.exists("/dev/full"):
+        with open("/dev/full", "wb") as full:
+            yield "device full", t.run(program, *names, stdin=stdin, stdout=full)
+            yield "both devices full", t.run(program, *names, stdin=stdin, stdout=full, stderr=full)
+
+
+def in_pieces(t, program, names, data, size):
+    """Feeds standard input in pieces with pauses between them, as a slow pipe does."""
+    words = [os.path.join(t.programs, program), *names]
+    with subprocess.Popen(words, stdin=subprocess.PIPE, stdout=subprocess.PIPE, stderr=subprocess.PIPE, bufsize=0) as process:
+        try:
+            for at in range(0, len(data), size):
+                process.stdin.write(data[at:at + size])
+                time.sleep(0.001)
+        except BrokenPipeError:
+            pass                # it has read enough
+        try:
+            out, err = process.communicate(timeout=LIMIT)
+        except subprocess.TimeoutExpired:
+            process.kill()
+            return Answer(b"", b"", None)
+    return Answer(out, err, process.returncode)
+
+
+def try_pipes(t):
+    """Input from a pipe comes in pieces; input without an end is too long."""
+    t.verdict("print_formula, a byte at a time", samples.FORMULA_L, in_pieces(t, "print_formula", (), BOOK_L, 1))
+    long_text = padded(0)
+    text = reference.print_formula(long_text)
+    t.verdict("print_formula, 65,536 bytes in pieces", text, in_pieces(t, "print_formula", (), long_text, 1000))
+    t.verdict("print_formula, 65,537 bytes in pieces", TOO_LONG, in_pieces(t, "print_formula", (), long_text + b"\0", 1000))
+    for check in CHECKS:
+        book, good = t.file(check.book), t.file(check.good)
+        what = f"{check.program}, an input by a pipe"
+        t.verdict(what, ACCEPTED, in_pieces(t, check.program, ("/dev/stdin", good), check.book, 3))
+        t.verdict(what, ACCEPTED, in_pieces(t, check.program, (book, "/dev/stdin"), check.good, 1))
+        t.verdict(what, TOO_LONG, in_pieces(t, check.program, (book, "/dev/stdin"), bytes(MOST + 1), 5000))
+        t.verdict(f"{check.program}, a book without end", TOO_LONG, t.run(check.program, "/dev/zero", good))
+        t.verdict(f"{check.program}, a second input without end", TOO_LONG, t.run(check.program, book, "/dev/zero"))
+    with open("/dev/zero", "rb") as zeros:
+        t.verdict("print_formula, a book without end", TOO_LONG, t.run("print_formula", stdin=zeros.fileno()))
+
+
+# ---- all of it
+
+
+GROUPS = (
+    try_examples, try_results, try_name_counts, try_unreadable, try_unreadable_standard_input, try_without_permission, try_unwritable_third,
+    try_same_names, try_odd_names, try_book_lengths, try_second_lengths, try_full_output, try_full_refutation, try_empty, try_closed_output,
+    try_pipes)
+
+
+def copied(programs, folder):
+    """The programs in the script's own folder, where others may run them, and where a new build does not exchange them."""
+    copy = os.path.join(folder, "bin")
+    os.mkdir(copy)
+    for name in PROGRAMS:
+        shutil.copy(os.path.join(programs, name), copy)
+    os.chmod(folder, 0o755)
+    return copy
+
+
+def main(arguments):
+    beside = os.path.join(os.path.dirname(os.path.abspath(__file__)), "..", "target", "bin")
+    programs = os.path.abspath(arguments[0] if arguments else beside)
+    missing = [name for name in PROGRAMS if not os.access(os.path.join(programs, name), os.X_OK)]
+    if missing or len(arguments) > 1:
+        print(f"usage: try_programs.py [BIN]; not in {programs}: {', '.join(missing) or 'nothing'}", file=sys.stderr)
+        return 2
+    with tempfile.TemporaryDirectory() as folder:
+        t = Tries(copied(programs, folder), folder)
+        for group in GROUPS:
+            group(t)
+    for what in t.left_out:
+        print(f"not tried: {what}")
+    print(f"{t.tried} expectations, {t.failed} failed")
+    return 1 if t.failed else 0
+
+
+if __name__ == "__main__":
+    sys.exit(main(sys.argv[1:]))
