@@ -152,8 +152,8 @@ def random_lengths(rng, spec, l, k):
     return length, rng.choice((low, high, rng.randint(low, high)))
 
 
-def random_track(rng, spec, n):
-    nodes, pairs, joins = rng.choice(TOPOLOGIES)(rng, n)
+def random_track(rng, spec, n, topologies=TOPOLOGIES):
+    nodes, pairs, joins = rng.choice(topologies)(rng, n)
     kinds = rng.choice(((0, 1, 2), (1,), (1,), (0, 1), (0,), (1, 1, 2)))
     spec.nodes = [rng.choice(kinds) for _ in range(nodes)]
     ttds = rng.sample(range(64), rng.choice((1, 1, 2, 3, 4)))

@@ -5,12 +5,15 @@
 
 The solver is the script solve.py. It is given the reference's DIMACS text and nothing else. An assignment that it finds is a case,
 and so is the plan that the reference decodes it to; a refutation that it finds is one. Behind each stands the same once damaged.
+In stdin a case is a byte, 0 for an assignment, 1 for a plan and 2 for a refutation, two bytes of length each for the book and the
+second input, then the two.
 
-A book that has a plan is made shorter by one interval after the other, as long as it has one. Then it stands here with the book that
-is too short; and also without the borders that may be set, where it has no plan then. So most books nearly have none, or nearly one.
+A book that has a plan loses one interval after the other, as long as it has one. Then it stands here, and so does the book with one
+interval less, which has none, and the book without the borders that may be set, if it has no plan then.
 """
 import collections
 import contextlib
+import functools
 import io
 import os
 import random
@@ -28,10 +31,10 @@ from reference import follows
 ASSIGNMENT, PLAN, REFUTATION = range(3)
 NAMES = ("check_assignment", "check_plan", "check_refutation")
 # the most that all cases may have together; a refutation of more than so many bytes is a long one, and there are few of these
-MOST_BYTES, MOST_FILE, MOST_LONG = 600000, 2500, 6
-# how many of the books may have a plan or none, by the number of trains, and be refuted by a single step; of a hundred
+MOST_BYTES, MOST_FILE, MOST_LONG = 600000, 3000, 8
+# of a hundred books, how many may have a plan or none, by the number of trains, and how many may be refuted by a single step
 SHARES = {(True, 1): 5, (True, 2): 18, (True, 3): 20, (True, 4): 14, (False, 1): 5, (False, 2): 16, (False, 3): 16, (False, 4): 12}
-SINGLE = 8
+SINGLE = 5
 # how often an answer has to occur
 OFTEN = {"accepted": 300, **{str(n): 10 for n in range(13, 22)}}
 
@@ -40,9 +43,10 @@ OFTEN = {"accepted": 300, **{str(n): 10 for n in range(13, 22)}}
 
 # A track by its ways. A way is a row of segments, each by the node where it begins, the node where it ends, and a letter where others
 # share both nodes; neighbours in a way are joined.
-# Loops of two tracks with stems of one segment or two, a loop of three tracks, one with sides of one and two segments, and a ring with
-# a second track.
+# Where trains can pass each other: loops of two tracks with stems of one segment or two, the smallest twice; a loop of three tracks, one
+# with sides of one and two segments, a ring with a second track.
 LOOPS = (
+    ("01 12a 23", "01 12b 23"),
     ("01 12a 23", "01 12b 23"),
     ("01 12a 23 34", "01 12b 23 34"),
     ("01 12a 23", "01 12b 23", "01 12c 23"),
@@ -51,7 +55,7 @@ LOOPS = (
 )
 # Rings: with a stem by which trains enter, with a stem by which they also come back, two at a node; a triangle with three stems, two
 # tracks that cross, a switch with three branches, a crossover between two tracks.
-OTHERS = (
+JUNCTIONS = (
     ("30 01 12 20 01",),
     ("30 01 12 20 03",),
     ("01 12 20 01", "03 34 40 03"),
@@ -87,22 +91,21 @@ def loop(rng, n):
     return track_of_ways(rng, LOOPS, n)
 
 
-def other(rng, n):
-    return track_of_ways(rng, OTHERS, n)
+def junction(rng, n):
+    return track_of_ways(rng, JUNCTIONS, n)
 
 
-TOPOLOGIES = (loop, other, other, samples.row, samples.ring, samples.ring, samples.ring)
+TOPOLOGIES = (loop, junction, junction, samples.row, samples.ring, samples.ring, samples.ring)
 
 
 def lay_track(rng, spec, n, topologies):
+    """A random track, often with a TTD a segment, or with nodes that may be borders."""
     samples.random_track(rng, spec, n, topologies)
     style = rng.random()
-    if style < 0.35:
-        # each segment a TTD of its own
+    if style < 0.4:
         spec.segments = [(a, b, s) for s, (a, b, _) in enumerate(spec.segments)]
         spec.unbreakable = []
-    elif style < 0.75 and not spec.unbreakable:
-        # most nodes may be borders
+    elif style < 0.8 and not spec.unbreakable:
         spec.nodes = [rng.choice((1, 1, 1, 1, kind)) for kind in spec.nodes]
 
 
@@ -134,8 +137,8 @@ def add_trains(rng, spec, way, count, against):
     ways, need, plain = (way, [x ^ 1 for x in reversed(way)]), 0, rng.random() < 0.2 * count
     for tr in range(count):
         back, nth = (tr % 2, tr // 2) if against else (0, tr)
-        start = nth if rng.random() < 0.3 and nth < len(way) else 0
-        late = nth * rng.choice((1, 1, 2)) + rng.choice((0, 0, 1))
+        start = nth if rng.random() < (0.1 if against else 0.4) and nth < len(way) else 0
+        late = nth * rng.choice((1, 2, 2)) + rng.choice((0, 0, 1))
         need = max(need, add_train(rng, spec, ways[back], start, 0 if start == nth and rng.random() < 0.8 else late, plain))
     return need
 
@@ -155,10 +158,10 @@ def set_calls(rng, spec, way):
 
 
 def trains_on_a_way(rng):
-    """Trains that share a way, the fewer the longer the track."""
+    """A book of trains that share a way; the more there are, the smaller is the track."""
     spec = samples.Spec(*rng.choice(((100, 10), (100, 10), (1, 1), (250, 30), (7, 13))))
     count, against = rng.choice((1, 2, 2, 3, 3, 3, 4, 4)), rng.random() < 0.6
-    lay_track(rng, spec, rng.randint(4, 8 - count), (loop,) if against and rng.random() < 0.8 else TOPOLOGIES)
+    lay_track(rng, spec, rng.randint(4, 8 - count), (loop,) if against and rng.random() < 0.9 else TOPOLOGIES)
     way = long_way(rng, samples.track_of(spec))
     spec.T = add_trains(rng, spec, way, count, against) + rng.randint(0, 3) + (count > 3)
     set_calls(rng, spec, way)
@@ -211,9 +214,9 @@ def altered(rng, data):
     """The book with one byte different, such that the reader takes it."""
     while True:
         at = rng.randrange(len(data))
-        other = data[:at] + bytes([max(0, data[at] + rng.choice((-1, 1))) & 255]) + data[at + 1:]
-        if other != data and reference.entry_read_book(other)[0] == "accepted":
-            return other
+        changed = data[:at] + bytes([data[at] + rng.choice((-1, 1)) & 255]) + data[at + 1:]
+        if reference.entry_read_book(changed)[0] == "accepted":
+            return changed
 
 
 # ------------------------------------------------------ the solver's answer
@@ -225,7 +228,7 @@ class Answered:
     def __init__(self, data):
         self.data = data
         self.book = reference.read_book(data)
-        self.satisfiable, self.shown = solved(reference.print_formula(data))
+        self.satisfiable, self.shown = solved(printed(data))
         self.plan = reference.decode(self.book, self.shown) if self.satisfiable else None
         # whether it has a plan, and none without the borders that may be set
         self.needs_border = False
@@ -262,20 +265,25 @@ def solved(text):
             return said.getvalue() == "satisfiable\n", file.read()
 
 
+@functools.lru_cache(maxsize=8)
+def printed(data):
+    return reference.print_formula(data)
+
+
 def printable(data):
     """Whether the reader takes the book and the formula's program prints it."""
-    return reference.print_formula(data).startswith(b"p")
+    return printed(data).startswith(b"p")
 
 
 def shortest(book):
-    """A book that has a plan with as few intervals as may be, and with one less, where that is a book."""
+    """A book with as few intervals as it has a plan in, and with one less, where that is a book."""
     data = shorter(book.data)
     less = Answered(data) if printable(data) else None
     return shortest(less) if less and less.satisfiable else (book, less)
 
 
 def family(data):
-    """A book, or where it has a plan, the shortest that has, the one too short, and the one without borders if that has no plan."""
+    """A book without a plan; or the shortest that has one, with those of one interval less and without borders that have none."""
     book = Answered(data)
     if not book.satisfiable:
         return [book]
@@ -407,11 +415,9 @@ def present(answered, tr):
 
 
 def against(answered):
-    """How many trains have to take a segment that another takes the other way, both on the track at once."""
-    ways = [forced(answered.book, train) for train in answered.book.trains]
-    times = [present(answered, tr) for tr in range(len(ways))]
-    return sum(any({x ^ 1 for x in way} & other and time & when for other, when in zip(ways, times))
-               for way, time in zip(ways, times))
+    """How many trains have to take a segment that another has to take the other way, both on the track at once."""
+    trains = [(forced(answered.book, train), present(answered, tr)) for tr, train in enumerate(answered.book.trains)]
+    return sum(any({x ^ 1 for x in way} & other and times & when for other, when in trains) for way, times in trains)
 
 
 def features(answered):
@@ -436,10 +442,14 @@ def features(answered):
     }
 
 
+def shown_by(answered):
+    return {(name, answered.satisfiable) for name, has in features(answered).items() if has}
+
+
 # how many books with no plan and how many with one are to show each
 LEAST = {
     "a ring": (30, 30),
-    "a ring within one TTD": (12, 12),
+    "a ring within one TTD": (10, 10),
     "a switch": (60, 60),
     "tracks that share both nodes": (50, 50),
     "several TTDs at a node": (25, 25),
@@ -449,8 +459,8 @@ LEAST = {
     "a window shut before departure": (10, 0),
     "a late departure": (60, 60),
     "two trains against each other": (30, 30),
-    "three trains against each other": (20, 20),
-    "four trains against each other": (15, 15),
+    "three trains against each other": (15, 15),
+    "four trains against each other": (10, 10),
     "a plan only with a border set": (0, 30),
 }
 
@@ -477,20 +487,24 @@ class Stock:
 
     def lacking(self):
         """What too few books show so far."""
-        return {(name, planned) for name, least in LEAST.items() for planned in (False, True) if self.shown[name, planned] < least[planned]}
+        return {(name, at) for name, least in LEAST.items() for at in (False, True) if self.shown[name, at] < least[at]}
 
-    def has_room(self, answered):
-        """Whether books like this one are still too few. The last third is kept for what is lacking."""
-        if answered.data in self.seen or not answered.fits() or answered.long() and self.counts["long"] == MOST_LONG:
+    def can_take(self, answered):
+        """Whether the book is new and there is room for it. Long refutations come in the first half."""
+        if answered.long() and (self.counts["long"] == MOST_LONG or 2 * self.size > MOST_BYTES):
             return False
-        lacking = self.lacking()
-        if len(answered.book.trains) > 1 and any(has and (name, answered.satisfiable) in lacking for name, has in features(answered).items()):
+        return answered.data not in self.seen and answered.fits()
+
+    def wants(self, answered):
+        """Whether there are too few books like this one. The last third is kept for what is lacking."""
+        lacking, group = self.lacking(), answered.group()
+        if len(answered.book.trains) > 1 and lacking & shown_by(answered):
             return True
         if lacking and 3 * self.counts["books"] > 2 * self.books:
             return False
         if answered.single() and 100 * self.counts["single"] >= SINGLE * self.books:
             return False
-        return 100 * self.counts[answered.group()] < SHARES[answered.group()] * self.books
+        return 100 * self.counts[group] < SHARES[group] * self.books
 
     def add_case(self, kind, book, second):
         found = answer(kind, book, second)
@@ -503,7 +517,7 @@ class Stock:
     def add_book(self, rng, answered):
         self.seen.add(answered.data)
         self.counts.update({"books": 1, answered.group(): 1, "single": answered.single(), "long": answered.long()})
-        self.shown.update({(name, answered.satisfiable): has for name, has in features(answered).items()})
+        self.shown.update(shown_by(answered))
         for kind, good in answered.goods():
             assert self.add_case(kind, answered.data, good), (kind, answered.data.hex(), good.hex())
             self.add_case(kind, *damaged(rng, kind, answered, good))
@@ -513,7 +527,7 @@ def gathered(rng, books):
     stock = Stock(books)
     for data in random_books(rng):
         for answered in family(data):
-            if not stock.full() and stock.has_room(answered):
+            if not stock.full() and stock.can_take(answered) and stock.wants(answered):
                 stock.add_book(rng, answered)
         if stock.full():
             return stock
@@ -521,14 +535,14 @@ def gathered(rng, books):
 
 def show(stock):
     by = stock.counts
-    print("%d books: %s" % (by["books"], ", ".join("%d with %d trains and %s" % (by[group], group[1], "a plan" if group[0] else "none")
-                                                  for group in SHARES)))
+    with_plan, with_none = ([by[planned, trains] for trains in range(1, 5)] for planned in (True, False))
+    print("%d books; by trains, 1 to 4: %s with a plan, %s with none" % (by["books"], with_plan, with_none))
     print("%d refuted by one step, %d by more than %d bytes" % (by["single"], by["long"], MOST_FILE))
     for name in LEAST:
         print("%s: %d with a plan, %d with none" % (name, stock.shown[name, True], stock.shown[name, False]))
     order = sorted(stock.answers, key=lambda key: (not key.isdigit(), len(key), key))
-    print("%d cases, %d bytes, %d bytes of answers: %s" % (len(stock.stdin), stock.size, sum(map(len, stock.stdout)),
-                                                           ", ".join("%s %d" % (key, stock.answers[key]) for key in order)))
+    answers = ", ".join("%s %d" % (key, stock.answers[key]) for key in order)
+    print("%d cases, %d bytes, %d bytes of answers: %s" % (len(stock.stdin), stock.size, sum(map(len, stock.stdout)), answers))
 
 
 def main(arguments):
