@@ -12,7 +12,10 @@ fn main() {
     let mut more = [0u8; 1];
     let got = libc::read(STDIN_FILENO, &mut more);
     if got < 0 {
-        io::write_all(STDERR_FILENO, b"print_formula: standard input can't be read\n");
+        io::write_all(
+            STDERR_FILENO,
+            b"print_formula: standard input can't be read\n",
+        );
         return;
     }
     if got == 0 {
