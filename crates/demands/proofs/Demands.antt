@@ -3,25 +3,29 @@
 use mathlib.Core.Path.{_≡_, refl, sym, ap, _∙_, subst}
 use mathlib.Core.Logic.{_↔_}
 use mathlib.Core.Option.{Option, none, some}
-use Prim.Native.Nat.{ℕ, _≤_}
+use Prim.Native.Nat.{ℕ, _≤_, _<_}
 use mathlib.Core.List.{List, _++_, map, List·Memᴰ}
 use lib.ListN.{length, drop}
 use lib.IntN.{ℤ}
 use lib.Dec.{T}
+use native.Mathlib.Omega.{arith}
 use Rattle.laws.proofs.Numbers.{bytes}
-use Rattle.spec.specs.Lists.{Bytes, Verdict, accepted, refused, andThen}
+use Rattle.laws.proofs.Tests.{and-iff, eqb-iff, any-iff, all-upTo}
+use Rattle.spec.specs.Lists.{Bytes, any, Verdict, accepted, refused, andThen}
 use Rattle.spec.specs.Book.{Book}
 use Rattle.spec.specs.Read.{readBook}
 use Rattle.spec.specs.Instance.{Instance, instanceOf}
-use Rattle.spec.specs.Plan.{Plan, IsPlan, planFits, planOf, planLength, brokenRule, keepsRules}
-use Rattle.spec.specs.Formula.{formula, variables, wordsOf}
-use Rattle.spec.specs.Assignment.{satisfies, assigned, assignmentFits, decode, encode}
+use Rattle.spec.specs.Sections.{Chain, together}
+use Rattle.spec.specs.Plan.{Plan, IsPlan, ofRun, planFits, planOf, planLength, brokenRule, keepsRules}
+use Rattle.spec.specs.Formula.{formula, variables, claimVar, wordsOf}
+use Rattle.spec.specs.Assignment.{satisfies, assigned, assignmentFits, decode, claims, encode}
 use Rattle.spec.specs.Refutation.{ProofStep, Lent, fileOf, InFields, GoodSteps, clausesFit}
-use Rattle.spec.specs.Entry.{overwrite, written, formulaWritten, writeFormula, formulaOutput, decodedFor, checkAssignment, checkPlan, checkRefutation, refutedFor, formulaFits, wordsAfter}
-use Rattle.demands.proofs.Encoding.{shape}
+use Rattle.spec.specs.Entry.{overwrite, written, formulaWritten, writeFormula, formulaOutput, decodedFor, encodedFor, planOutput, assignmentOutput, checkAssignment, checkPlan, checkRefutation, refutedFor, formulaFits, wordsAfter}
+use Rattle.demands.proofs.Encoding.{shape, assigned-claim}
 use Rattle.demands.proofs.Extra.{no-condition}
-use Rattle.demands.proofs.Plans.{plan-satisfies, plan-fits, decoded-fits, decoded-coded, decoded-keeps, decode-encoded}
+use Rattle.demands.proofs.Plans.{plan-satisfies, plan-fits, run-inside, decoded-fits, decoded-coded, decoded-keeps, decode-encoded}
 use Rattle.demands.proofs.Coding.{Codes}
+use Rattle.demands.proofs.Sections.{together-chain}
 use Rattle.demands.proofs.Entries.{write-formula, check-assignment, check-plan, check-refutation, assignment-iff, plan-iff, no-broken, read-of}
 use Rattle.demands.proofs.Refuting.{refuted}
 use Rattle.demands.proofs.Files.{file-iff}
@@ -42,7 +46,7 @@ pub formula-written : (book : Bytes) (b : Book) (old : List ℤ) → readBook bo
 unfolding formulaOutput wordsAfter overwrite formulaWritten written andThen
 formula-written book b old read room =
     let w = wordsOf (formula (instanceOf b)) in
-    let e = write-formula book b read (length old) room in
+    let e = write-formula book b read (length old) _ .1 (room, refl) in
     (e, ap (λ (xs : List ℤ). xs ++ drop (length xs) old) (ap (λ v. written (andThen v λ r. accepted (r .words))) e))
 
 -- "For a book that passes, with lent memory as long as document 01 names, every assignment that satisfies it is accepted and
@@ -113,6 +117,31 @@ written-assignment-accepted book plan s b n m read room isBytes e =
     let t = keeping-plan-accepted book plan b n m read room (k .0) isBytes (j .0) (j .1) in
     let same : t .0 ≡ s = result-is (sym (t .1) ∙ e) in
     subst (λ (x : Bytes). checkAssignment book x n ≡ accepted plan) same (t .3)
+
+-- "A plan's assignment claims exactly the sections its runs touch": in an interval, the claim of a segment is 1 exactly where a chain
+-- of segments under the plan's borders leads to it from a segment of the train's run.
+pub claims-exact : (book plan assignment : Bytes) (b : Book) (assignmentSlice : ℕ)
+    → readBook book ≡ accepted b → checkPlan book plan assignmentSlice ≡ accepted assignment
+    → (i : ℕ) → i < instanceOf b .trains → (t : ℕ) → t < instanceOf b .intervals → (s : ℕ) → s < instanceOf b .segments
+    → T (assigned assignment (claimVar (instanceOf b) i t s))
+    ↔ ((u : ℕ) × List·Memᴰ u (ofRun (planOf (instanceOf b) plan .move i t) (λ r. instanceOf b .path i r))
+    × Chain (instanceOf b) (planOf (instanceOf b) plan .border) u s)
+unfolding claims planFits
+claims-exact book plan assignment b n read e i l t h s k =
+    let I = instanceOf b in
+    let p = planOf I plan in
+    let c = check-plan book b read plan n assignment .0 e in
+    let fits = plan-iff I plan .0 (c .1) .0 in
+    let row = ofRun (p .move i t) (λ r. I .path i r) in
+    let same : assigned assignment (claimVar I i t s) ≡ any (λ u. together I (p .border) u s) row =
+    ap (λ (xs : Bytes). assigned xs (claimVar I i t s)) (sym (c .2)) ∙ assigned-claim I p i l t h s k in
+    let in-any = any-iff (λ u. together I (p .border) u s) row in
+    let moves = (simp (and-iff, all-upTo) at fits) .1 i l t h in
+    let below = run-inside book b read i l (p .move i t) moves in (
+      (λ on. let w = in-any .0 (rw same at on) in
+          (w .0, w .1, together-chain I (p .border) (w .0) s (below (w .0) (w .1)) k .0 (w .2))),
+      (λ w. rw same (in-any .1 (w .0, w .1, together-chain I (p .border) (w .0) s (below (w .0) (w .1)) k .1 (w .2)))),
+    )
 
 -- ---- Demand 3
 
@@ -202,3 +231,50 @@ refutation-exact book r b lent read isBytes long =
       (λ h. check-refutation book b read r lent .1
           (long .0, exact .1 (h .0, h .1 .0, h .1 .1, h .1 .2, long .1 (h .0) (h .1 .0) (h .1 .1)))),
     )
+
+-- ---- Demand 1, outputs; `Refusals` has its refusals
+
+-- "outputs untouched", and "A success changes only the stated length of an output": what an output holds after the call, by what the
+-- check returns. An accepted check's result stands ahead of what the output held behind it; a refused one changes nothing.
+abbrev pub Holds : {A R : Type 0} → Verdict R → (R → List A) → (old after : List A) → Type 0
+Holds {R = R} verdict result old after =
+    ((r : R) → verdict ≡ accepted r → (length (result r) ≤ length old) × (after ≡ result r ++ drop (length (result r)) old))
+    × ((number detail : ℕ) → verdict ≡ refused number detail → after ≡ old)
+
+-- the words that are written
+pub formula-output : (book : Bytes) (old : List ℤ) → Holds (writeFormula book (length old)) (λ w. w .words) old (formulaOutput book old)
+unfolding formulaOutput wordsAfter overwrite written andThen writeFormula formulaWritten
+formula-output book old = (
+  (λ w e.
+      let r = read-of book _ w e in
+      let k = write-formula book (r .0) (r .1) (length old) w .0 e in
+      (rw (← (k .1)) (k .0), ap (λ v. overwrite old (written (andThen v λ w. accepted (w .words)))) e)),
+  (λ n d e. ap (λ v. overwrite old (written (andThen v λ w. accepted (w .words)))) e),
+)
+
+-- the plan that an assignment decodes to
+pub plan-output : (book assignment old : Bytes)
+    → Holds (checkAssignment book assignment (length old)) (λ plan. plan) old (planOutput book assignment old)
+unfolding planOutput overwrite written planFits
+plan-output book s old = (
+  (λ plan e.
+      let a = accepted-assignment-is-plan book s plan (length old) e in
+      let k = check-assignment book (a .0) (a .1) s (length old) plan .0 e in
+      let fits = simp (and-iff, eqb-iff) at (a .2) in
+      (omega (arith, fits .0, k .0), ap (λ v. overwrite old (written v)) e)),
+  (λ n d e. ap (λ v. overwrite old (written v)) e),
+)
+
+-- the assignment that a plan is written as
+pub assignment-output : (book plan old : Bytes)
+    → Holds (checkPlan book plan (length old)) (λ assignment. assignment) old (assignmentOutput book plan old)
+unfolding assignmentOutput overwrite written assignmentFits checkPlan encodedFor
+assignment-output book s old = (
+  (λ assignment e.
+      let r = read-of book _ assignment e in
+      let k = check-plan book (r .0) (r .1) s (length old) assignment .0 e in
+      let fits = simp (and-iff, eqb-iff) at (plan-fits book (r .0) (r .1) (planOf (instanceOf (r .0)) s)) in
+      let long : length assignment ≡ variables (instanceOf (r .0)) = ap (λ (xs : Bytes). length xs) (sym (k .2)) ∙ fits .0 in
+      (omega (arith, long, k .0), ap (λ v. overwrite old (written v)) e)),
+  (λ n d e. ap (λ v. overwrite old (written v)) e),
+)

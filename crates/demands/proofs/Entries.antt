@@ -17,7 +17,7 @@ use Rattle.spec.specs.Plan.{Plan, planFits, planOf, planLength, rule1, rule2, r
 use Rattle.spec.specs.Formula.{Clause, formula, variables, wordsOf}
 use Rattle.spec.specs.Assignment.{satisfies, holds, firstFalse, assigned, assignmentFits, decode, encode}
 use Rattle.spec.specs.Refutation.{Lent, checkFile}
-use Rattle.spec.specs.Entry.{demand, findNone, readInstance, formulaWritten, writeFormula, judgeAssignment, judgePlan, decodedFor, checkAssignment, encodedFor, checkPlan, checkRefutation, refutedFor, formulaFits, writtenFor}
+use Rattle.spec.specs.Entry.{demand, findNone, readInstance, Written, formulaWritten, writeFormula, judgeAssignment, judgePlan, decodedFor, checkAssignment, encodedFor, checkPlan, checkRefutation, refutedFor, formulaFits, writtenFor}
 use Rattle.demands.proofs.Faults.{passes, first-none, clear-first}
 
 -- ---- the parts of a check
@@ -116,10 +116,15 @@ module _ (book : Bytes) (b : Book) (read : readBook book ≡ accepted b) where
   unfolding readInstance
   read-instance = then-goes _ read
 
-  pub write-formula : (n : ℕ) → length (wordsOf (formula (instanceOf b))) ≤ n → writeFormula book n ≡ accepted (formulaWritten (instanceOf b))
-  unfolding writeFormula writtenFor
-  write-formula n room =
-      then-goes _ read-instance ∙ then-goes _ (demand-iff _ 12 .1 (leb-iff (length (wordsOf (formula (instanceOf b)))) n .1 room))
+  pub write-formula : (n : ℕ) (w : Written) → (writeFormula book n ≡ accepted w)
+      ↔ ((length (wordsOf (formula (instanceOf b))) ≤ n) × (formulaWritten (instanceOf b) ≡ w))
+  unfolding writeFormula writtenFor andThen
+  write-formula n w =
+      let e : writeFormula book n ≡ _ = then-goes _ read-instance in
+      let k = row-iff (leb (length (wordsOf (formula (instanceOf b)))) n) (accepted tt) (formulaWritten (instanceOf b)) w in (
+        (λ h. let r = k .0 (sym e ∙ h) in (leb-iff _ n .0 (r .0), r .2)),
+        (λ h. e ∙ k .1 (leb-iff _ n .1 (h .0), refl, h .1)),
+      )
 
   pub check-assignment : (s : Bytes) (n : ℕ) (plan : Bytes) → (checkAssignment book s n ≡ accepted plan)
       ↔ ((planLength (instanceOf b) ≤ n) × (judgeAssignment (instanceOf b) s ≡ accepted tt) × (decode (instanceOf b) s ≡ plan))

@@ -16,6 +16,7 @@ use Rattle.spec.specs.Frames.{Kind, headKind, nodeKind, segmentKind, joinKind, 
 use Rattle.spec.specs.Book.{Book, Segment, Join, Train, Call, noBook, segmentAt, callsOf, greatestNodeKind, startNode, endNode, segmentOf, joined, lengthInSegments, speedInSegments}
 use Rattle.spec.specs.Runs.{leadsTo, linked, isPath, runsOf}
 use Rattle.spec.specs.Read.{headOf, headFits, segmentFits, joinFits, joinRepeats, trainFits, reachFits, placeFits, callFits, contentFaults, add, bookFaults, joinsOnce, wellFormed, between, maxNodes, maxSegments, maxJoins, maxTrains}
+use Rattle.spec.specs.Reached.{Few, trainAllFits, Growing}
 use Rattle.demands.proofs.Faults.{passes}
 use Rattle.laws.proofs.Tests.{and-iff, or-iff, ltb-iff, leb-iff, all-iff, all-upTo, from-true, neither-iff}
 use Rattle.laws.proofs.Rows.{all-append, any-append}
@@ -48,10 +49,6 @@ module _ {A : Type 0} where
   -- one test implies another all along a row
   pub all-weaken : (f g : A → Bool) (xs : List A) → ((x : A) → T (f x) → T (g x)) → T (all f xs) → T (all g xs)
   all-weaken f g xs k h = all-iff g xs .1 (λ x m. k x (all-iff f xs .0 h x m))
-
--- at most n, and each passes the test
-unfoldable pub Few : {A : Type 0} → ℕ → (A → Bool) → List A → Type 0
-Few n f xs = (length xs ≤ n) × T (all f xs)
 
 -- what holds of the one that is new, if there is one
 New : {A : Type 0} {xs ys : List A} → (A → Type 0) → Starts xs ys → Type 0
@@ -155,10 +152,6 @@ module _ (b c : Book) (g : Longer b c) where
         linked-keeps (e ∷ ds) (simp and-iff (k .1)) (p .1),
       )
 
--- a train fits, with its l and k and its place
-unfoldable pub trainAllFits : Book → Train → Bool
-trainAllFits b t = trainFits b t && reachFits b t && placeFits b t
-
 module _ (b c : Book) (g : Longer b c) where
   -- a train that fitted, with its place
   train-keeps : (t : Train) → T (trainAllFits b t) → T (trainAllFits c t)
@@ -228,17 +221,6 @@ few-calls {cs} (longer c) k h i = rw (pick-append (λ d. eqb (d .train) i) cs (o
     go false e = let l = h i in omega arith
 
 -- ---- the book as far as it was read
-
--- What holds of the book as far as it was read, once its Head was.
-pub record Growing (b : Book) : Type 0 where
-  pub head : T (headFits b)
-  pub nodes : Few maxNodes (λ k. leb k greatestNodeKind) (b .nodes)
-  pub segments : Few maxSegments (segmentFits b) (b .segments)
-  pub joins : Few maxJoins (joinFits b) (b .joins)
-  pub once : T (joinsOnce (b .joins))
-  pub trains : Few maxTrains (trainAllFits b) (b .trains)
-  pub calls : T (all (callFits b) (b .calls))
-  pub fewCalls : (i : ℕ) → length (callsOf b i) ≤ 4
 
 -- a Head alone
 pub growing-head : (p : Bytes) → T (headFits (headOf noBook p)) → Growing (headOf noBook p)

@@ -23,4 +23,5 @@ pub mod Files
 pub mod Entries
 pub mod Words
 pub mod Reasons
+pub mod Refusals
 pub mod Demands

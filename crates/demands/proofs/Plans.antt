@@ -2,16 +2,17 @@
 -- condition, and such a plan satisfies the formula through its assignment, which decodes to its bytes. Assumes nothing.
 use mathlib.Core.Path.{_≡_, _∙_}
 use mathlib.Core.Bool.{Bool}
-use Prim.Native.Nat.{ℕ}
+use Prim.Native.Nat.{ℕ, _<_}
+use mathlib.Core.List.{List·Memᴰ}
 use lib.ListN.{length}
 use lib.Dec.{T, eqb}
-use Rattle.laws.proofs.Tests.{and-iff, eqb-iff}
+use Rattle.laws.proofs.Tests.{and-iff, eqb-iff, ltb-iff}
 use Rattle.laws.proofs.Numbers.{bytes}
 use Rattle.spec.specs.Lists.{Bytes, all, accepted}
 use Rattle.spec.specs.Book.{Book}
 use Rattle.spec.specs.Read.{readBook}
 use Rattle.spec.specs.Instance.{Instance, instanceOf}
-use Rattle.spec.specs.Plan.{Plan, IsPlan, isBit, planFits, planOf, keepsRules}
+use Rattle.spec.specs.Plan.{Plan, Move, run, ofRun, isMove, IsPlan, isBit, planFits, planOf, keepsRules}
 use Rattle.spec.specs.Extra.{extraCondition}
 use Rattle.spec.specs.Formula.{formula, variables}
 use Rattle.spec.specs.Assignment.{satisfies, assigned, assignmentFits, decode, decoded, encode}
@@ -46,6 +47,12 @@ module _ (book : Bytes) (b : Book) (read : readBook book ≡ accepted b) where
   plan-fits p =
       and-iff (eqb (length (encode I p)) (variables I)) (all isBit (encode I p)) .1
       (eqb-iff (length (encode I p)) (variables I) .1 (length-encode I p (extra-length I p)), encode-bits I p (extra-bits I p))
+
+  -- the segments of a move are segments of the book
+  pub run-inside : (i : ℕ) → i < instanceOf b .trains → (m : Move) → T (isMove (instanceOf b) i m) → (u : ℕ)
+      → List·Memᴰ u (ofRun m (λ r. instanceOf b .path i r)) → u < instanceOf b .segments
+  unfolding ofRun isMove
+  run-inside i l (run r) h u m = facts .inside i r l (ltb-iff r _ .0 h) u m
 
   -- what a satisfying assignment decodes to is coded by it
   pub decoded-coded : (s : Bytes) → T (satisfies (assigned s) (formula (instanceOf b))) → Codes (instanceOf b) (assigned s) (planOf (instanceOf b) (decode (instanceOf b) s))

@@ -15,7 +15,8 @@ use Rattle.spec.specs.Lists.{Bytes, all, any, firstFault, Verdict, accepted, re
 use Rattle.spec.specs.Frames.{kindField, behind, cutShort, payloadOf, Kind, headKind, nodeKind, segmentKind, joinKind, trainKind, callKind, unbreakableKind, endKind, kindNumber, kindOrder, findKind, rankIn, rank}
 use Rattle.spec.specs.Book.{Book, noBook}
 use Rattle.spec.specs.Read.{Reading, readingStart, isEnd, frameFaults, bookFaults, pastFrame, refuseOr, FrameRead, stop, more, frameReadAt, readFrame, unknownKind, isHead, outOfOrder, kindFaults, addFound, contentFaults, add, readFrom, readBook, wellFormed}
-use Rattle.demands.proofs.Growing.{Growing, growing-head, growing-add, growing-whole}
+use Rattle.spec.specs.Reached.{Growing, Reached, nothing, growing}
+use Rattle.demands.proofs.Growing.{growing-head, growing-add, growing-whole}
 use Rattle.demands.proofs.Faults.{passes, FirstHolds, first-none, clear-first, first-some, holds-first}
 use Rattle.laws.proofs.Frames.{length-behind}
 use Rattle.laws.proofs.Tests.{and-iff, not-iff, eqb-iff, true-of, denied-of, from-true, from-denied, neither-iff}
@@ -192,11 +193,6 @@ read-accepted-reason s b e = let h = read-iff s (accepted b) .0 e in go (h .0) (
     go r s′ c (pass f t g q) = (r, s′, c, clear-first _ f, t, clear-first _ g, cc)
 
 -- ---- a book that is read is well formed
-
--- The reader is at the start, or in a growing book.
-pub data Reached (r : Reading) : Type 0 where
-  nothing : r .last ≡ 0 → r .book ≡ noBook → Reached r
-  growing : r .last ≢ 0 → Growing (r .book) → Reached r
 
 -- a kind's place in the order is counted from 1
 pub rank-not-zero : (n : ℕ) (ks : List Kind) → rankIn n ks ≢ 0

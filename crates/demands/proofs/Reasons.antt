@@ -1,5 +1,5 @@
 -- Refusals of the entry points, from arbitrary bytes: each is given only where a condition stated for its number holds and none
--- that is tried before it, with the detail that document 01 names; and what a call leaves of an output. Assumes nothing.
+-- that is tried before it, with the detail that document 01 names. Assumes nothing.
 use mathlib.Core.Path.{_≡_, refl}
 use mathlib.Core.Logic.{_↔_, _⊎_, inl, inr}
 use mathlib.Core.Bool.{Bool, true, false, not, _||_}
@@ -7,8 +7,7 @@ use mathlib.Core.Option.{Option, none, some}
 use Prim.Native.Nat.{ℕ, zero, suc, _+_, _-_, _≤_, _<_}
 use native.Mathlib.Omega.{arith}
 use mathlib.Core.List.{List, [], _∷_}
-use lib.ListN.{length, getD, drop, length-append, length-drop}
-use lib.Seq.{drop-append-seam}
+use lib.ListN.{length, getD}
 use lib.Dec.{T, leb, nleb→lt, T-not, not-T, leb→le}
 use Rattle.laws.proofs.Tests.{neither-iff, and-iff, or-iff, leb-iff, decide, true-of, denied-of}
 use Rattle.laws.proofs.Rows.{all-append}
@@ -22,7 +21,7 @@ use Rattle.spec.specs.Plan.{planFits, planOf, planLength, ruleFaults, brokenRul
 use Rattle.spec.specs.Formula.{Clause, formula, variables, wordsOf}
 use Rattle.spec.specs.Assignment.{holds, firstFalse, assigned, assignmentFits}
 use Rattle.spec.specs.Refutation.{Lent, clauseAt, stepFaults, stepDetail, checkSteps, checkFile, isBad}
-use Rattle.spec.specs.Entry.{demand, findNone, overwrite, written, readInstance, writeFormula, formulaText, judgeAssignment, judgePlan, decodedFor, checkAssignment, encodedFor, checkPlan, checkRefutation, refutedFor, formulaFits, writtenFor}
+use Rattle.spec.specs.Entry.{demand, findNone, readInstance, writeFormula, formulaText, judgeAssignment, judgePlan, decodedFor, checkAssignment, encodedFor, checkPlan, checkRefutation, refutedFor, formulaFits, writtenFor}
 use Rattle.demands.proofs.Faults.{passes, FirstHolds, first-none, first-some}
 use Rattle.demands.proofs.Reading.{refusal-has-reason}
 use Rattle.demands.proofs.Refuting.{stepAt, added}
@@ -54,7 +53,7 @@ same-refusal : {A : Type 0} {m f k d : ℕ} (P : ℕ → ℕ → Type 0) → _�
 same-refusal {m = m} {f} {k} {d} P e p = let a : m ≡ k = cc in let b : f ≡ d = cc in rw (← a, ← b) p
 
 -- a slice that is not long enough is shorter
-short-iff : (m n : ℕ) → T (not (leb m n)) ↔ (n < m)
+pub short-iff : (m n : ℕ) → T (not (leb m n)) ↔ (n < m)
 short-iff m n = (nleb→lt m n, λ h. not-T (leb m n) (λ t. let l = leb→le m n t in omega arith))
 
 -- ---- the order of the entry points
@@ -231,7 +230,7 @@ module _ (lent : Lent) (vars : ℕ) (cs₀ : List Clause) (file : Bytes) where
   Wrong = RefutationFault lent vars cs₀ file
 
   -- a step of which no condition holds is a whole frame
-  step-whole : (cs : List Clause) (s : Bytes) → T (all passes (stepFaults lent vars cs s)) → T (not (cutShort s))
+  pub step-whole : (cs : List Clause) (s : Bytes) → T (all passes (stepFaults lent vars cs s)) → T (not (cutShort s))
   unfolding stepFaults isBad all passes
   step-whole cs s h = let p = simp (and-iff, neither-iff) at h in p .0 .0 .0
 
@@ -347,20 +346,3 @@ refutation-number book s lent k d e = elim (number-of (refutation-refusal book s
         [ inl t ↦ inl (simp (and-iff, leb-iff) at t) | inr t ↦ inr (simp (and-iff, leb-iff) at t) ]
     own (noEnding c h) = inr (omega arith, omega arith)
     own (bytesAfter c h t b) = inr (omega arith, omega arith)
-
--- ---- what is left of an output
-
--- "Outputs are unchanged" on a refusal.
-pub untouched : {A : Type 0} (old : List A) (k d : ℕ) → overwrite old (written (refused k d)) ≡ old
-unfolding overwrite written
-untouched old k d = refl
-
--- "A success changes only the stated length of an output": the slice stays as long as it was …
-pub same-length {ℓ} : {A : Type ℓ} (old new : List A) → length new ≤ length old → length (overwrite old new) ≡ length old
-unfolding overwrite
-same-length old new h = simp (length-append, length-drop) (omega arith)
-
--- … and keeps what stands behind.
-pub kept-behind {ℓ} : {A : Type ℓ} (old new : List A) → drop (length new) (overwrite old new) ≡ drop (length new) old
-unfolding overwrite
-kept-behind old new = drop-append-seam new (drop (length new) old)

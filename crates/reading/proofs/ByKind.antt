@@ -18,7 +18,7 @@ use Rattle.frames.proofs.Order.{rank-other}
 use Rattle.content.specs.declared.Added.{Added}
 use Rattle.content.specs.declared.Checked.the-variants.{Fine, Refused}
 use Rattle.content.specs.Added.{added, settled, CallsFew}
-use Rattle.demands.proofs.Growing.{Growing, Few}
+use Rattle.spec.specs.Reached.{Few, Growing}
 use Rattle.reading.specs.BookAnswers.{addedFound}
 
 -- a kind's number finds the kind

@@ -21,7 +21,7 @@ use Rattle.spec.specs.BookFile.{FitsFields}
 use Rattle.track.proofs.Walks.{all-take-at}
 use Rattle.content.specs.Added.{Packed}
 use Rattle.listing.specs.Listed.{countAfter}
-use Rattle.demands.proofs.Growing.{Growing, Few, trainAllFits}
+use Rattle.spec.specs.Reached.{Few, trainAllFits, Growing}
 use Rattle.reading.proofs.FrameTests.{fault-here, fault-next}
 use Rattle.reading.specs.declared.Answer.the-variants.{Accepted}
 use Rattle.reading.specs.declared.BookRead.{BookRead}

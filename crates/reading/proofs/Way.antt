@@ -20,8 +20,8 @@ use Rattle.spec.specs.BookFile.{FitsFields}
 use Rattle.spec.specs.Read.{Reading, readingStart, frameFaults, bookFaults, refuseOr, isEnd, pastFrame, readBook, headFits, between, outOfOrder}
 use Rattle.spec.specs.Held.{held, packed}
 use Rattle.demands.proofs.Faults.{first-none}
-use Rattle.demands.proofs.Growing.{Growing, Few}
-use Rattle.demands.proofs.Reading.{ReadsTo, start, Reached, nothing, growing, reached, fine}
+use Rattle.spec.specs.Reached.{Few, Growing, Reached, nothing, growing}
+use Rattle.demands.proofs.Reading.{ReadsTo, start, reached, fine}
 use Rattle.demands.proofs.Exact.{reads-fit}
 use Rattle.content.specs.Added.{Packed}
 use Rattle.content.proofs.Packing.{held-packed, packed-fits}

@@ -14,8 +14,7 @@ use Rattle.spec.specs.Lists.{Bytes, firstFault}
 use lib.Dec.{eqb}
 use Rattle.laws.proofs.Tests.{decide, true-of, false-of, denied-of, from-denied, eqb-iff}
 use Rattle.laws.proofs.Frames.{whole-iff}
-use Rattle.demands.proofs.Growing.{Growing}
-use Rattle.demands.proofs.Reading.{Reached, nothing, growing}
+use Rattle.spec.specs.Reached.{Growing, Reached, nothing, growing}
 use Rattle.frames.proofs.Order.{not-first}
 use Rattle.spec.specs.Frames.{Kind, kindNumber, rankIn, kindOrder, findKind, cutShort, kindField, payloadLength, payloadOf, behind, rank}
 use Rattle.spec.specs.Book.{Book}

@@ -148,6 +148,10 @@ sections : Bytes → ℕ → Answer
 sections s n = answered (readInstance s) λ I.
     rows (map (λ t. pick (λ u. together I (eqb n) t u) (upTo (I .segments))) (upTo (I .segments)))
 
+-- three segments, all of them together
+oneSection : Answer
+oneSection = rows ((0 ∷ 1 ∷ 2 ∷ []) ∷ (0 ∷ 1 ∷ 2 ∷ []) ∷ (0 ∷ 1 ∷ 2 ∷ []) ∷ [])
+
 clauseNumber : ℕ → Bytes → Answer
 clauseNumber n s = answered (readInstance s) λ I. clause (clauseAt (formula I) n)
 
@@ -188,12 +192,11 @@ starred =
       asked = runList (pairBook [] 100 36 (0 ∷ []));
       answer = rows ((0 ∷ []) ∷ (1 ∷ []) ∷ (2 ∷ []) ∷ (3 ∷ []) ∷ []);
     }
-    -- *Three segments in a row, border at node 1: sections {0} and {1, 2}; *in a ring one border divides nothing
+    -- *Three segments in a row, border at node 1: sections {0} and {1, 2}; *in a ring one border, wherever it is, divides nothing
     ∷ record { asked = sections (tripleBook 3) 1; answer = rows ((0 ∷ []) ∷ (1 ∷ 2 ∷ []) ∷ (1 ∷ 2 ∷ []) ∷ []) }
-    ∷ record {
-      asked = sections (tripleBook 0) 1;
-      answer = rows ((0 ∷ 1 ∷ 2 ∷ []) ∷ (0 ∷ 1 ∷ 2 ∷ []) ∷ (0 ∷ 1 ∷ 2 ∷ []) ∷ []);
-    }
+    ∷ record { asked = sections (tripleBook 0) 0; answer = oneSection }
+    ∷ record { asked = sections (tripleBook 0) 1; answer = oneSection }
+    ∷ record { asked = sections (tripleBook 0) 2; answer = oneSection }
     -- *Book L's text: "p cnf 6 10", "-1 0", "-2 0", "3 4 5 0", "-3 -4 0", "-3 -5 0", "-4 -5 0", "-4 0", "-5 0", "-3 6 0", "-4 6 0"
     ∷ record {
       asked = text (printFormula bookL);
@@ -317,7 +320,7 @@ table = starred ++ further
 
 pub cases : map (λ c. c .asked) table ≡ map (λ c. c .answer) table
 unfolding
-    table starred further answered bookL headWith headFrame trainFrom callOf passingBook bookN planN assignmentN crowdedBook totalsOf decodes encodes nodeFrame segmentFrame trainFrame callFrame endFrame pairBook joinFrame bookM tripleBook reach runList sections clauseNumber emptyStep refuted
+    table starred further answered bookL headWith headFrame trainFrom callOf passingBook bookN planN assignmentN crowdedBook totalsOf decodes encodes nodeFrame segmentFrame trainFrame callFrame endFrame pairBook joinFrame bookM tripleBook reach runList sections oneSection clauseNumber emptyStep refuted
     count upTo range each only all any pick empty lastOr same has different sumTo firstFault andThen
     littleEndian number field signed unsigned digits decimal decimalZ
     frame payloadLength kindField payloadOf behind cutShort kindNumber stepKind kindOrder findKind rankIn rank timeWidth trainCountAt lengthFits stepLengthFits

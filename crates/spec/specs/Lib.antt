@@ -6,6 +6,7 @@ pub mod Book
 pub mod BookFile
 pub mod Runs
 pub mod Read
+pub mod Reached
 pub mod Held
 pub mod Instance
 pub mod Sections

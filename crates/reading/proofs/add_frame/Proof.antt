@@ -6,7 +6,7 @@ use mathlib.Core.Logic.{_≢_}
 use Prim.Native.Nat.{ℕ, _≤_}
 use native.Mathlib.Omega.{arith}
 use Rattle.spec.specs.Frames.{headKind, nodeKind, segmentKind, joinKind, trainKind, callKind, unbreakableKind, endKind, kindNumber}
-use Rattle.demands.proofs.Growing.{Growing}
+use Rattle.spec.specs.Reached.{Growing}
 use Rattle.content.specs.Added.{Packed}
 use Rattle.reading.proofs.ByKind.{found-added, is-end, end-long, end-right, growing-metres, growing-calls, growing-segments}
 use Rattle.content.proofs.Packing.{refuses, accepts}
