@@ -1,7 +1,9 @@
 // Rule 6, that no section holds segments of two trains' runs in an interval, by the labels of sections:
 // in each interval the labels that earlier trains touch are marked, so that the rule costs the segments
 // of the interval's runs. Assumes nothing.
+use listing::TRAIN_BYTES;
 use model::Book;
+use model::MAX_RUNS;
 use moves::Move;
 use moves::move_at;
 use places::start_of;
@@ -30,8 +32,8 @@ pub fn row_of(m: Move, sizes: &[u8], train: usize) -> Row
 {
     match m {
         Move::Run(r) => {
-            let at = train * 4096 + start_of(r);
-            let size = wide(sizes[train * 256 + r]);
+            let at = train * TRAIN_BYTES + start_of(r);
+            let size = wide(sizes[train * MAX_RUNS + r]);
             Row { at: at, size: size }
         }
         Move::Absent => Row { at: 0, size: 0 },

@@ -1,6 +1,7 @@
 // Scans of a payload and of a book's rows that the content of a frame is checked by. One loop each.
 // Assumes nothing.
 use model::Book;
+use model::MAX_NODES;
 use track::denies_border;
 use track::wide;
 ghost use mathlib.Core.Path.{_≡_};
@@ -89,7 +90,7 @@ pub fn may_divide(b: Book, ttd: usize) -> bool
     ensures { λ r. ⌜ r ≡ read.mayDivide (held b) ttd ⌝ }
 {
     let n = b.segment_count;
-    let mut seen = [0u8; 96];
+    let mut seen = [0u8; MAX_NODES];
     let mut i = 0;
     while i < n {
         let s = b.segments[i];

@@ -17,6 +17,14 @@ use frames::pair;
 use model::Book;
 use model::Call;
 use model::Join;
+use model::MAX_CALLS;
+use model::MAX_INTERVALS;
+use model::MAX_JOINS;
+use model::MAX_NODES;
+use model::MAX_REACH;
+use model::MAX_SEGMENTS;
+use model::MAX_TRAINS;
+use model::MAX_TTD;
 use model::Segment;
 use model::Train;
 use track::is_path;
@@ -78,7 +86,7 @@ pub fn add_head(b: Book, p: &[u8]) -> Added
     let metres = pair(p, 0);
     let seconds = pair(p, 2);
     let intervals = wide(p[4]);
-    if metres < 1 || seconds < 1 || intervals < 1 || 32 < intervals {
+    if metres < 1 || seconds < 1 || intervals < 1 || MAX_INTERVALS < intervals {
         return refused(b, 6);
     }
     let mut next = b;
@@ -97,7 +105,7 @@ pub fn add_node(b: Book, p: &[u8]) -> Added
         return refused(b, 4);
     }
     let at = b.node_count;
-    if 96 <= at {
+    if MAX_NODES <= at {
         return refused(b, 5);
     }
     let kind = p[0];
@@ -117,7 +125,7 @@ fn segment_fits(b: Book, s: Segment) -> bool
 {
     let a = wide(s.a);
     let e = wide(s.b);
-    a < b.node_count && e < b.node_count && a != e && wide(s.ttd) <= 63
+    a < b.node_count && e < b.node_count && a != e && wide(s.ttd) <= MAX_TTD
 }
 
 // Segment: at most 64.
@@ -129,7 +137,7 @@ pub fn add_segment(b: Book, p: &[u8]) -> Added
         return refused(b, 4);
     }
     let at = b.segment_count;
-    if 64 <= at {
+    if MAX_SEGMENTS <= at {
         return refused(b, 5);
     }
     let s = Segment {
@@ -169,7 +177,7 @@ pub fn add_join(b: Book, p: &[u8]) -> Added
         return refused(b, 4);
     }
     let at = b.join_count;
-    if 128 <= at {
+    if MAX_JOINS <= at {
         return refused(b, 5);
     }
     let j = Join {
@@ -196,7 +204,7 @@ fn reach_fits(b: Book, t: Train) -> bool
 {
     let l = length_in_segments(b, t);
     let k = speed_in_segments(b, t);
-    1 <= l && l <= 8 && 1 <= k && k <= 8
+    1 <= l && l <= MAX_REACH && 1 <= k && k <= MAX_REACH
 }
 
 // 6 of a Call: a train and a segment that were read, first ≤ last ≤ T.
@@ -242,7 +250,7 @@ pub fn add_call(b: Book, p: &[u8]) -> Added
         first: wide(p[2]),
         last: wide(p[3]),
     };
-    if 4 <= calls_of(b, wide(c.train)) {
+    if MAX_CALLS <= calls_of(b, wide(c.train)) {
         return refused(b, 5);
     }
     if !call_fits(b, c) {
@@ -259,7 +267,7 @@ pub fn add_call(b: Book, p: &[u8]) -> Added
 fn train_length_fits(p: &[u8]) -> bool
     ensures { λ r. ⌜ r ≡ frames.lengthFits frames.trainKind (now (p .entry)) ⌝ }
 {
-    TrainFrame::LEN <= p.len() && p.len() == TrainFrame::LEN + wide(p[5])
+    TrainFrame::LEN <= p.len() && p.len() == TrainFrame::LEN + wide(p[TrainFrame::COUNT_AT])
 }
 
 // 6 of a Train: at least one metre, a departure below T, and directed segments that were read.
@@ -267,7 +275,9 @@ fn train_fits(b: Book, p: &[u8]) -> bool
     requires { ⌜ CountsFit b × (6 ≤ length (now p)) ⌝ }
     ensures { λ r. ⌜ r ≡ read.trainFits (held b) (read.trainIn (now (p .entry))) ⌝ }
 {
-    1 <= pair(p, 0) && wide(p[4]) < b.intervals && all_below(p, 6, 2 * b.segment_count)
+    1 <= pair(p, 0)
+        && wide(p[4]) < b.intervals
+        && all_below(p, TrainFrame::LEN, 2 * b.segment_count)
 }
 
 // A Train's numbers, without its place.
@@ -280,7 +290,7 @@ fn train_numbers(p: &[u8]) -> Train
         speed: pair(p, 2),
         departure: wide(p[4]),
         size: 0,
-        place: [0u8; 8],
+        place: [0u8; MAX_REACH],
     }
 }
 
@@ -289,7 +299,7 @@ fn place_fits(b: Book, p: &[u8], l: usize) -> bool
     requires { ⌜ CountsFit b × (6 ≤ length (now p)) × (l ≤ 8) × T (lists.all (λ d. ltb d (2 * b .«segment_count»)) (drop 6 (now p))) ⌝ }
     ensures { λ r. ⌜ r ≡ (eqb (length (drop 6 (now (p .entry)))) l && runs.isPath (held b) (drop 6 (now (p .entry)))) ⌝ }
 {
-    p.len() - 6 == l && is_path(b, row_of(p, 6), l)
+    p.len() - TrainFrame::LEN == l && is_path(b, row_of(p, TrainFrame::LEN), l)
 }
 
 // Train: at most 8; its place is a path of l directed segments.
@@ -301,7 +311,7 @@ pub fn add_train(b: Book, p: &[u8]) -> Added
         return refused(b, 4);
     }
     let at = b.train_count;
-    if 8 <= at {
+    if MAX_TRAINS <= at {
         return refused(b, 5);
     }
     if !train_fits(b, p) {
@@ -316,7 +326,7 @@ pub fn add_train(b: Book, p: &[u8]) -> Added
         return refused(b, 8);
     }
     t.size = l;
-    let row = row_of(p, 6);
+    let row = row_of(p, TrainFrame::LEN);
     t.place = row;
     let mut next = b;
     next.trains[at] = t;

@@ -24,7 +24,7 @@ impl HeadFrame {
 
     // The payload's stretch, from its place on.
     pub fn cursor(at: usize) -> Cursor
-        requires { ⌜ at + 5 < 0x1_0000_0000_0000_0000 ⌝ }
+        requires { do ⌜ at + (← ⟦HeadFrame::LEN⟧) < 0x1_0000_0000_0000_0000 ⌝ }
         ensures { λ r. do ⌜ (r .at ≡ at) × (r .end ≡ at + (← ⟦HeadFrame::LEN⟧ .entry)) ⌝ }
     {
         Cursor {
@@ -43,7 +43,7 @@ impl NodeFrame {
 
     // The payload's stretch, from its place on.
     pub fn cursor(at: usize) -> Cursor
-        requires { ⌜ at + 1 < 0x1_0000_0000_0000_0000 ⌝ }
+        requires { do ⌜ at + (← ⟦NodeFrame::LEN⟧) < 0x1_0000_0000_0000_0000 ⌝ }
         ensures { λ r. do ⌜ (r .at ≡ at) × (r .end ≡ at + (← ⟦NodeFrame::LEN⟧ .entry)) ⌝ }
     {
         Cursor {
@@ -62,7 +62,7 @@ impl SegmentFrame {
 
     // The payload's stretch, from its place on.
     pub fn cursor(at: usize) -> Cursor
-        requires { ⌜ at + 3 < 0x1_0000_0000_0000_0000 ⌝ }
+        requires { do ⌜ at + (← ⟦SegmentFrame::LEN⟧) < 0x1_0000_0000_0000_0000 ⌝ }
         ensures { λ r. do ⌜ (r .at ≡ at) × (r .end ≡ at + (← ⟦SegmentFrame::LEN⟧ .entry)) ⌝ }
     {
         Cursor {
@@ -81,7 +81,7 @@ impl JoinFrame {
 
     // The payload's stretch, from its place on.
     pub fn cursor(at: usize) -> Cursor
-        requires { ⌜ at + 3 < 0x1_0000_0000_0000_0000 ⌝ }
+        requires { do ⌜ at + (← ⟦JoinFrame::LEN⟧) < 0x1_0000_0000_0000_0000 ⌝ }
         ensures { λ r. do ⌜ (r .at ≡ at) × (r .end ≡ at + (← ⟦JoinFrame::LEN⟧ .entry)) ⌝ }
     {
         Cursor {
@@ -99,9 +99,12 @@ impl TrainFrame {
 
     pub const LEN: usize = 6;
 
-    // The payload's stretch, from its place on.
+    // Where the count n stands: the fixed part's last byte.
+    pub const COUNT_AT: usize = 5;
+
+    // The stretch of the payload's fixed part, from the payload's place on.
     pub fn cursor(at: usize) -> Cursor
-        requires { ⌜ at + 6 < 0x1_0000_0000_0000_0000 ⌝ }
+        requires { do ⌜ at + (← ⟦TrainFrame::LEN⟧) < 0x1_0000_0000_0000_0000 ⌝ }
         ensures { λ r. do ⌜ (r .at ≡ at) × (r .end ≡ at + (← ⟦TrainFrame::LEN⟧ .entry)) ⌝ }
     {
         Cursor {
@@ -120,7 +123,7 @@ impl CallFrame {
 
     // The payload's stretch, from its place on.
     pub fn cursor(at: usize) -> Cursor
-        requires { ⌜ at + 4 < 0x1_0000_0000_0000_0000 ⌝ }
+        requires { do ⌜ at + (← ⟦CallFrame::LEN⟧) < 0x1_0000_0000_0000_0000 ⌝ }
         ensures { λ r. do ⌜ (r .at ≡ at) × (r .end ≡ at + (← ⟦CallFrame::LEN⟧ .entry)) ⌝ }
     {
         Cursor {
@@ -139,7 +142,7 @@ impl UnbreakableFrame {
 
     // The payload's stretch, from its place on.
     pub fn cursor(at: usize) -> Cursor
-        requires { ⌜ at + 1 < 0x1_0000_0000_0000_0000 ⌝ }
+        requires { do ⌜ at + (← ⟦UnbreakableFrame::LEN⟧) < 0x1_0000_0000_0000_0000 ⌝ }
         ensures { λ r. do ⌜ (r .at ≡ at) × (r .end ≡ at + (← ⟦UnbreakableFrame::LEN⟧ .entry)) ⌝ }
     {
         Cursor {
@@ -158,7 +161,7 @@ impl EndFrame {
 
     // The payload's stretch, from its place on.
     pub fn cursor(at: usize) -> Cursor
-        requires { ⌜ at + 0 < 0x1_0000_0000_0000_0000 ⌝ }
+        requires { do ⌜ at + (← ⟦EndFrame::LEN⟧) < 0x1_0000_0000_0000_0000 ⌝ }
         ensures { λ r. do ⌜ (r .at ≡ at) × (r .end ≡ at + (← ⟦EndFrame::LEN⟧ .entry)) ⌝ }
     {
         Cursor {
@@ -176,9 +179,9 @@ impl StepFrame {
 
     pub const LEN: usize = 2;
 
-    // The payload's stretch, from its place on.
+    // The stretch of the payload's fixed part, from the payload's place on.
     pub fn cursor(at: usize) -> Cursor
-        requires { ⌜ at + 2 < 0x1_0000_0000_0000_0000 ⌝ }
+        requires { do ⌜ at + (← ⟦StepFrame::LEN⟧) < 0x1_0000_0000_0000_0000 ⌝ }
         ensures { λ r. do ⌜ (r .at ≡ at) × (r .end ≡ at + (← ⟦StepFrame::LEN⟧ .entry)) ⌝ }
     {
         Cursor {
@@ -205,6 +208,7 @@ pub enum Framed {
     Cut,
 }
 
+// The frame at a place: 1 and 17 refuse where it is cut.
 pub fn frame_at(s: &[u8], at: usize) -> Framed
     requires { ⌜ at ≤ length (now s) ⌝ }
     ensures { λ r. ⌜ r ≡ framedAt (drop at (now (s .entry))) ⌝ }
@@ -221,7 +225,10 @@ pub fn frame_at(s: &[u8], at: usize) -> Framed
     }
 }
 
-// The place of a kind in the order of kinds, from 1; 9 for a number that is no kind's.
+// What `rank` answers for a number that is no kind's.
+pub const NO_RANK: usize = 9;
+
+// The place of a kind in the order of kinds, from 1, or NO_RANK.
 pub fn rank(kind: usize) -> usize
     ensures { λ r. ⌜ r ≡ frames.rank kind ⌝ }
 {
@@ -249,7 +256,7 @@ pub fn rank(kind: usize) -> usize
     if kind == EndFrame::KIND {
         return 8;
     }
-    9
+    NO_RANK
 }
 
 // 3: whether a frame is out of order, after a kind's rank (0 before the first frame) and with so many

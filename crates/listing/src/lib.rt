@@ -4,6 +4,9 @@
 // stops at the 257th. A table that is filled once a book has the successors of each directed segment.
 // Assumes nothing.
 use model::Book;
+use model::MAX_REACH;
+use model::MAX_RUNS;
+use model::MAX_SEGMENTS;
 use model::Train;
 use track::end_node;
 use track::joined;
@@ -26,9 +29,24 @@ ghost use Rattle.listing.specs.Listed.{pathOf, packedPath, successors, s
 ghost use Rattle.listing.specs.Listed.{rowsAfter, sizesAfter, countAfter};
 ghost use Rattle.listing.specs.Listed.{extendBy, pathsBy, runIn, runsIn, RunsCovered, longerBy, furtherBy};
 
+// A run has at most l + k segments: the bytes of its row.
+pub const RUN_BYTES: usize = 2 * MAX_REACH;
+
+// The bytes of a train's rows.
+pub const TRAIN_BYTES: usize = MAX_RUNS * RUN_BYTES;
+
+// A directed segment has at most as many successors as there are directed segments: the bytes of its row,
+// and of the table.
+pub const FAN_BYTES: usize = 2 * MAX_SEGMENTS;
+
+pub const SUCCESSOR_BYTES: usize = FAN_BYTES * FAN_BYTES;
+
+// The listing stops at this count: one more than are kept.
+const STOP: usize = MAX_RUNS + 1;
+
 // A path by value: its first n directed segments, zeros behind.
 pub struct Path {
-    pub at: [u8; 16],
+    pub at: [u8; RUN_BYTES],
     pub n: usize,
 }
 
@@ -40,7 +58,7 @@ fn fill_row(b: Book, d: usize, table: &mut [u8]) -> usize
 {
     let n = 2 * b.segment_count;
     let node = end_node(b, d);
-    let base = d * 128;
+    let base = d * FAN_BYTES;
     let mut found = 0;
     let mut e = 0;
     while e < n {
@@ -111,10 +129,10 @@ fn keep(rows: &mut [u8], sizes: &mut [u8], count: usize, path: Path)
     ensures { λ _. ⌜ (now (rows .exit) ≡ rowsAfter count (one (pathOf path)) (now (rows .entry)))
         × (now (sizes .exit) ≡ sizesAfter count (one (pathOf path)) (now (sizes .entry))) ⌝ }
 {
-    if count < 256 {
-        let base = count * 16;
+    if count < MAX_RUNS {
+        let base = count * RUN_BYTES;
         let mut i = 0;
-        while i < 16 {
+        while i < RUN_BYTES {
             rows[base + i] = path.at[i];
             i += 1;
         }
@@ -127,8 +145,8 @@ fn path_at(rows: &[u8], r: usize, size: usize) -> Path
     requires { ⌜ (length (now rows) ≡ 4096) × (r < 256) × (size ≤ 16) ⌝ }
     ensures { λ p. ⌜ p ≡ packedPath (runIn (now (rows .entry)) size r) ⌝ }
 {
-    let base = 16 * r;
-    let mut at = [0u8; 16];
+    let base = RUN_BYTES * r;
+    let mut at = [0u8; RUN_BYTES];
     let mut i = 0;
     while i < size {
         at[i] = rows[base + i];
@@ -160,10 +178,10 @@ fn extend(
     }
     let last = last_of(path);
     let fan = wide(fans[last]);
-    let base = last * 128;
+    let base = last * FAN_BYTES;
     let mut found = count;
     let mut i = 0;
-    while i < fan && found < 257 {
+    while i < fan && found < STOP {
         let d = wide(table[base + i]);
         if !uses(path, d / 2) {
             found = extend(
@@ -200,9 +218,9 @@ fn list_paths(
 {
     let mut found = count;
     let mut d = 0;
-    while d < directed && found < 257 {
+    while d < directed && found < STOP {
         let mut path = Path {
-            at: [0u8; 16],
+            at: [0u8; RUN_BYTES],
             n: 1,
         };
         path.at[0] = d as u8;
@@ -235,7 +253,7 @@ fn list_longer(
     let n = count - first;
     let mut found = count;
     let mut i = 0;
-    while i < n && found < 257 {
+    while i < n && found < STOP {
         let path = path_at(rows, first + i, size);
         found = extend(table, fans, rows, sizes, found, path, 1);
         i += 1;

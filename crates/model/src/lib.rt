@@ -2,6 +2,26 @@
 // joins and calls are these very structs; a train's place and the book's rows are, there, lists of
 // the length that stands beside the array here. There are no functions, so nothing is to prove.
 
+// The limits of document 01, each once in code: the contracts of the functions that test them tie them to
+// the specification's. MAX_CALLS is a train's, MAX_REACH the greatest l and k.
+pub const MAX_NODES: usize = 96;
+
+pub const MAX_SEGMENTS: usize = 64;
+
+pub const MAX_JOINS: usize = 128;
+
+pub const MAX_TRAINS: usize = 8;
+
+pub const MAX_CALLS: usize = 4;
+
+pub const MAX_INTERVALS: usize = 32;
+
+pub const MAX_TTD: usize = 63;
+
+pub const MAX_REACH: usize = 8;
+
+pub const MAX_RUNS: usize = 256;
+
 // A segment: its two nodes and its TTD.
 pub struct Segment {
     pub a: u8,
@@ -22,7 +42,7 @@ pub struct Train {
     pub speed: usize,
     pub departure: usize,
     pub size: usize,
-    pub place: [u8; 8],
+    pub place: [u8; MAX_REACH],
 }
 
 // A call of a train on a segment, in the window from `first` to `last`.
@@ -43,9 +63,9 @@ pub struct Book {
     pub join_count: usize,
     pub train_count: usize,
     pub call_count: usize,
-    pub nodes: [u8; 96],
-    pub segments: [Segment; 64],
-    pub joins: [Join; 128],
-    pub trains: [Train; 8],
-    pub calls: [Call; 32],
+    pub nodes: [u8; MAX_NODES],
+    pub segments: [Segment; MAX_SEGMENTS],
+    pub joins: [Join; MAX_JOINS],
+    pub trains: [Train; MAX_TRAINS],
+    pub calls: [Call; MAX_TRAINS * MAX_CALLS],
 }

@@ -2,6 +2,7 @@
 // whether it serves a call, and who may leave. One function for each rule. Places lie in tables of
 // directed segments, as `listing::list_runs` fills them: the run with number r has 16 bytes from 16 r
 // on, and its length in a table beside. Assumes nothing.
+use listing::RUN_BYTES;
 use model::Book;
 use model::Call;
 use model::Train;
@@ -23,7 +24,7 @@ pub fn start_of(r: usize) -> usize
     requires { ⌜ r < 256 ⌝ }
     ensures { λ at. ⌜ at ≡ 16 * r ⌝ }
 {
-    16 * r
+    RUN_BYTES * r
 }
 
 // Where the last l directed segments of a run begin: the place that the run ends at.
@@ -31,7 +32,7 @@ pub fn end_of(sizes: &[u8], r: usize, l: usize) -> usize
     requires { ⌜ (r < 256) × (r < length (now sizes)) × (l ≤ getD (now sizes) r 0) ⌝ }
     ensures { λ at. ⌜ at ≡ endAt (now (sizes .entry)) r l ⌝ }
 {
-    16 * r + (wide(sizes[r]) - l)
+    RUN_BYTES * r + (wide(sizes[r]) - l)
 }
 
 // Whether two places of l directed segments are the same.

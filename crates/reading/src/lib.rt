@@ -16,6 +16,7 @@ use frames::EndFrame;
 use frames::Framed;
 use frames::HeadFrame;
 use frames::JoinFrame;
+use frames::NO_RANK;
 use frames::NodeFrame;
 use frames::SegmentFrame;
 use frames::TrainFrame;
@@ -23,11 +24,21 @@ use frames::UnbreakableFrame;
 use frames::frame_at;
 use frames::out_of_order;
 use frames::rank;
+use listing::FAN_BYTES;
+use listing::SUCCESSOR_BYTES;
+use listing::TRAIN_BYTES;
 use listing::fill_successors;
 use listing::list_runs;
 use model::Book;
 use model::Call;
 use model::Join;
+use model::MAX_CALLS;
+use model::MAX_JOINS;
+use model::MAX_NODES;
+use model::MAX_REACH;
+use model::MAX_RUNS;
+use model::MAX_SEGMENTS;
+use model::MAX_TRAINS;
 use model::Segment;
 use model::Train;
 ghost use mathlib.Core.Path.{_≡_};
@@ -45,8 +56,7 @@ ghost use Rattle.spec.specs.Read.{readBook, refuseOr, bookFaults, maxRuns};
 ghost use Rattle.spec.specs.Held.{held, packed, CountsFit};
 ghost use Rattle.content.specs.Added.{Packed};
 ghost use Rattle.frames.specs.Framed.{framedAt};
-ghost use Rattle.demands.proofs.Growing.{Growing};
-ghost use Rattle.demands.proofs.Reading.{Reached};
+ghost use Rattle.spec.specs.Reached.{Growing, Reached};
 ghost use Rattle.reading.specs.BookAnswers.{bookReadOf, addedFound, steppedAt};
 
 // A verdict: accepted, or a refusal's number and detail.
@@ -74,26 +84,26 @@ fn empty_book() -> Book
         join_count: 0,
         train_count: 0,
         call_count: 0,
-        nodes: [0u8; 96],
-        segments: [Segment { a: 0, b: 0, ttd: 0 }; 64],
+        nodes: [0u8; MAX_NODES],
+        segments: [Segment { a: 0, b: 0, ttd: 0 }; MAX_SEGMENTS],
         joins: [Join {
             node: 0,
             left: 0,
             right: 0,
-        }; 128],
+        }; MAX_JOINS],
         trains: [Train {
             metres: 0,
             speed: 0,
             departure: 0,
             size: 0,
-            place: [0u8; 8],
-        }; 8],
+            place: [0u8; MAX_REACH],
+        }; MAX_TRAINS],
         calls: [Call {
             train: 0,
             segment: 0,
             first: 0,
             last: 0,
-        }; 32],
+        }; MAX_TRAINS * MAX_CALLS],
     }
 }
 
@@ -176,7 +186,7 @@ fn step_whole(b: Book, last: usize, s: &[u8], at: usize, kind: usize, len: usize
     let start = at + 4;
     let end = start + len;
     let place = rank(kind);
-    if place == 9 {
+    if place == NO_RANK {
         return stopped(b, 2);
     }
     if out_of_order(last, kind, s.len() - end) {
@@ -239,15 +249,15 @@ fn few_runs(b: Book) -> bool
     ensures { λ r. ⌜ r ≡ not (any (λ t. ltb maxRuns (length (runsOf (held b) t))) (held b .trains)) ⌝ }
 {
     let n = b.train_count;
-    let mut table = [0u8; 16384];
-    let mut fans = [0u8; 128];
+    let mut table = [0u8; SUCCESSOR_BYTES];
+    let mut fans = [0u8; FAN_BYTES];
     fill_successors(b, &mut table, &mut fans);
-    let mut rows = [0u8; 4096];
-    let mut sizes = [0u8; 256];
+    let mut rows = [0u8; TRAIN_BYTES];
+    let mut sizes = [0u8; MAX_RUNS];
     let mut i = 0;
     while i < n {
         let t = b.trains[i];
-        if 256 < list_runs(b, t, &table, &fans, &mut rows, &mut sizes) {
+        if MAX_RUNS < list_runs(b, t, &table, &fans, &mut rows, &mut sizes) {
             return false;
         }
         i += 1;

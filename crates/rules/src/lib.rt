@@ -1,8 +1,10 @@
 // The plan rules 1 to 5, checked from the plan itself: the borders by node, the other rules by train.
 // Rules 2 to 5 go through one loop over the trains. Assumes nothing.
 use checks::calls_of;
+use listing::TRAIN_BYTES;
 use model::Book;
 use model::Call;
+use model::MAX_RUNS;
 use moves::Move;
 use moves::is_gone;
 use moves::move_at;
@@ -360,14 +362,14 @@ fn trains_keep(
     let trains = b.train_count;
     let mut i = 0;
     while i < trains {
-        let row = i * 4096;
-        let at = i * 256;
+        let row = i * TRAIN_BYTES;
+        let at = i * MAX_RUNS;
         if !train_keeps(
             rule,
             b,
             i,
-            &rows[row..row + 4096],
-            &sizes[at..at + 256],
+            &rows[row..row + TRAIN_BYTES],
+            &sizes[at..at + MAX_RUNS],
             plan,
         ) {
             return false;

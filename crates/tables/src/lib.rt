@@ -2,10 +2,15 @@
 // (a row of 16 bytes and a length a run), and the runs that follow a run as a chain: the first of them,
 // and behind each run the next one that starts at the same place. A train has room for 256 runs in each,
 // found by its number at once. Assumes nothing.
+use listing::FAN_BYTES;
+use listing::SUCCESSOR_BYTES;
+use listing::TRAIN_BYTES;
 use listing::fill_successors;
 use listing::list_runs;
 use model::Book;
 use model::Call;
+use model::MAX_RUNS;
+use model::MAX_TRAINS;
 use places::follows;
 use places::same_places;
 use places::start_of;
@@ -23,6 +28,11 @@ ghost use Rattle.listing.specs.Listed.{SuccessorsHeld, rowsAfter, sizesAfter};
 ghost use Rattle.places.specs.Placed.{placeAt, endAt};
 ghost use Rattle.tables.specs.Tables.{Passed, runsAt, leastFrom, firstFollowers, nextAlike, filled};
 ghost use Rattle.tables.specs.Ready.{RunsHeld, RunsReady};
+
+// The bytes of the rows of all trains, and how many runs there is room for.
+pub const ALL_BYTES: usize = MAX_TRAINS * TRAIN_BYTES;
+
+pub const ALL_RUNS: usize = MAX_TRAINS * MAX_RUNS;
 
 // Lists a train's runs; answers how many it has. The tables hold the book's successors.
 fn fill_train(
@@ -53,15 +63,15 @@ fn fill_trains(b: Book, table: &[u8], fans: &[u8], rows: &mut [u8], sizes: &mut 
     let mut counts = [0usize; 8];
     let mut i = 0;
     while i < n {
-        let row = i * 4096;
-        let at = i * 256;
+        let row = i * TRAIN_BYTES;
+        let at = i * MAX_RUNS;
         counts[i] = fill_train(
             b,
             i,
             table,
             fans,
-            &mut rows[row..row + 4096],
-            &mut sizes[at..at + 256],
+            &mut rows[row..row + TRAIN_BYTES],
+            &mut sizes[at..at + MAX_RUNS],
         );
         i += 1;
     }
@@ -75,8 +85,8 @@ pub fn fill_runs(b: Book, rows: &mut [u8], sizes: &mut [u8]) -> [usize; 8]
         × (now (rows .exit) ≡ filled (λ i. rowsAfter 0 (runsAt (held b) i)) 4096 (b .«train_count») (now (rows .entry)))
         × (now (sizes .exit) ≡ filled (λ i. sizesAfter 0 (runsAt (held b) i)) 256 (b .«train_count») (now (sizes .entry))) ⌝ }
 {
-    let mut table = [0u8; 16384];
-    let mut fans = [0u8; 128];
+    let mut table = [0u8; SUCCESSOR_BYTES];
+    let mut fans = [0u8; FAN_BYTES];
     fill_successors(b, &mut table, &mut fans);
     fill_trains(b, &table, &fans, rows, sizes)
 }
@@ -175,16 +185,16 @@ pub fn chain_trains(
     let n = b.train_count;
     let mut i = 0;
     while i < n {
-        let row = i * 4096;
-        let at = i * 256;
+        let row = i * TRAIN_BYTES;
+        let at = i * MAX_RUNS;
         chain_train(
             b,
             i,
             runs[i],
-            &rows[row..row + 4096],
-            &sizes[at..at + 256],
-            &mut firsts[at..at + 256],
-            &mut nexts[at..at + 256],
+            &rows[row..row + TRAIN_BYTES],
+            &sizes[at..at + MAX_RUNS],
+            &mut firsts[at..at + MAX_RUNS],
+            &mut nexts[at..at + MAX_RUNS],
         );
         i += 1;
     }
