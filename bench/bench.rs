@@ -93,7 +93,7 @@ fn formulas(name: &str) {
     assert_eq!(proved::write_formula(&book, &mut theirs), 0);
     assert!(ours == theirs, "the outputs differ");
     println!("{name}: {} clauses, {} words; outputs are equal", count.clauses, count.words);
-    let calls = if count.words < 10_000 { 10_000 } else { 1 };
+    let calls = (20_000_000 / count.words).clamp(1, 10_000);
     compare("read", 1000, &mut || { black_box(proved::read_book(black_box(&book))); },
         &mut || { let _ = black_box(plain::read_book(black_box(&book))); });
     compare("write the formula", calls, &mut || { black_box(proved::write_formula(black_box(&book), &mut theirs)); },
@@ -147,9 +147,10 @@ fn refutations(name: &str) {
 }
 
 fn main() {
-    for name in ["small_l.book", "big_star.book", "big_ring.book", "big_lanes.book"] {
+    for name in ["small_l.book", "ring_8.book", "ring_16.book", "ring_32.book", "big_ring.book", "big_star.book", "big_lanes.book"] {
         formulas(name);
     }
-    judgements("stand.book", "stand.plan");
+    judgements("stand_16.book", "stand_16.plan");
+    judgements("stand_64.book", "stand_64.plan");
     refutations("shut.book");
 }

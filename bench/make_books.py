@@ -1,11 +1,11 @@
 #!/usr/bin/env python3
 """Makes the books that bench.rs runs on, with tools/reference.py and tools/samples.py.
 
-  make_books.py        writes big_star.book, big_ring.book, big_lanes.book, small_l.book, stand.book with stand.plan, and shut.book
-                       beside itself
+  make_books.py        writes big_star.book, big_ring.book, big_lanes.book, small_l.book, the smaller rings ring_8.book, ring_16.book and
+                       ring_32.book, stand_16.book and stand_64.book with their plans, and shut.book beside itself
 
-Each big book has T = 32, 8 trains (l = 1, k = 1, departure 0) and about 250 runs a train. In stand.book the trains stand where
-their calls are. shut.book has a call whose window shuts before the departure, so its formula has an empty clause. The
+Each big book has T = 32, 8 trains (l = 1, k = 1, departure 0) and about 250 runs a train; a smaller ring has 4 runs a segment. In a stand
+book the trains stand where their calls are. shut.book has a call whose window shuts before the departure, so its formula has an empty clause. The
 reference must accept each (read_book raises otherwise).
 """
 
@@ -41,13 +41,13 @@ def star():
     return with_trains(spec, 7, 2)
 
 
-def ring():
-    """A ring of 64 segments, each its own TTD: 128 + 128 = 256 runs, the most; no H."""
+def ring(n):
+    """A ring of n segments, each its own TTD: 2n + 2n runs, with 64 the most, 256; no H."""
     spec = samples.Spec()
-    spec.nodes = [1] * 64
-    spec.segments = [(s, (s + 1) % 64, s) for s in range(64)]
-    spec.joins = [((s + 1) % 64, s, (s + 1) % 64) for s in range(64)]
-    return with_trains(spec, 8, 1)
+    spec.nodes = [1] * n
+    spec.segments = [(s, (s + 1) % n, s) for s in range(n)]
+    spec.joins = [((s + 1) % n, s, (s + 1) % n) for s in range(n)]
+    return with_trains(spec, n // 8, 1)
 
 
 def lanes():
@@ -61,13 +61,13 @@ def lanes():
     return with_trains(spec, 1, 4)
 
 
-def stand():
-    """The ring with trains that stand where their calls are: the plan of trains that never move keeps the rules."""
-    spec = ring()
+def stand(n):
+    """A ring with trains that stand where their calls are: the plan of trains that never move keeps the rules."""
+    spec = ring(n)
     spec.trains, spec.calls = [], []
     for tr in range(8):
-        spec.trains.append((100, 36, 0, [2 * tr * 8]))
-        spec.calls.append((tr, tr * 8, 0, 32))
+        spec.trains.append((100, 36, 0, [2 * tr * (n // 8)]))
+        spec.calls.append((tr, tr * (n // 8), 0, 32))
     return spec
 
 
@@ -91,11 +91,14 @@ def shut():
 
 
 def main():
-    standing = stand()
-    files = {"big_star.book": samples.spec_bytes(star()), "big_ring.book": samples.spec_bytes(ring()),
+    files = {"big_star.book": samples.spec_bytes(star()), "big_ring.book": samples.spec_bytes(ring(64)),
              "big_lanes.book": samples.spec_bytes(lanes()), "small_l.book": samples.BOOK_L,
-             "stand.book": samples.spec_bytes(standing), "stand.plan": standing_plan(standing),
              "shut.book": samples.spec_bytes(shut())}
+    for n in (8, 16, 32):
+        files["ring_%d.book" % n] = samples.spec_bytes(ring(n))
+    for n in (16, 64):
+        files["stand_%d.book" % n] = samples.spec_bytes(stand(n))
+        files["stand_%d.plan" % n] = standing_plan(stand(n))
     for name, data in files.items():
         with open(os.path.join(HERE, name), "wb") as f:
             f.write(data)

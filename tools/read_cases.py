@@ -1,5 +1,6 @@
 #!/usr/bin/env python3
-"""Make the cases of crates/read_cases: books cut, damaged, at each limit and one past it, and random ones, with the reference's answers.
+"""Make the cases of crates/read_cases: books cut, damaged field by field, at each limit and one past it, and random ones, with the
+reference's answers.
 
     read_cases.py SEED
 """
@@ -22,11 +23,30 @@ def answer(data):
     return " ".join("%03d" % count for count in counts) + "\n"
 
 
+def returning():
+    """A train whose row comes back to its first segment, every step of it joined."""
+    spec = samples.Spec(100, 10, 1)
+    spec.nodes = [1, 1]
+    spec.segments = [(0, 1, 0), (1, 0, 0)]
+    spec.joins = [(0, 0, 1), (1, 0, 1)]
+    spec.trains = [(300, 36, 0, [0, 2, 0])]
+    spec.calls = [(0, 0, 0, 1)]
+    return samples.spec_bytes(spec)
+
+
 def books(rng):
-    """Book L cut at every byte and with every byte damaged, each limit met and passed by one, then random books for ever."""
+    """Book L and a book with every kind of frame cut at every byte; L with every byte damaged, the other with every field wrong by one;
+    each limit met and passed by one; then random books for ever."""
     good = samples.BOOK_L
-    for at in range(len(good) + 1):
-        yield good[:at]
+    rich = samples.rich_spec(rng)
+    for whole in (good, samples.spec_bytes(rich)):
+        for at in range(len(whole) + 1):
+            yield whole[:at]
+    for wrong in samples.wrong_fields(rich.T):
+        frames = samples.frames_of(rich)
+        samples.put(frames, *wrong)
+        yield samples.encode(frames)
+    yield returning()
     for at in range(len(good)):
         for value in (0, 1, 255, (good[at] + 1) % 256):
             yield good[:at] + bytes([value]) + good[at + 1:]
