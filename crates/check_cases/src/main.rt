@@ -4,32 +4,30 @@
 use frames::pair;
 use libc::STDIN_FILENO;
 use printing::print;
-use verdicts::Said;
-use verdicts::assignment_text;
-use verdicts::plan_text;
+use verdicts::Check;
+use verdicts::verdict_text;
 
-fn print_case(said: Said, line: &[u8], out: &[u8]) {
-    print(line, said.len);
-    print(out, said.result);
-}
-
-// The verdict on one case, and its result.
-fn report(kind: u8, book: &[u8], second: &[u8]) {
-    let mut out = io::large_buffer();
-    let mut line = [0u8; 64];
+fn check_of(kind: u8) -> Check {
     if kind == 0 {
-        let said = assignment_text(book, second, &mut out, &mut line);
-        print_case(said, &line, &out);
+        Check::Assignment
     } else {
-        let said = plan_text(book, second, &mut out, &mut line);
-        print_case(said, &line, &out);
+        Check::Plan
     }
 }
 
+// The verdict on one case, and its result.
+fn report(check: Check, book: &[u8], second: &[u8]) {
+    let mut out = io::large_buffer();
+    let mut line = [0u8; 64];
+    let said = verdict_text(check, book, second, false, &mut out, &mut line);
+    print(&line, said.len);
+    print(&out, said.result);
+}
+
 // The same, of the first n bytes of one buffer and the first m of another.
-fn report_loaded(kind: u8, book: &[u8], n: usize, second: &[u8], m: usize) {
+fn report_loaded(check: Check, book: &[u8], n: usize, second: &[u8], m: usize) {
     if n <= book.len() && m <= second.len() {
-        report(kind, &book[..n], &second[..m]);
+        report(check, &book[..n], &second[..m]);
     }
 }
 
@@ -51,7 +49,7 @@ fn one_case() -> bool {
     let m = pair(&head, 3);
     read_part(&mut book, n);
     read_part(&mut second, m);
-    report_loaded(head[0], &book, n, &second, m);
+    report_loaded(check_of(head[0]), &book, n, &second, m);
     true
 }
 

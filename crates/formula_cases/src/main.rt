@@ -1,7 +1,7 @@
 // Reads cases from standard input, two bytes of length and a book's bytes each, and prints for each
 // what print_formula prints.
 use frames::pair;
-use printing::print_book;
+use printing::print_formula_text;
 ghost use Prim.Native.Nat.{_≤_, _<_};
 ghost use lib.ListN.{length};
 
@@ -19,7 +19,7 @@ fn one_case(s: &[u8], at: usize) -> usize
         return s.len();
     }
     let end = start + len;
-    print_book(&s[start..end]);
+    print_formula_text(&s[start..end], false);
     end
 }
 

@@ -2,25 +2,13 @@
 // a blank and its detail. A slice has at most 64 KiB: longer input is refused by 12 first.
 use libc::STDERR_FILENO;
 use libc::STDIN_FILENO;
-use printing::print_book;
-use printing::print_refusal;
+use printing::print_formula_from;
 
-// One read more tells the input's end from a failure, and from input that is too long.
 fn main() {
-    let mut book = io::large_buffer();
-    let n = io::read_full(STDIN_FILENO, &mut book);
-    let mut more = [0u8; 1];
-    let got = libc::read(STDIN_FILENO, &mut more);
-    if got < 0 {
+    if !print_formula_from(STDIN_FILENO) {
         io::write_all(
             STDERR_FILENO,
             b"print_formula: standard input can't be read\n",
         );
-        return;
-    }
-    if got == 0 {
-        print_book(&book[..n]);
-    } else {
-        print_refusal(12, 0);
     }
 }

@@ -1,6 +1,7 @@
--- The line and the words that are printed are together the specification's text: of a refusal (`refusal-text`), and of a formula
--- that was written (`formula-text`). Assumes nothing.
+-- The line and the words that are printed are together the specification's text: of a book that is too long (`long-text`), of a
+-- refusal (`refusal-text`), and of a formula that was written (`formula-text`). Assumes nothing.
 use mathlib.Core.Path.{_≡_, refl, sym, ap, ap₂, _∙_, subst}
+use mathlib.Core.Bool.{Bool, true, false}
 use Prim.Native.Nat.{ℕ, zero, suc, _+_, _≤_, _<_}
 use native.Mathlib.Nat.{zero-add}
 use native.Mathlib.Omega.{arith}
@@ -15,7 +16,7 @@ use Rattle.spec.specs.Read.{readBook}
 use Rattle.spec.specs.Instance.{Instance, instanceOf}
 use Rattle.spec.specs.Formula.{formula, variables, wordsOf, dimacsText}
 use Rattle.spec.specs.Entry.{Written, demand, readInstance, formulaWritten, writtenFor, writeFormula, wordsAfter, formulaText, formulaOutput, overwrite, written}
-use Rattle.spec.specs.Programs.{printed, refusalLine}
+use Rattle.spec.specs.Programs.{unlessLong, printed, refusalLine}
 use Rattle.laws.proofs.Tests.{leb-iff}
 use Rattle.demands.proofs.Entries.{then-accepted, then-goes, demand-iff, instance-read, read-instance}
 use Rattle.demands.proofs.Reading.{read-well-formed}
@@ -26,6 +27,7 @@ use Rattle.dimacs.proofs.Text.{text-words, taken-some, taken-le}
 use Rattle.writing.specs.declared.FormulaAnswer.{FormulaAnswer}
 use Rattle.writing.specs.declared.FormulaAnswer.the-variants.{Totals, Refused}
 use Rattle.writing.specs.FormulaAnswers.{formulaAnswer}
+use Rattle.printing.proofs.Programs.{is-long, not-long}
 
 -- ---- the line
 
@@ -55,6 +57,21 @@ pub answer-totals : (v : Verdict Written) {r : FormulaAnswer} {a c n : ℕ} → 
     → (w : Written) × (v ≡ accepted w) × (a ≡ w .variableCount) × (c ≡ w .clauseCount) × (n ≡ w .wordCount)
 answer-totals (accepted w) e h = (w, refl, cc, cc, cc)
 answer-totals (refused m d) e h = refused≢totals (sym e ∙ h)
+
+-- ---- a book that is too long, and the words of one that is not
+
+pub long-text : {long : Bool} (v : Verdict Bytes) → long ≡ true → refusalLine 12 0 ++ wordsText [] ≡ printed (λ t. t) (unlessLong long v)
+unfolding printed wordsText each
+long-text v h = append-nil (refusalLine 12 0) ∙ ap (λ (u : Verdict Bytes). printed (λ (t : Bytes). t) u) (sym (is-long v h))
+
+pub long-words : {long : Bool} (old : List ℤ) (v : Verdict Written) → long ≡ true → old ≡ wordsAfter old (unlessLong long v)
+unfolding wordsAfter andThen written overwrite
+long-words old v h = ap (wordsAfter old) (sym (is-long v h))
+
+pub output-words : {long : Bool} (s : Bytes) (old : List ℤ) → long ≡ false
+    → formulaOutput s old ≡ wordsAfter old (unlessLong long (writeFormula s (length old)))
+unfolding formulaOutput
+output-words s old h = ap (wordsAfter old) (sym (not-long (writeFormula s (length old)) h))
 
 -- ---- a refusal
 

@@ -1,6 +1,7 @@
-// What the programs print. `open_text` makes the text of a book's formula, or the line of its refusal;
-// its contract says that line and words together are the specification's text. The other functions
-// only hand bytes to the output, in pieces where the text is long.
+// What the programs take in and print. `open_text` makes the text of a book's formula, or the line of its
+// refusal, 12 first where the book is too long; its contract says that line and words together are the
+// specification's text. The other functions only read an open file, and hand bytes to the output, in
+// pieces where the text is long.
 use dimacs::put_header;
 use dimacs::put_refusal;
 use dimacs::put_words;
@@ -8,12 +9,14 @@ use libc::STDOUT_FILENO;
 use writing::FormulaAnswer;
 use writing::write_formula;
 ghost use mathlib.Core.Path.{_≡_};
+ghost use mathlib.Core.Bool.{true};
 ghost use mathlib.Core.List.{_++_};
 ghost use Prim.Native.Nat.{_≤_};
 ghost use lib.ListN.{length, take};
 ghost use lib.Seq.{sets};
-ghost use Rattle.spec.specs.Entry.{writeFormula, formulaText, formulaOutput};
-ghost use Rattle.spec.specs.Programs.{printed};
+ghost use Rattle.io.specs.Counts.{Counts};
+ghost use Rattle.spec.specs.Entry.{writeFormula, wordsAfter, formulaText};
+ghost use Rattle.spec.specs.Programs.{unlessLong, printed};
 ghost use Rattle.dimacs.specs.Text.{wordsText};
 ghost use Rattle.printing.specs.Opening.{firstLine, wordsBehind};
 
@@ -24,18 +27,25 @@ pub struct Opened {
 }
 
 // Makes the text of the formula that the book's bytes hold: its first line, or the line of the
-// refusal, in `line`, and the words whose text follows it in `words`.
-pub fn open_text(book: &[u8], words: &mut [i32], line: &mut [u8]) -> Opened
+// refusal, in `line`, and the words whose text follows it in `words`. Where the book is too long, `long`,
+// its bytes are not looked at, and the refusal is 12.
+pub fn open_text(book: &[u8], long: bool, words: &mut [i32], line: &mut [u8]) -> Opened
     requires { ⌜ length (now line) ≡ 64 ⌝ }
     ensures { λ r. ⌜ (take (r .len) (now (line .exit)) ++ wordsText (take (r .words) (now (words .exit)))
-        ≡ printed (λ t. t) (formulaText (now (book .entry)) (length (now (words .entry)))))
-        × (now (line .exit) ≡ sets (now (line .entry)) 0 (firstLine (writeFormula (now (book .entry)) (length (now (words .entry))))))
+        ≡ printed (λ t. t) (unlessLong long (formulaText (now (book .entry)) (length (now (words .entry))))))
+        × (now (line .exit) ≡ sets (now (line .entry)) 0 (firstLine (unlessLong long (writeFormula (now (book .entry)) (length (now (words .entry)))))))
         × (r .len ≤ 64)
-        × (now (words .exit) ≡ formulaOutput (now (book .entry)) (now (words .entry)))
+        × (now (words .exit) ≡ wordsAfter (now (words .entry)) (unlessLong long (writeFormula (now (book .entry)) (length (now (words .entry))))))
         × (r .words ≤ length (now (words .entry)))
-        × (r .len ≡ length (firstLine (writeFormula (now (book .entry)) (length (now (words .entry))))))
-        × (r .words ≡ wordsBehind (writeFormula (now (book .entry)) (length (now (words .entry))))) ⌝ }
+        × (r .len ≡ length (firstLine (unlessLong long (writeFormula (now (book .entry)) (length (now (words .entry)))))))
+        × (r .words ≡ wordsBehind (unlessLong long (writeFormula (now (book .entry)) (length (now (words .entry)))))) ⌝ }
 {
+    if long {
+        return Opened {
+            len: put_refusal(line, 12, 0),
+            words: 0,
+        };
+    }
     let r = write_formula(book, words);
     match r {
         FormulaAnswer::Refused(number, detail) => Opened {
@@ -50,6 +60,37 @@ pub fn open_text(book: &[u8], words: &mut [i32], line: &mut [u8]) -> Opened
             len: put_header(line, variables, clauses),
             words: n,
         },
+    }
+}
+
+// An input: how many of its bytes are at the start of a buffer, whether it is longer than the buffer,
+// and whether it could be read.
+pub struct Loaded {
+    pub len: usize,
+    pub long: bool,
+    pub read: bool,
+}
+
+// Reads an open file into the buffer. One read more tells the file's end from a failure, and a file
+// that is too long from one that ends here: that one fills the buffer, and has a byte more. A further
+// byte where the buffer is not full comes behind a read that failed.
+pub fn load_from(fd: i32, buf: &mut [u8]) -> Loaded
+    ensures { λ r. ⌜ (Counts (r .len) (now (buf .exit))) × (r .long ≡ true → r .len ≡ length (now (buf .exit))) ⌝ }
+{
+    let n = io::read_full(fd, buf);
+    let mut more = [0u8; 1];
+    let got = libc::read(fd, &mut more);
+    if 0 < got && n == buf.len() {
+        return Loaded {
+            len: n,
+            long: true,
+            read: true,
+        };
+    }
+    Loaded {
+        len: n,
+        long: false,
+        read: got == 0,
     }
 }
 
@@ -74,20 +115,26 @@ fn print_words(words: &[i32]) {
     }
 }
 
-// Prints a refusal's number, a blank and its detail, on a line.
-pub fn print_refusal(number: usize, detail: usize) {
-    let mut line = [0u8; 64];
-    let n = put_refusal(&mut line, number, detail);
-    print(&line, n);
-}
-
-// Prints the formula of the book that the bytes hold, or its refusal. The words have 64 KiB.
-pub fn print_book(book: &[u8]) {
+// Prints the formula of the book that the bytes hold, or its refusal, which is 12 where the book is too
+// long. The words have 64 KiB.
+pub fn print_formula_text(book: &[u8], long: bool) {
     let mut words = [0i32; 16384];
     let mut line = [0u8; 64];
-    let opened = open_text(book, &mut words, &mut line);
+    let opened = open_text(book, long, &mut words, &mut line);
     let n = opened.words;
     if print(&line, opened.len) {
         print_words(&words[..n]);
     }
+}
+
+// Reads a book from an open file and prints its formula, or its refusal; answers whether the book could
+// be read.
+pub fn print_formula_from(fd: i32) -> bool {
+    let mut book = io::large_buffer();
+    let loaded = load_from(fd, &mut book);
+    let n = loaded.len;
+    if loaded.read {
+        print_formula_text(&book[..n], loaded.long);
+    }
+    loaded.read
 }

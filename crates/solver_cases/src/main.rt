@@ -5,61 +5,30 @@
 use frames::pair;
 use libc::STDIN_FILENO;
 use printing::print;
-use verdicts::Said;
-use verdicts::assignment_text;
-use verdicts::plan_text;
-use verdicts::refutation_text;
+use verdicts::Check;
+use verdicts::verdict_text;
 
-fn print_case(said: Said, line: &[u8], out: &[u8]) {
-    print(line, said.len);
-    print(out, said.result);
+fn check_of(kind: u8) -> Check {
+    match kind {
+        0 => Check::Assignment,
+        1 => Check::Plan,
+        _ => Check::Refutation,
+    }
 }
 
-// The verdict on an assignment or a plan, and its result.
-fn report_result(kind: u8, book: &[u8], second: &[u8]) {
+// The verdict on one case, and its result.
+fn report(check: Check, book: &[u8], second: &[u8]) {
     let mut out = io::large_buffer();
     let mut line = [0u8; 64];
-    if kind == 0 {
-        let said = assignment_text(book, second, &mut out, &mut line);
-        print_case(said, &line, &out);
-    } else {
-        let said = plan_text(book, second, &mut out, &mut line);
-        print_case(said, &line, &out);
-    }
-}
-
-// The verdict on a refutation, with slices of 64 KiB each.
-fn report_refutation(book: &[u8], r: &[u8]) {
-    let mut words = [0i32; 16384];
-    let mut clauses = [0usize; 8192];
-    let mut values = io::large_buffer();
-    let mut trail = [0usize; 8192];
-    let mut line = [0u8; 64];
-    let said = refutation_text(
-        book,
-        r,
-        &mut words,
-        &mut clauses,
-        &mut values,
-        &mut trail,
-        &mut line,
-    );
+    let said = verdict_text(check, book, second, false, &mut out, &mut line);
     print(&line, said.len);
-}
-
-// The verdict on one case.
-fn report(kind: u8, book: &[u8], second: &[u8]) {
-    if kind == 2 {
-        report_refutation(book, second);
-    } else {
-        report_result(kind, book, second);
-    }
+    print(&out, said.result);
 }
 
 // The same, of the first n bytes of one buffer and the first m of another.
-fn report_loaded(kind: u8, book: &[u8], n: usize, second: &[u8], m: usize) {
+fn report_loaded(check: Check, book: &[u8], n: usize, second: &[u8], m: usize) {
     if n <= book.len() && m <= second.len() {
-        report(kind, &book[..n], &second[..m]);
+        report(check, &book[..n], &second[..m]);
     }
 }
 
@@ -81,7 +50,7 @@ fn one_case() -> bool {
     let m = pair(&head, 3);
     read_part(&mut book, n);
     read_part(&mut second, m);
-    report_loaded(head[0], &book, n, &second, m);
+    report_loaded(check_of(head[0]), &book, n, &second, m);
     true
 }
 

@@ -1,16 +1,18 @@
--- The line of a verdict, and the length of its result, by the answer to it. Assumes nothing.
-use mathlib.Core.Path.{_≡_, refl, sym, ap, _∙_}
-use Prim.Native.Nat.{ℕ}
+-- What is said of an answer is what is told of its verdict. Assumes nothing.
+use mathlib.Core.Path.{_≡_, refl, sym, ap, _∙_, subst}
+use Prim.Native.Nat.{ℕ, _≤_}
 use lib.ListN.{length}
 use lib.Seq.{sets}
-use Rattle.spec.specs.Lists.{Bytes, Verdict, accepted, refused}
-use Rattle.spec.specs.Entry.{written}
+use Rattle.spec.specs.Lists.{Bytes, Verdict, accepted, refused, andThen}
+use Rattle.spec.specs.Entry.{overwrite, written}
 use Rattle.spec.specs.Programs.{acceptedLine, printed}
 use Rattle.checking.specs.declared.OutputAnswer.{OutputAnswer}
 use Rattle.checking.specs.OutputAnswers.{outputAnswer}
 use Rattle.reading.specs.declared.Answer.{Answer}
 use Rattle.reading.specs.BookAnswers.{answerOf}
-use Rattle.verdicts.specs.Lines.{answerLine, resultLength, plainLine}
+use Rattle.verdicts.specs.declared.Said.{Said}
+use Rattle.verdicts.specs.Lines.{answerLine, resultLength, plainAnswer}
+use Rattle.verdicts.specs.Verdicts.{bare, Tells}
 
 line-of : (v : Verdict Bytes) → answerLine (outputAnswer v) ≡ printed (λ _. acceptedLine) v
 unfolding printed
@@ -22,34 +24,46 @@ unfolding written
 length-of (accepted xs) = refl
 length-of (refused n d) = refl
 
-module _ (v : Verdict Bytes) {answer : OutputAnswer} (e : answer ≡ outputAnswer v) where
-  same-line : answerLine answer ≡ printed (λ _. acceptedLine) v
-  same-line = ap answerLine e ∙ line-of v
+-- what `say` ensures of an answer
+abbrev pub Says : OutputAnswer → Bytes → Bytes → Said → Type 0
+Says answer before after r =
+    (after ≡ sets before 0 (answerLine answer)) × (r .len ≡ length (answerLine answer)) × (r .len ≤ 64) × (r .result ≡ resultLength answer)
 
-  -- what is printed, and how long it is
-  pub line-said : (old : Bytes) {line : Bytes} → line ≡ sets old 0 (answerLine answer) → line ≡ sets old 0 (printed (λ _. acceptedLine) v)
-  line-said old f = f ∙ ap (sets old 0) same-line
+pub tells : (v : Verdict Bytes) {answer : OutputAnswer} (before : Bytes) {after : Bytes} (r : Said)
+    → answer ≡ outputAnswer v → Says answer before after r → Tells v before after r
+tells v {answer} before r e w =
+    let same : answerLine answer ≡ printed (λ _. acceptedLine) v = ap answerLine e ∙ line-of v in
+    record
+    { text = w .0 ∙ ap (sets before 0) same
+    ; text-length = w .1 ∙ ap length same
+    ; whole = w .2
+    ; result-length = w .3 ∙ ap resultLength e ∙ length-of v }
 
-  pub length-said : {n : ℕ} → n ≡ length (answerLine answer) → n ≡ length (printed (λ _. acceptedLine) v)
-  length-said f = f ∙ ap length same-line
+-- of a verdict that is another's
+module _ {v w : Verdict Bytes} (q : w ≡ v) where
+  pub tells-same : {before after : Bytes} {r : Said} → Tells v before after r → Tells w before after r
+  tells-same {before} {after} {r} t = subst (λ (u : Verdict Bytes). Tells u before after r) (sym q) t
 
-  -- how long the result is
-  pub result-said : {n : ℕ} → n ≡ resultLength answer → n ≡ length (written v)
-  result-said f = f ∙ ap resultLength e ∙ length-of v
+  pub output-same : (old : Bytes) {new : Bytes} → new ≡ overwrite old (written v) → new ≡ overwrite old (written w)
+  output-same old e = e ∙ ap (λ (u : Verdict Bytes). overwrite old (written u)) (sym q)
+
+-- a refusal leaves the output as it is
+pub refused-output : (old : Bytes) (n d : ℕ) → old ≡ overwrite old (written {A = ℕ} (refused n d))
+unfolding overwrite written
+refused-output old n d = refl
 
 -- ---- a verdict without a result
 
-plain-of : (v : Verdict (Unit {0})) → plainLine (answerOf v) ≡ printed (λ _. acceptedLine) v
-unfolding printed
+plain-of : (v : Verdict (Unit {0})) → plainAnswer (answerOf v) ≡ outputAnswer (bare v)
+unfolding bare andThen
 plain-of (accepted u) = refl
 plain-of (refused n d) = refl
 
-module _ (v : Verdict (Unit {0})) {answer case : Answer} (e : answer ≡ answerOf v) (told : answer ≡ case) where
-  same-plain : plainLine case ≡ printed (λ _. acceptedLine) v
-  same-plain = ap plainLine (sym told ∙ e) ∙ plain-of v
+-- the answer to it is the case that it is
+pub plain-answer : (v : Verdict (Unit {0})) {answer case : Answer} → answer ≡ answerOf v → answer ≡ case → plainAnswer case ≡ outputAnswer (bare v)
+plain-answer v e told = ap plainAnswer (sym told ∙ e) ∙ plain-of v
 
-  pub plain-line : (old : Bytes) {line : Bytes} → line ≡ sets old 0 (plainLine case) → line ≡ sets old 0 (printed (λ _. acceptedLine) v)
-  plain-line old f = f ∙ ap (sets old 0) same-plain
-
-  pub plain-length : {n : ℕ} → n ≡ length (plainLine case) → n ≡ length (printed (λ _. acceptedLine) v)
-  plain-length f = f ∙ ap length same-plain
+pub bare-output : (old : Bytes) (v : Verdict (Unit {0})) → old ≡ overwrite old (written (bare v))
+unfolding bare andThen overwrite written
+bare-output old (accepted u) = refl
+bare-output old (refused n d) = refl

@@ -1,4 +1,4 @@
--- What the programs over the checks print, and how much of an output they hand on. Assumes nothing.
+-- The line of an answer, and how much of an output is its result. Assumes nothing.
 use Prim.Native.Nat.{ℕ}
 use Rattle.spec.specs.Lists.{Bytes}
 use Rattle.spec.specs.Programs.{acceptedLine, refusalLine}
@@ -17,7 +17,7 @@ abbrev pub resultLength : OutputAnswer → ℕ
 resultLength (Wrote n) = n
 resultLength (Refused n d) = 0
 
--- the line of an answer without a result
-abbrev pub plainLine : Answer → Bytes
-plainLine plain.Accepted = acceptedLine
-plainLine (plain.Refused n d) = refusalLine n d
+-- an answer without a result, as one with an empty result
+abbrev pub plainAnswer : Answer → OutputAnswer
+plainAnswer plain.Accepted = Wrote 0
+plainAnswer (plain.Refused n d) = Refused n d

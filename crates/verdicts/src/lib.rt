@@ -1,16 +1,16 @@
-// The programs over the checks: their files, and what they print. `assignment_text`, `plan_text` and
-// `refutation_text` make the line of a verdict, and the result where there is one; their contracts say
-// that these are the specification's.
-// The other functions only read files by the arguments' names, and hand bytes to the output and to a
-// file. A slice has at most 64 KiB: longer input is refused by 12 first.
+// The programs over the checks: their files, and what they print. `verdict_text` makes the line of a
+// verdict, 12 first where an input is too long, and the result where there is one; its contract says that
+// these are the specification's. The other functions only read files by the arguments' names, and hand
+// bytes to the output and to a file. A slice has at most 64 KiB.
 use checking::OutputAnswer;
 use checking::check_assignment;
 use checking::check_plan;
 use dimacs::put_bytes;
 use dimacs::put_refusal;
 use libc::STDERR_FILENO;
+use printing::Loaded;
+use printing::load_from;
 use printing::print;
-use printing::print_refusal;
 use reading::Answer;
 use refutations::check_refutation;
 ghost use mathlib.Core.Path.{_≡_};
@@ -18,10 +18,19 @@ ghost use Prim.Native.Nat.{_≤_};
 ghost use lib.ListN.{length};
 ghost use lib.Seq.{sets};
 ghost use lib.IntN.{pos};
-ghost use Rattle.spec.specs.Entry.{written, zeroed, checkAssignment, checkPlan, checkRefutation, planOutput, assignmentOutput};
-ghost use Rattle.spec.specs.Programs.{acceptedLine, printed};
+ghost use Rattle.io.specs.Counts.{Counts};
+ghost use Rattle.spec.specs.Entry.{overwrite, written, zeroed, checkAssignment, checkPlan, checkRefutation};
+ghost use Rattle.spec.specs.Programs.{programLent, unlessLong};
 ghost use Rattle.refutations.specs.Lent.{lengths};
 ghost use Rattle.verdicts.specs.Lines.{answerLine, resultLength};
+ghost use Rattle.verdicts.specs.Verdicts.{bare, verdictOf, Tells};
+
+// Which check a program makes.
+pub enum Check {
+    Assignment,
+    Plan,
+    Refutation,
+}
 
 // How many bytes are printed, and how many bytes the result has.
 pub struct Said {
@@ -30,7 +39,7 @@ pub struct Said {
 }
 
 // Stores the line of an answer.
-pub fn say(answer: OutputAnswer, line: &mut [u8]) -> Said
+fn say(answer: OutputAnswer, line: &mut [u8]) -> Said
     requires { ⌜ length (now line) ≡ 64 ⌝ }
     ensures { λ r. ⌜ (now (line .exit) ≡ sets (now (line .entry)) 0 (answerLine answer)) × (r .len ≡ length (answerLine answer))
         × (r .len ≤ 64) × (r .result ≡ resultLength answer) ⌝ }
@@ -48,26 +57,20 @@ pub fn say(answer: OutputAnswer, line: &mut [u8]) -> Said
 }
 
 // The line of the verdict on an assignment, and its plan.
-pub fn assignment_text(book: &[u8], values: &[u8], plan: &mut [u8], line: &mut [u8]) -> Said
+fn assignment_text(book: &[u8], values: &[u8], plan: &mut [u8], line: &mut [u8]) -> Said
     requires { ⌜ length (now line) ≡ 64 ⌝ }
-    ensures { λ r. ⌜ (now (line .exit) ≡ sets (now (line .entry)) 0 (printed (λ _. acceptedLine) (checkAssignment (now (book .entry)) (now (values .entry)) (length (now (plan .entry))))))
-        × (r .len ≡ length (printed (λ _. acceptedLine) (checkAssignment (now (book .entry)) (now (values .entry)) (length (now (plan .entry))))))
-        × (now (plan .exit) ≡ planOutput (now (book .entry)) (now (values .entry)) (now (plan .entry)))
-        × (r .result ≡ length (written (checkAssignment (now (book .entry)) (now (values .entry)) (length (now (plan .entry))))))
-        × (r .len ≤ 64) ⌝ }
+    ensures { λ r. ⌜ Tells (checkAssignment (now (book .entry)) (now (values .entry)) (length (now (plan .entry)))) (now (line .entry)) (now (line .exit)) r
+        × (now (plan .exit) ≡ overwrite (now (plan .entry)) (written (checkAssignment (now (book .entry)) (now (values .entry)) (length (now (plan .entry)))))) ⌝ }
 {
     let answer = check_assignment(book, values, plan);
     say(answer, line)
 }
 
 // The line of the verdict on a plan, and its assignment.
-pub fn plan_text(book: &[u8], plan: &[u8], values: &mut [u8], line: &mut [u8]) -> Said
+fn plan_text(book: &[u8], plan: &[u8], values: &mut [u8], line: &mut [u8]) -> Said
     requires { ⌜ length (now line) ≡ 64 ⌝ }
-    ensures { λ r. ⌜ (now (line .exit) ≡ sets (now (line .entry)) 0 (printed (λ _. acceptedLine) (checkPlan (now (book .entry)) (now (plan .entry)) (length (now (values .entry))))))
-        × (r .len ≡ length (printed (λ _. acceptedLine) (checkPlan (now (book .entry)) (now (plan .entry)) (length (now (values .entry))))))
-        × (now (values .exit) ≡ assignmentOutput (now (book .entry)) (now (plan .entry)) (now (values .entry)))
-        × (r .result ≡ length (written (checkPlan (now (book .entry)) (now (plan .entry)) (length (now (values .entry))))))
-        × (r .len ≤ 64) ⌝ }
+    ensures { λ r. ⌜ Tells (checkPlan (now (book .entry)) (now (plan .entry)) (length (now (values .entry)))) (now (line .entry)) (now (line .exit)) r
+        × (now (values .exit) ≡ overwrite (now (values .entry)) (written (checkPlan (now (book .entry)) (now (plan .entry)) (length (now (values .entry)))))) ⌝ }
 {
     let answer = check_plan(book, plan, values);
     say(answer, line)
@@ -84,12 +87,8 @@ pub fn refutation_text(
     line: &mut [u8],
 ) -> Said
     requires { ⌜ length (now line) ≡ 64 ⌝ }
-    ensures { λ s. ⌜ (now (line .exit) ≡ sets (now (line .entry)) 0 (printed (λ _. acceptedLine) (checkRefutation (now (book .entry)) (now (r .entry))
-        (lengths (now (words .entry)) (now (clauses .entry)) (now (values .entry)) (now (trail .entry))))))
-        × (s .len ≡ length (printed (λ _. acceptedLine) (checkRefutation (now (book .entry)) (now (r .entry))
-        (lengths (now (words .entry)) (now (clauses .entry)) (now (values .entry)) (now (trail .entry))))))
-        × (s .result ≡ 0)
-        × (s .len ≤ 64)
+    ensures { λ s. ⌜ Tells (bare (checkRefutation (now (book .entry)) (now (r .entry))
+        (lengths (now (words .entry)) (now (clauses .entry)) (now (values .entry)) (now (trail .entry))))) (now (line .entry)) (now (line .exit)) s
         × (now (words .exit) ≡ zeroed (pos 0) (length (now (words .entry))))
         × (now (clauses .exit) ≡ zeroed 0 (length (now (clauses .entry))))
         × (now (values .exit) ≡ zeroed 0 (length (now (values .entry))))
@@ -102,53 +101,72 @@ pub fn refutation_text(
     }
 }
 
-// What became of a file: its bytes are at the start of the buffer, it is longer than the buffer, or
-// it could not be read.
-enum Loaded {
-    Bytes(usize),
-    Long,
-    Unread,
+// The same, with slices of 64 KiB each.
+fn lent_refutation_text(book: &[u8], r: &[u8], line: &mut [u8]) -> Said
+    requires { ⌜ length (now line) ≡ 64 ⌝ }
+    ensures { λ s. ⌜ Tells (bare (checkRefutation (now (book .entry)) (now (r .entry)) programLent)) (now (line .entry)) (now (line .exit)) s ⌝ }
+{
+    let mut words = [0i32; 16384];
+    let mut clauses = [0usize; 8192];
+    let mut values = [0u8; 65536];
+    let mut trail = [0usize; 8192];
+    refutation_text(
+        book,
+        r,
+        &mut words,
+        &mut clauses,
+        &mut values,
+        &mut trail,
+        line,
+    )
 }
 
-// Reads an open file into the buffer. One read more tells its end from a failure.
-fn load_from(fd: i32, buf: &mut [u8]) -> Loaded {
-    let n = io::read_full(fd, buf);
-    let mut more = [0u8; 1];
-    let got = libc::read(fd, &mut more);
-    if got < 0 {
-        return Loaded::Unread;
+// What a program says of a book and a second input: the line of the verdict in `line`, and the result, if
+// there is one, at the start of `out`. Where an input is too long, `long`, neither is looked at, and the
+// refusal is 12.
+pub fn verdict_text(
+    check: Check,
+    book: &[u8],
+    second: &[u8],
+    long: bool,
+    out: &mut [u8],
+    line: &mut [u8],
+) -> Said
+    requires { ⌜ length (now line) ≡ 64 ⌝ }
+    ensures { λ r. ⌜ Tells (unlessLong long (verdictOf check (now (book .entry)) (now (second .entry)) (length (now (out .entry))))) (now (line .entry)) (now (line .exit)) r
+        × (now (out .exit) ≡ overwrite (now (out .entry)) (written (unlessLong long (verdictOf check (now (book .entry)) (now (second .entry)) (length (now (out .entry))))))) ⌝ }
+{
+    if long {
+        return say(OutputAnswer::Refused(12, 0), line);
     }
-    if got == 0 {
-        return Loaded::Bytes(n);
+    match check {
+        Check::Assignment => assignment_text(book, second, out, line),
+        Check::Plan => plan_text(book, second, out, line),
+        Check::Refutation => lent_refutation_text(book, second, line),
     }
-    Loaded::Long
 }
 
 // Reads the file that an argument names; where it can't be read, standard error says why.
-fn load(argument: usize, buf: &mut [u8]) -> Loaded {
+fn load(argument: usize, buf: &mut [u8]) -> Loaded
+    ensures { λ r. ⌜ Counts (r .len) (now (buf .exit)) ⌝ }
+{
     let mut name = io::buffer();
     let n = os::arg(argument, &mut name);
     let fd = os::open_read(&name[..n]);
     if fd < 0 {
         os::fail(&name[..n]);
-        return Loaded::Unread;
+        return Loaded {
+            len: 0,
+            long: false,
+            read: false,
+        };
     }
     let loaded = load_from(fd, buf);
-    match loaded {
-        Loaded::Bytes(m) => {
-            libc::close(fd);
-            Loaded::Bytes(m)
-        }
-        Loaded::Long => {
-            libc::close(fd);
-            Loaded::Long
-        }
-        Loaded::Unread => {
-            os::fail(&name[..n]);
-            libc::close(fd);
-            Loaded::Unread
-        }
+    if !loaded.read {
+        os::fail(&name[..n]);
     }
+    libc::close(fd);
+    loaded
 }
 
 // Writes bytes into the file that an argument names; where it can't be written, standard error says
@@ -167,11 +185,37 @@ fn save(argument: usize, bytes: &[u8]) {
     libc::close(fd);
 }
 
-// Which check a program makes.
-pub enum Check {
-    Assignment,
-    Plan,
-    Refutation,
+// Prints the line of a verdict; its result, if it has one, goes to the file that an argument names, if
+// there is such an argument.
+fn hand_out(said: Said, line: &[u8], out: &[u8], argument: usize) {
+    let n = said.result;
+    if !print(line, said.len) {
+        return;
+    }
+    if 0 < n && n <= out.len() && argument < os::arg_count() {
+        save(argument, &out[..n]);
+    }
+}
+
+// Judges the files that three arguments in a row name, the first of them given by its number: the book,
+// the second input, and the result, which may be missing. Where an input can't be read, nothing is
+// printed.
+pub fn judge_files(check: Check, first: usize)
+    requires { ⌜ first ≤ 1000000000 ⌝ }
+{
+    let mut book = io::large_buffer();
+    let mut second = io::large_buffer();
+    let a = load(first, &mut book);
+    let b = load(first + 1, &mut second);
+    if a.read && b.read {
+        let mut out = io::large_buffer();
+        let mut line = [0u8; 64];
+        let n = a.len;
+        let m = b.len;
+        let long = a.long || b.long;
+        let said = verdict_text(check, &book[..n], &second[..m], long, &mut out, &mut line);
+        hand_out(said, &line, &out, first + 2);
+    }
 }
 
 // How many arguments a program takes at most, its own name among them: a refutation has no result to
@@ -184,83 +228,12 @@ fn most_arguments(check: Check) -> usize {
     }
 }
 
-// Prints the line of a verdict; its result goes to the file that the third argument names, if there is
-// one.
-fn hand_out(said: Said, line: &[u8], out: &[u8]) {
-    let n = said.result;
-    if !print(line, said.len) {
-        return;
-    }
-    if 0 < n && n <= out.len() && os::arg_count() == 4 {
-        save(3, &out[..n]);
-    }
-}
-
-// The verdict on a refutation, with slices of 64 KiB each.
-fn judge_refutation(book: &[u8], r: &[u8]) {
-    let mut words = [0i32; 16384];
-    let mut clauses = [0usize; 8192];
-    let mut values = io::large_buffer();
-    let mut trail = [0usize; 8192];
-    let mut line = [0u8; 64];
-    let said = refutation_text(
-        book,
-        r,
-        &mut words,
-        &mut clauses,
-        &mut values,
-        &mut trail,
-        &mut line,
-    );
-    print(&line, said.len);
-}
-
-// The verdict on the second input.
-fn judge(check: Check, book: &[u8], second: &[u8]) {
-    let mut out = io::large_buffer();
-    let mut line = [0u8; 64];
-    match check {
-        Check::Assignment => {
-            let said = assignment_text(book, second, &mut out, &mut line);
-            hand_out(said, &line, &out);
-        }
-        Check::Plan => {
-            let said = plan_text(book, second, &mut out, &mut line);
-            hand_out(said, &line, &out);
-        }
-        Check::Refutation => judge_refutation(book, second),
-    }
-}
-
-// The verdict on the first n bytes of one buffer and the first m of another.
-fn judge_loaded(check: Check, book: &[u8], n: usize, second: &[u8], m: usize) {
-    if n <= book.len() && m <= second.len() {
-        judge(check, &book[..n], &second[..m]);
-    }
-}
-
-// A program: the book and the second input by the names of their files.
+// A program: it judges the files that its arguments name, or says what arguments it takes.
 pub fn run(check: Check, usage: &[u8]) {
     let names = os::arg_count();
     if names < 3 || most_arguments(check) < names {
         io::write_all(STDERR_FILENO, usage);
         return;
     }
-    let mut book = io::large_buffer();
-    let mut second = io::large_buffer();
-    let first = load(1, &mut book);
-    let other = load(2, &mut second);
-    match first {
-        Loaded::Unread => {}
-        Loaded::Long => match other {
-            Loaded::Unread => {}
-            Loaded::Long => print_refusal(12, 0),
-            Loaded::Bytes(_) => print_refusal(12, 0),
-        },
-        Loaded::Bytes(n) => match other {
-            Loaded::Unread => {}
-            Loaded::Long => print_refusal(12, 0),
-            Loaded::Bytes(m) => judge_loaded(check, &book, n, &second, m),
-        },
-    }
+    judge_files(check, 1);
 }

@@ -1,6 +1,6 @@
 -- `verdicts::refutation_text` meets its contract: the line of what the check answers, in either case. Assumes nothing.
 use borrow.Author.Needs.{needs}
-use Rattle.verdicts.proofs.Lines.{plain-line, plain-length}
+use Rattle.verdicts.proofs.Lines.{tells, plain-answer}
 use Rattle.verdicts.proofs.refutation_text.Statement.{statement}
 use Rattle.verdicts.proofs.refutation_text.Tie as tie
 
@@ -38,8 +38,7 @@ returns : tie.Need-returns
 returns c =
     let e = c .before .before .before .before .before .before .before .before .before .before .before .before .before .check-refutation .ensures in
     let told = c .before .before .before .before .enum-told .given .1 in
-    let w = c .before .before .say .ensures in
-    (plain-line _ (e .0) told _ (w .0), plain-length _ (e .0) told (w .1), w .3, w .2, e .1, e .2, e .3, e .4)
+    (tells _ _ _ (plain-answer _ (e .0) told) (c .before .before .say .ensures), e .1, e .2, e .3, e .4)
 
 same-length-6 : tie.Need-same-length-6
 same-length-6 c = search needs
@@ -60,8 +59,7 @@ returns-2 : tie.Need-returns-2
 returns-2 c =
     let e = c .before .before .before .before .before .before .before .before .before .before .before .before .before .before .check-refutation .ensures in
     let told = c .before .before .before .before .before .answer .given .1 in
-    let w = c .before .before .say2 .ensures in
-    (plain-line _ (e .0) told _ (w .0), plain-length _ (e .0) told (w .1), w .3, w .2, e .1, e .2, e .3, e .4)
+    (tells _ _ _ (plain-answer _ (e .0) told) (c .before .before .say2 .ensures), e .1, e .2, e .3, e .4)
 
 pub refutation-text-spec : {M : Type 1} → statement M
 refutation-text-spec =

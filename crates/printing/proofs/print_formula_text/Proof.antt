@@ -1,9 +1,9 @@
--- `printing::print_book` is safe: it prints no more words than there are. Assumes nothing.
+-- `printing::print_formula_text` is safe: it prints no more words than there are. Assumes nothing.
 use borrow.Author.Needs.{needs}
 use native.Mathlib.Omega.{arith}
 use lib.ListN.{length-take}
-use Rattle.printing.proofs.print_book.Statement.{statement}
-use Rattle.printing.proofs.print_book.Tie as tie
+use Rattle.printing.proofs.print_formula_text.Statement.{statement}
+use Rattle.printing.proofs.print_formula_text.Tie as tie
 
 slice-aggregate-open-text : tie.Need-slice-aggregate-open-text
 slice-aggregate-open-text c = search needs
@@ -26,7 +26,7 @@ array-share-prefix-words c = search needs
 slice-aggregate-print-words : tie.Need-slice-aggregate-print-words
 slice-aggregate-print-words c =
     let o = c .before .before .before .before .before .before .open-text in
-    omega (arith, o .ensures .4, length-take (o .result .words) (o .last .1 .0))
+    omega (arith, o .ensures .4, length-take (o .result .words) (o .last .1 .1 .0))
 
 print-words-requires : tie.Need-print-words-requires
 print-words-requires c κs = search needs
@@ -37,8 +37,8 @@ returns c = search needs
 returns-2 : tie.Need-returns-2
 returns-2 c = search needs
 
-pub print-book-spec : {M : Type 1} → statement M
-print-book-spec =
+pub print-formula-text-spec : {M : Type 1} → statement M
+print-formula-text-spec =
     tie.close
     (tie.spec
     slice-aggregate-open-text
