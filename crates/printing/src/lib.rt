@@ -71,9 +71,9 @@ pub struct Loaded {
     pub read: bool,
 }
 
-// Reads an open file into the buffer. One read more tells the file's end from a failure, and a file
-// that is too long from one that ends here: that one fills the buffer, and has a byte more. A further
-// byte where the buffer is not full comes behind a read that failed.
+// Reads an open file into the buffer. One read more tells its end from a failure: a file is too long
+// where it fills the buffer and has a byte more; a byte more behind a buffer that is not full means that
+// a read failed in between.
 pub fn load_from(fd: i32, buf: &mut [u8]) -> Loaded
     ensures { λ r. ⌜ (Counts (r .len) (now (buf .exit))) × (r .long ≡ true → r .len ≡ length (now (buf .exit))) ⌝ }
 {

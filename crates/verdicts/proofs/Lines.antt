@@ -33,11 +33,12 @@ pub tells : (v : Verdict Bytes) {answer : OutputAnswer} (before : Bytes) {after 
     → answer ≡ outputAnswer v → Says answer before after r → Tells v before after r
 tells v {answer} before r e w =
     let same : answerLine answer ≡ printed (λ _. acceptedLine) v = ap answerLine e ∙ line-of v in
-    record
-    { text = w .0 ∙ ap (sets before 0) same
-    ; text-length = w .1 ∙ ap length same
-    ; whole = w .2
-    ; result-length = w .3 ∙ ap resultLength e ∙ length-of v }
+    record {
+      text = w .0 ∙ ap (sets before 0) same;
+      text-length = w .1 ∙ ap length same;
+      whole = w .2;
+      result-length = w .3 ∙ ap resultLength e ∙ length-of v;
+    }
 
 -- of a verdict that is another's
 module _ {v w : Verdict Bytes} (q : w ≡ v) where
