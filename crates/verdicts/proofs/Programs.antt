@@ -12,7 +12,7 @@ use Rattle.verdicts.specs.declared.Check.{Check}
 use Rattle.verdicts.specs.declared.Check.the-variants.{Assignment, Plan, Refutation}
 use Rattle.verdicts.specs.Verdicts.{bare, verdictOf}
 
--- the slices that a program lends: a byte of output and a value have one byte, a word has four, an entry of the others eight
+-- the output that a program lends
 pub output-lent : 65536 ≡ sliceOf 1
 unfolding sliceOf sliceBytes
 output-lent = refl

@@ -59,8 +59,10 @@ fn say(answer: OutputAnswer, line: &mut [u8]) -> Said
 // The line of the verdict on an assignment, and its plan.
 fn assignment_text(book: &[u8], values: &[u8], plan: &mut [u8], line: &mut [u8]) -> Said
     requires { ⌜ length (now line) ≡ 64 ⌝ }
-    ensures { λ r. ⌜ Tells (checkAssignment (now (book .entry)) (now (values .entry)) (length (now (plan .entry)))) (now (line .entry)) (now (line .exit)) r
-        × (now (plan .exit) ≡ overwrite (now (plan .entry)) (written (checkAssignment (now (book .entry)) (now (values .entry)) (length (now (plan .entry)))))) ⌝ }
+    ensures { λ r. ⌜ Tells (checkAssignment (now (book .entry)) (now (values .entry)) (length (now (plan .entry))))
+        (now (line .entry)) (now (line .exit)) r
+        × (now (plan .exit) ≡ overwrite (now (plan .entry))
+        (written (checkAssignment (now (book .entry)) (now (values .entry)) (length (now (plan .entry)))))) ⌝ }
 {
     let answer = check_assignment(book, values, plan);
     say(answer, line)
@@ -69,8 +71,10 @@ fn assignment_text(book: &[u8], values: &[u8], plan: &mut [u8], line: &mut [u8])
 // The line of the verdict on a plan, and its assignment.
 fn plan_text(book: &[u8], plan: &[u8], values: &mut [u8], line: &mut [u8]) -> Said
     requires { ⌜ length (now line) ≡ 64 ⌝ }
-    ensures { λ r. ⌜ Tells (checkPlan (now (book .entry)) (now (plan .entry)) (length (now (values .entry)))) (now (line .entry)) (now (line .exit)) r
-        × (now (values .exit) ≡ overwrite (now (values .entry)) (written (checkPlan (now (book .entry)) (now (plan .entry)) (length (now (values .entry)))))) ⌝ }
+    ensures { λ r. ⌜ Tells (checkPlan (now (book .entry)) (now (plan .entry)) (length (now (values .entry))))
+        (now (line .entry)) (now (line .exit)) r
+        × (now (values .exit) ≡ overwrite (now (values .entry))
+        (written (checkPlan (now (book .entry)) (now (plan .entry)) (length (now (values .entry)))))) ⌝ }
 {
     let answer = check_plan(book, plan, values);
     say(answer, line)
@@ -133,8 +137,10 @@ pub fn verdict_text(
     line: &mut [u8],
 ) -> Said
     requires { ⌜ length (now line) ≡ 64 ⌝ }
-    ensures { λ r. ⌜ Tells (unlessLong long (verdictOf check (now (book .entry)) (now (second .entry)) (length (now (out .entry))))) (now (line .entry)) (now (line .exit)) r
-        × (now (out .exit) ≡ overwrite (now (out .entry)) (written (unlessLong long (verdictOf check (now (book .entry)) (now (second .entry)) (length (now (out .entry))))))) ⌝ }
+    ensures { λ r. ⌜ Tells (unlessLong long (verdictOf check (now (book .entry)) (now (second .entry)) (length (now (out .entry)))))
+        (now (line .entry)) (now (line .exit)) r
+        × (now (out .exit) ≡ overwrite (now (out .entry))
+        (written (unlessLong long (verdictOf check (now (book .entry)) (now (second .entry)) (length (now (out .entry))))))) ⌝ }
 {
     if long {
         return say(OutputAnswer::Refused(12, 0), line);

@@ -6,13 +6,12 @@ use mathlib.Core.Bool.{Bool, false}
 use Prim.Native.Nat.{ℕ}
 use denote.Ref.{now}
 use lib.ListN.{length}
-use Rattle.spec.specs.Lists.{Bytes, Verdict, refused}
-use Rattle.spec.specs.Entry.{checkAssignment, checkPlan, checkRefutation}
+use Rattle.spec.specs.Lists.{Bytes, refused}
+use Rattle.spec.specs.Entry.{checkRefutation}
 use Rattle.spec.specs.Programs.{programLent, unlessLong}
 use Rattle.printing.proofs.Programs.{is-long, not-long}
 use Rattle.verdicts.specs.declared.Check.{Check}
-use Rattle.verdicts.specs.declared.Check.the-variants.{Assignment, Plan, Refutation}
-use Rattle.verdicts.specs.Verdicts.{bare, verdictOf}
+use Rattle.verdicts.specs.Verdicts.{verdictOf}
 use Rattle.verdicts.proofs.Lines.{tells, tells-same, output-same, refused-output, bare-output}
 use Rattle.verdicts.proofs.verdict_text.Statement.{statement}
 use Rattle.verdicts.proofs.verdict_text.Tie as tie
