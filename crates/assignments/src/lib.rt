@@ -3,7 +3,7 @@
 use checks::all_below;
 use formula::walk_formula;
 use model::Book;
-use numbering::first_variable;
+use numbering::variable_count;
 use reading::Answer;
 ghost use mathlib.Core.Path.{_≡_};
 ghost use Rattle.spec.specs.Instance.{instanceOf};
@@ -19,7 +19,7 @@ fn assignment_fits(b: Book, runs: [usize; 8], values: &[u8]) -> bool
     requires { ⌜ Counted b runs ⌝ }
     ensures { λ r. ⌜ r ≡ assignmentFits (instanceOf (held b)) (now (values .entry)) ⌝ }
 {
-    values.len() == first_variable(b, runs, b.train_count) && all_below(values, 0, 2)
+    values.len() == variable_count(b, runs) && all_below(values, 0, 2)
 }
 
 // The verdict on an assignment, by the tables of a book.

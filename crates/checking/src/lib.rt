@@ -5,13 +5,18 @@
 use assignments::judge_assignment;
 use decoding::decode;
 use encoding::encode;
+use meets::MEET_BYTES;
 use meets::list_meets;
 use model::Book;
-use numbering::first_variable;
+use model::MAX_SEGMENTS;
+use moves::plan_length;
+use numbering::variable_count;
 use plans::judge_plan;
 use reading::Answer;
 use reading::read_book;
 use sections::label_sections;
+use tables::ALL_BYTES;
+use tables::ALL_RUNS;
 use tables::chain_trains;
 use tables::fill_runs;
 ghost use mathlib.Core.Path.{_≡_};
@@ -52,7 +57,7 @@ fn decode_by(
     ensures { λ r. ⌜ (r ≡ outputAnswer (decodedFor (instanceOf (held b)) (now (values .entry)) (length (now (out .entry)))))
         × (now (out .exit) ≡ overwrite (now (out .entry)) (written (decodedFor (instanceOf (held b)) (now (values .entry)) (length (now (out .entry)))))) ⌝ }
 {
-    let length = b.node_count + b.train_count * (b.intervals * 2);
+    let length = plan_length(b);
     if out.len() < length {
         return OutputAnswer::Refused(12, 0);
     }
@@ -72,11 +77,11 @@ fn decode_for(b: Book, values: &[u8], out: &mut [u8]) -> OutputAnswer
     ensures { λ r. ⌜ (r ≡ outputAnswer (decodedFor (instanceOf (held b)) (now (values .entry)) (length (now (out .entry)))))
         × (now (out .exit) ≡ overwrite (now (out .entry)) (written (decodedFor (instanceOf (held b)) (now (values .entry)) (length (now (out .entry)))))) ⌝ }
 {
-    let mut rows = [0u8; 32768];
-    let mut sizes = [0u8; 2048];
-    let mut firsts = [0usize; 2048];
-    let mut nexts = [0usize; 2048];
-    let mut meets = [0u8; 24192];
+    let mut rows = [0u8; ALL_BYTES];
+    let mut sizes = [0u8; ALL_RUNS];
+    let mut firsts = [0usize; ALL_RUNS];
+    let mut nexts = [0usize; ALL_RUNS];
+    let mut meets = [0u8; MEET_BYTES];
     let runs = fill_runs(b, &mut rows, &mut sizes);
     chain_trains(b, runs, &rows, &sizes, &mut firsts, &mut nexts);
     let end = list_meets(b, &mut meets);
@@ -123,7 +128,7 @@ fn write_plan(
         × (variables (instanceOf (held b)) ≤ length (now out)) ⌝ }
     ensures { λ _. ⌜ now (out .exit) ≡ overwrite (now (out .entry)) (assignment.encode (instanceOf (held b)) (planOf (instanceOf (held b)) (now (plan .entry)))) ⌝ }
 {
-    let mut labels = [0usize; 64];
+    let mut labels = [0usize; MAX_SEGMENTS];
     label_sections(b, meets, end, plan, &mut labels);
     encode(b, runs, rows, sizes, &labels, plan, out);
 }
@@ -143,7 +148,7 @@ fn encode_by(
     ensures { λ r. ⌜ (r ≡ outputAnswer (encodedFor (instanceOf (held b)) (now (plan .entry)) (length (now (out .entry)))))
         × (now (out .exit) ≡ overwrite (now (out .entry)) (written (encodedFor (instanceOf (held b)) (now (plan .entry)) (length (now (out .entry)))))) ⌝ }
 {
-    let length = first_variable(b, runs, b.train_count);
+    let length = variable_count(b, runs);
     if out.len() < length {
         return OutputAnswer::Refused(12, 0);
     }
@@ -163,9 +168,9 @@ fn encode_for(b: Book, plan: &[u8], out: &mut [u8]) -> OutputAnswer
     ensures { λ r. ⌜ (r ≡ outputAnswer (encodedFor (instanceOf (held b)) (now (plan .entry)) (length (now (out .entry)))))
         × (now (out .exit) ≡ overwrite (now (out .entry)) (written (encodedFor (instanceOf (held b)) (now (plan .entry)) (length (now (out .entry)))))) ⌝ }
 {
-    let mut rows = [0u8; 32768];
-    let mut sizes = [0u8; 2048];
-    let mut meets = [0u8; 24192];
+    let mut rows = [0u8; ALL_BYTES];
+    let mut sizes = [0u8; ALL_RUNS];
+    let mut meets = [0u8; MEET_BYTES];
     let runs = fill_runs(b, &mut rows, &mut sizes);
     let end = list_meets(b, &mut meets);
     encode_by(b, runs, &rows, &sizes, &meets, end, plan, out)

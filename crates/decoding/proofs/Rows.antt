@@ -1,26 +1,22 @@
 -- Rows of one length that are stored one behind another; and the parts of a decoded plan as such rows. Assumes nothing.
 use mathlib.Core.Path.{_≡_, refl, sym, ap, ap₂, _∙_}
-use Prim.Native.Nat.{ℕ, suc, _+_, _*_, _≤_, _<_}
-use native.Mathlib.Nat.{zero-add, mul-le-mul-right, suc-mul}
+use Prim.Native.Nat.{ℕ, _+_, _*_, _≤_}
+use native.Mathlib.Nat.{zero-add}
 use native.Mathlib.Omega.{arith}
 use mathlib.Core.List.{_++_}
 use lib.ListN.{length, drop, length-map}
 use lib.Seq.{sets, length-sets, sets-eq}
-use Rattle.model.specs.declared.Book.{Book as BookStruct}
 use Rattle.spec.specs.Lists.{Bytes, upTo, count, each}
 use Rattle.spec.specs.Numbers.{littleEndian}
-use Rattle.spec.specs.Instance.{Instance, instanceOf}
+use Rattle.spec.specs.Instance.{Instance}
 use Rattle.spec.specs.Formula.{base, runVar, goneVar}
 use Rattle.spec.specs.Plan.{bit, moveCode, planBytes, planLength}
 use Rattle.spec.specs.Assignment.{assigned, decoded, decode}
 use Rattle.spec.specs.Entry.{overwrite}
-use Rattle.spec.specs.Held.{held}
 use Rattle.laws.proofs.Numbers.{length-littleEndian}
 use Rattle.laws.proofs.Parts.{length-each, sum-constant, length-upTo, each-same}
 use Rattle.demands.proofs.Encoding.{length-plan}
 use Rattle.listing.proofs.Lists.{sets-append, each-next}
-use Rattle.tables.specs.Tables.{Passed}
-use Rattle.moves.proofs.Places.{length-is}
 use Rattle.decoding.specs.Decoded.{borderBytes, codeOf, trainBytes}
 
 -- ---- rows of w bytes each
@@ -85,21 +81,14 @@ module _ (I : Instance) (s : Bytes) where
   long = length-plan I (decoded I (assigned s))
 
   -- the borders at the start and the trains' bytes behind them are the plan, over what was there
-  pub plan-stored : (old : Bytes) {after out : Bytes} {nodes i : ℕ} → planLength I ≤ length old → after ≡ sets old 0 (borderBytes I s)
-      → Rows (trainBytes I s) after nodes i out → nodes ≡ I .nodes → i ≡ I .trains → out ≡ overwrite old (decode I s)
+  pub plan-stored : (old : Bytes) {after out : Bytes} {i : ℕ} → planLength I ≤ length old → after ≡ sets old 0 (borderBytes I s)
+      → Rows (trainBytes I s) after (I .nodes) i out → i ≡ I .trains → out ≡ overwrite old (decode I s)
   unfolding overwrite
-  plan-stored old {after} {out} {nodes} {i} fits first behind place done =
+  plan-stored old {after} {out} {i} fits first behind done =
       let rows = each (upTo (I .trains)) (trainBytes I s) in
       rows-all behind done
-      ∙ ap₂ (λ (l : Bytes) (k : ℕ). sets l k rows) first (place ∙ sym borders-length ∙ sym (zero-add _))
+      ∙ ap₂ (λ (l : Bytes) (k : ℕ). sets l k rows) first (sym borders-length ∙ sym (zero-add _))
       ∙ sym (sets-append old 0 (borderBytes I s) rows)
       ∙ ap (sets old 0) (sym parts)
       ∙ sets-eq (decode I s) old 0 (omega (arith, long))
       ∙ ap (λ (k : ℕ). decode I s ++ drop k old) (zero-add (length (decode I s)))
-
--- a train's bytes lie inside the plan
-pub train-fits : (b : BookStruct) (p : Passed b) (i : ℕ) → i < b .«train_count»
-    → b .«node_count» + i * (b .intervals * 2) + b .intervals * 2 ≤ planLength (instanceOf (held b))
-train-fits b p i known =
-    let turn : suc i * (b .intervals * 2) ≤ b .«train_count» * (b .intervals * 2) = mul-le-mul-right (b .intervals * 2) known in
-    omega (arith, length-is b p, suc-mul i (b .intervals * 2))

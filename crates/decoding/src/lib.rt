@@ -5,15 +5,17 @@ use clauses::value;
 use model::Book;
 use moves::ABSENT;
 use moves::GONE;
+use moves::move_place;
 use numbering::base_from;
 use numbering::first_variable;
+use numbering::gone_variable;
 ghost use mathlib.Core.Path.{_≡_};
-ghost use Prim.Native.Nat.{_+_, _*_, _≤_, _<_};
+ghost use Prim.Native.Nat.{_+_, _≤_, _<_};
 ghost use lib.ListN.{length};
 ghost use lib.Seq.{sets};
 ghost use Rattle.spec.specs.Numbers.{littleEndian};
 ghost use Rattle.spec.specs.Instance.{instanceOf};
-ghost use Rattle.spec.specs.Plan.{planLength};
+ghost use Rattle.spec.specs.Plan.{moveAt, planLength};
 ghost use Rattle.spec.specs.Assignment as assignment;
 ghost use Rattle.spec.specs.Assignment.{assigned};
 ghost use Rattle.spec.specs.Entry.{overwrite};
@@ -38,7 +40,7 @@ fn first_run(values: &[u8], base: usize, n: usize) -> usize
 }
 
 // The plan's number of an interval whose first variable is `base`, of a train with n runs: the run's,
-// or the one for gone, whose variable is the one behind the runs', or for absent.
+// or the one for gone, or for absent.
 fn code_of(values: &[u8], base: usize, n: usize) -> usize
     requires { ⌜ (base < 800000000) × (n ≤ 256) ⌝ }
     ensures { λ r. ⌜ (r ≡ codeOf (now (values .entry)) base n) × (r < 65536) ⌝ }
@@ -47,7 +49,7 @@ fn code_of(values: &[u8], base: usize, n: usize) -> usize
     if r < n {
         return r;
     }
-    if value(values, base + n) {
+    if value(values, gone_variable(base, n)) {
         return GONE;
     }
     ABSENT
@@ -62,10 +64,10 @@ fn put_code(out: &mut [u8], at: usize, code: usize)
     out[at + 1] = (code / 256) as u8;
 }
 
-// Stores the numbers of a train's intervals, from `at` on.
-fn decode_train(b: Book, runs: [usize; 8], train: usize, values: &[u8], out: &mut [u8], at: usize)
-    requires { ⌜ Counted b runs × (train < b .«train_count») × (at + b .intervals * 2 ≤ length (now out)) ⌝ }
-    ensures { λ _. ⌜ now (out .exit) ≡ sets (now (out .entry)) at (trainBytes (instanceOf (held b)) (now (values .entry)) train) ⌝ }
+// Stores the numbers of a train's intervals, each in its place of the plan.
+fn decode_train(b: Book, runs: [usize; 8], train: usize, values: &[u8], out: &mut [u8])
+    requires { ⌜ Counted b runs × (train < b .«train_count») × (planLength (instanceOf (held b)) ≤ length (now out)) ⌝ }
+    ensures { λ _. ⌜ now (out .exit) ≡ sets (now (out .entry)) (moveAt (instanceOf (held b)) train 0) (trainBytes (instanceOf (held b)) (now (values .entry)) train) ⌝ }
 {
     let first = first_variable(b, runs, train);
     let intervals = b.intervals;
@@ -75,7 +77,7 @@ fn decode_train(b: Book, runs: [usize; 8], train: usize, values: &[u8], out: &mu
     while interval < intervals {
         let base = base_from(first, n, segments, interval);
         let code = code_of(values, base, n);
-        put_code(out, at + interval * 2, code);
+        put_code(out, move_place(b, train, interval), code);
         interval += 1;
     }
 }
@@ -100,11 +102,9 @@ pub fn decode(b: Book, runs: [usize; 8], values: &[u8], out: &mut [u8])
 {
     decode_borders(b, values, out);
     let trains = b.train_count;
-    let nodes = b.node_count;
-    let span = b.intervals * 2;
     let mut train = 0;
     while train < trains {
-        decode_train(b, runs, train, values, out, nodes + train * span);
+        decode_train(b, runs, train, values, out);
         train += 1;
     }
 }

@@ -1,12 +1,15 @@
-// A plan written as an assignment: a byte 0 or 1 a variable, one behind the other. A train claims
-// exactly the sections that its run touches: the run's labels are marked, and a segment is claimed
-// where its label is. Assumes nothing.
+// A plan written as an assignment: a byte 0 or 1 a variable, each at its variable's number. A train
+// claims exactly the sections that its run touches: the run's labels are marked, and a segment is
+// claimed where its label is. Assumes nothing.
 use apart::mark;
 use apart::row_of;
 use model::Book;
 use moves::Move;
 use moves::is_gone;
 use moves::move_at;
+use numbering::claims_from;
+use numbering::gone_variable;
+use numbering::next_interval;
 ghost use mathlib.Core.Path.{_≡_};
 ghost use mathlib.Core.List.{map};
 ghost use Prim.Native.Nat.{ℕ, _+_, _≤_, _<_};
@@ -47,7 +50,8 @@ fn is_run(m: Move, r: usize) -> bool
     }
 }
 
-// Writes a byte for each of n runs, 1 for the one that the move is, and gone's byte, from `at` on.
+// Writes a byte for each of n runs, 1 for the one that the move is, and gone's byte, from `at` on, the
+// interval's first variable.
 fn write_move(m: Move, n: usize, at: usize, out: &mut [u8])
     requires { ⌜ at + n + 1 ≤ length (now out) ⌝ }
     ensures { λ _. ⌜ now (out .exit) ≡ sets (now (out .entry)) at (moveBytes (heldMove m) n) ⌝ }
@@ -57,7 +61,8 @@ fn write_move(m: Move, n: usize, at: usize, out: &mut [u8])
         out[at + r] = if is_run(m, r) { 1 } else { 0 };
         r += 1;
     }
-    out[at + n] = if is_gone(m) { 1 } else { 0 };
+    let gone = gone_variable(at, n);
+    out[gone] = if is_gone(m) { 1 } else { 0 };
 }
 
 // Writes a byte for each of the first n segments from `at` on: 1 where its label is marked.
@@ -74,7 +79,7 @@ fn write_marked(labels: &[usize], marks: &[u8; 64], n: usize, at: usize, out: &m
     }
 }
 
-// Writes the bytes of a train's interval from `at` on; answers where they end.
+// Writes the bytes of a train's interval from `at` on, its first variable; answers where they end.
 fn write_interval(
     b: Book,
     runs: [usize; 8],
@@ -99,9 +104,8 @@ fn write_interval(
     write_move(m, n, at, out);
     let mut marks = [0u8; 64];
     mark(labels, rows, row_of(m, sizes, train), &mut marks);
-    let claims = at + n + 1;
-    write_marked(labels, &marks, segments, claims, out);
-    claims + segments
+    write_marked(labels, &marks, segments, claims_from(at, n), out);
+    next_interval(at, n, segments)
 }
 
 // Writes the bytes of a train from `at` on; answers where they end.

@@ -1,7 +1,6 @@
 // The families of the formula, each over the walk of `clauses`: one function a family and interval of
 // a train, whatever the walk does with its words. `base` is the first variable of the train's
-// interval, n the number of its runs; gone is at base + n, the claims from base + n + 1 on. Assumes
-// nothing.
+// interval, n the number of its runs; `numbering` says where gone and the claims lie. Assumes nothing.
 use clauses::Walk;
 use clauses::affirm;
 use clauses::affirm_if;
@@ -18,6 +17,8 @@ use clauses::unit_not;
 use clauses::unit_not_if;
 use model::Book;
 use model::Call;
+use numbering::claims_from;
+use numbering::gone_variable;
 use places::end_of;
 use places::goal;
 use places::is_given;
@@ -105,7 +106,7 @@ pub fn rows_d(
         next = unit_not_if(next, !given, base + k, values, out);
         k += 1;
     }
-    unit_not(next, base + n, values, out)
+    unit_not(next, gone_variable(base, n), values, out)
 }
 
 // E: the literals of the runs that may follow run r, whose variables lie from `base` on: those that
@@ -158,7 +159,7 @@ fn clause_e(
 {
     let first = deny(w, base + r, values, out);
     let runs = followers(first, after, n, r, firsts, nexts, values, out);
-    let all = affirm_if(runs, leaves, after + n, values, out);
+    let all = affirm_if(runs, leaves, gone_variable(after, n), values, out);
     close(all, values, out)
 }
 
@@ -191,7 +192,9 @@ pub fn rows_e(
         next = clause_e(next, base, after, n, r, leaves, firsts, nexts, values, out);
         r += 1;
     }
-    implies(next, base + n, after + n, values, out)
+    let gone = gone_variable(base, n);
+    let gone_after = gone_variable(after, n);
+    implies(next, gone, gone_after, values, out)
 }
 
 // F: the literals of the runs of an interval that serve the call.
@@ -243,17 +246,13 @@ fn claims_of(
         (wordsOf (map (λ s. not′ (base + r) ∷ one (is (base + (n + 1 + s)))) (map segmentOf (placeAt (now (rows .entry)) at size))))
         w (now (out .entry)) v (now (out .exit)) ⌝ }
 {
+    let claims = claims_from(base, n);
     let end = at + size;
     let mut next = w;
     let mut k = at;
     while k < end {
-        next = implies(
-            next,
-            base + r,
-            base + (n + 1 + wide(rows[k]) / 2),
-            values,
-            out,
-        );
+        let claim = claims + wide(rows[k]) / 2;
+        next = implies(next, base + r, claim, values, out);
         k += 1;
     }
     next
@@ -312,7 +311,7 @@ pub fn rows_h(
         × (end ≤ length (now meets)) × (take end (now meets) ≡ meetBytes (instanceOf (held b))) ⌝ }
     ensures { λ r. ⌜ Walks (now (values .entry)) (wordsOf (rowsH (instanceOf (held b)) train base)) w (now (out .entry)) r (now (out .exit)) ⌝ }
 {
-    let claims = base + (n + 1);
+    let claims = claims_from(base, n);
     let mut next = w;
     let mut at = 0;
     while at + 2 < end {

@@ -14,20 +14,24 @@ use families::rows_g;
 use families::rows_h;
 use families::rows_i;
 use families::servers;
+use listing::TRAIN_BYTES;
 use model::Book;
 use model::Call;
+use model::MAX_RUNS;
 use numbering::base_from;
 use numbering::first_claim;
 use numbering::first_variable;
-use places::given_serves;
+use numbering::next_interval;
 use places::in_window;
+use places::served_at_departure;
 use tables::call_at;
 use track::length_in_segments;
 ghost use mathlib.Core.Path.{_≡_};
+ghost use mathlib.Core.List.{_++_};
 ghost use Prim.Native.Nat.{_≤_, _<_};
 ghost use Rattle.spec.specs.Lists.{upTo, each};
 ghost use Rattle.spec.specs.Instance.{instanceOf, callAt, trainLength};
-ghost use Rattle.spec.specs.Formula.{familyF, familyI, formula, wordsOf};
+ghost use Rattle.spec.specs.Formula.{familyB, familyC, familyD, familyE, familyF, familyG, familyH, familyI, formula, wordsOf};
 ghost use Rattle.spec.specs.Held.{held};
 ghost use Rattle.clauses.specs.Walked.{Walks, start};
 ghost use Rattle.tables.specs.Tables.{Passed};
@@ -99,7 +103,7 @@ fn interval_rows(
         × ChainsHeld (held b) train (now firsts) (now nexts) × MeetsReady b (now meets) end ⌝ }
     ensures { λ r. ⌜ Walks (now (values .entry)) (wordsOf (rowsOf (instanceOf (held b)) family train base)) w (now (out .entry)) r (now (out .exit)) ⌝ }
 {
-    let after = base + (n + 1 + b.segment_count);
+    let after = next_interval(base, n, b.segment_count);
     match family {
         Family::B => rows_b(w, base, n, values, out),
         Family::C => rows_c(w, base, n, values, out),
@@ -196,8 +200,8 @@ fn by_train(
     let mut next = w;
     let mut i = 0;
     while i < trains {
-        let row = i * 4096;
-        let at = i * 256;
+        let row = i * TRAIN_BYTES;
+        let at = i * MAX_RUNS;
         next = train_rows(
             family,
             b,
@@ -205,10 +209,10 @@ fn by_train(
             runs[i],
             first_variable(b, runs, i),
             next,
-            &rows[row..row + 4096],
-            &sizes[at..at + 256],
-            &firsts[at..at + 256],
-            &nexts[at..at + 256],
+            &rows[row..row + TRAIN_BYTES],
+            &sizes[at..at + MAX_RUNS],
+            &firsts[at..at + MAX_RUNS],
+            &nexts[at..at + MAX_RUNS],
             meets,
             end,
             values,
@@ -279,8 +283,7 @@ fn call_clause(
     ensures { λ r. ⌜ Walks (now (values .entry)) (wordsOf (callRows (instanceOf (held b)) train number)) w (now (out .entry)) r (now (out .exit)) ⌝ }
 {
     let c = call_at(b, train, number);
-    let t = b.trains[train];
-    if in_window(c, t.departure) && given_serves(b, c, t) {
+    if served_at_departure(b, c, b.trains[train]) {
         return w;
     }
     let all = call_runs(b, train, number, c, n, first, w, rows, sizes, values, out);
@@ -329,16 +332,16 @@ fn family_f(
     let mut next = w;
     let mut i = 0;
     while i < trains {
-        let row = i * 4096;
-        let at = i * 256;
+        let row = i * TRAIN_BYTES;
+        let at = i * MAX_RUNS;
         next = train_calls(
             b,
             i,
             runs[i],
             first_variable(b, runs, i),
             next,
-            &rows[row..row + 4096],
-            &sizes[at..at + 256],
+            &rows[row..row + TRAIN_BYTES],
+            &sizes[at..at + MAX_RUNS],
             values,
             out,
         );
@@ -415,10 +418,11 @@ fn family_i(b: Book, runs: [usize; 8], w: Walk, values: &[u8], out: &mut [i32]) 
     next
 }
 
-// The whole formula: what the walk passed, and the output.
-pub fn walk_formula(
+// B, C and D: where a train is before its departure, from it on, and at it.
+fn families_b_to_d(
     b: Book,
     runs: [usize; 8],
+    w: Walk,
     rows: &[u8],
     sizes: &[u8],
     firsts: &[usize],
@@ -429,14 +433,13 @@ pub fn walk_formula(
     out: &mut [i32],
 ) -> Walk
     requires { ⌜ RunsReady b runs (now rows) (now sizes) × ChainsReady b (now firsts) (now nexts) × MeetsReady b (now meets) end ⌝ }
-    ensures { λ r. ⌜ Walks (now (values .entry)) (wordsOf (formula (instanceOf (held b)))) start (now (out .entry)) r (now (out .exit)) ⌝ }
+    ensures { λ r. ⌜ Walks (now (values .entry)) (wordsOf (familyB (instanceOf (held b)) ++ (familyC (instanceOf (held b)) ++ familyD (instanceOf (held b))))) w (now (out .entry)) r (now (out .exit)) ⌝ }
 {
-    let wa = family_a(b, begin(), values, out);
     let wb = by_train(
         Family::B,
         b,
         runs,
-        wa,
+        w,
         rows,
         sizes,
         firsts,
@@ -460,7 +463,7 @@ pub fn walk_formula(
         values,
         out,
     );
-    let wd = by_train(
+    by_train(
         Family::D,
         b,
         runs,
@@ -473,12 +476,31 @@ pub fn walk_formula(
         end,
         values,
         out,
-    );
+    )
+}
+
+// E and F: how a train goes on from interval to interval, and its calls.
+fn families_e_and_f(
+    b: Book,
+    runs: [usize; 8],
+    w: Walk,
+    rows: &[u8],
+    sizes: &[u8],
+    firsts: &[usize],
+    nexts: &[usize],
+    meets: &[u8],
+    end: usize,
+    values: &[u8],
+    out: &mut [i32],
+) -> Walk
+    requires { ⌜ RunsReady b runs (now rows) (now sizes) × ChainsReady b (now firsts) (now nexts) × MeetsReady b (now meets) end ⌝ }
+    ensures { λ r. ⌜ Walks (now (values .entry)) (wordsOf (familyE (instanceOf (held b)) ++ familyF (instanceOf (held b)))) w (now (out .entry)) r (now (out .exit)) ⌝ }
+{
     let we = by_train(
         Family::E,
         b,
         runs,
-        wd,
+        w,
         rows,
         sizes,
         firsts,
@@ -488,12 +510,31 @@ pub fn walk_formula(
         values,
         out,
     );
-    let wf = family_f(b, runs, we, rows, sizes, values, out);
+    family_f(b, runs, we, rows, sizes, values, out)
+}
+
+// G, H and I: the claims.
+fn families_g_to_i(
+    b: Book,
+    runs: [usize; 8],
+    w: Walk,
+    rows: &[u8],
+    sizes: &[u8],
+    firsts: &[usize],
+    nexts: &[usize],
+    meets: &[u8],
+    end: usize,
+    values: &[u8],
+    out: &mut [i32],
+) -> Walk
+    requires { ⌜ RunsReady b runs (now rows) (now sizes) × ChainsReady b (now firsts) (now nexts) × MeetsReady b (now meets) end ⌝ }
+    ensures { λ r. ⌜ Walks (now (values .entry)) (wordsOf (familyG (instanceOf (held b)) ++ (familyH (instanceOf (held b)) ++ familyI (instanceOf (held b))))) w (now (out .entry)) r (now (out .exit)) ⌝ }
+{
     let wg = by_train(
         Family::G,
         b,
         runs,
-        wf,
+        w,
         rows,
         sizes,
         firsts,
@@ -518,4 +559,62 @@ pub fn walk_formula(
         out,
     );
     family_i(b, runs, wh, values, out)
+}
+
+// The whole formula: what the walk passed, and the output.
+pub fn walk_formula(
+    b: Book,
+    runs: [usize; 8],
+    rows: &[u8],
+    sizes: &[u8],
+    firsts: &[usize],
+    nexts: &[usize],
+    meets: &[u8],
+    end: usize,
+    values: &[u8],
+    out: &mut [i32],
+) -> Walk
+    requires { ⌜ RunsReady b runs (now rows) (now sizes) × ChainsReady b (now firsts) (now nexts) × MeetsReady b (now meets) end ⌝ }
+    ensures { λ r. ⌜ Walks (now (values .entry)) (wordsOf (formula (instanceOf (held b)))) start (now (out .entry)) r (now (out .exit)) ⌝ }
+{
+    let wa = family_a(b, begin(), values, out);
+    let wd = families_b_to_d(
+        b,
+        runs,
+        wa,
+        rows,
+        sizes,
+        firsts,
+        nexts,
+        meets,
+        end,
+        values,
+        out,
+    );
+    let wf = families_e_and_f(
+        b,
+        runs,
+        wd,
+        rows,
+        sizes,
+        firsts,
+        nexts,
+        meets,
+        end,
+        values,
+        out,
+    );
+    families_g_to_i(
+        b,
+        runs,
+        wf,
+        rows,
+        sizes,
+        firsts,
+        nexts,
+        meets,
+        end,
+        values,
+        out,
+    )
 }

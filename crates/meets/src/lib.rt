@@ -2,6 +2,7 @@
 // each ordered pair of segments of one TTD that touch a node, filled once a book. Family H goes by
 // it, train by train and interval by interval. Assumes nothing.
 use model::Book;
+use model::MAX_SEGMENTS;
 use track::meet;
 use track::touches;
 ghost use mathlib.Core.Path.{_≡_};
@@ -11,6 +12,10 @@ ghost use lib.Seq.{sets};
 ghost use Rattle.spec.specs.Instance.{instanceOf};
 ghost use Rattle.spec.specs.Held.{held, CountsFit};
 ghost use Rattle.meets.specs.Meets.{meetsOf, meetsAt, meetBytes};
+
+// Three bytes for each ordered pair of segments that meet at a node: a segment has two nodes, and meets
+// at most all others at each.
+pub const MEET_BYTES: usize = 3 * 2 * MAX_SEGMENTS * (MAX_SEGMENTS - 1);
 
 // Stores a number below 256 where the table has room.
 fn store_byte(table: &mut [u8], at: usize, n: usize)

@@ -1,10 +1,10 @@
--- Where a plan's moves stand: inside its bytes. Assumes nothing.
+-- Where a plan's moves stand: inside its bytes; and the three parts of the test of a plan. Assumes nothing.
 use mathlib.Core.Path.{_≡_, refl, sym, ap, ap₂, _∙_}
 use mathlib.Core.Bool.{Bool, true, false, _&&_}
 use Prim.Native.Nat.{ℕ, suc, _+_, _*_, _≤_, _<_}
 use native.Mathlib.Nat.{mul-le-mul, mul-le-mul-right, suc-mul}
 use native.Mathlib.Omega.{arith}
-use mathlib.Core.List.{List, [], _∷_, map}
+use mathlib.Core.List.{[], _∷_}
 use lib.ListN.{length, getD, take}
 use lib.Dec.{eqb, ltb}
 use Rattle.model.specs.declared.Book.{Book as BookStruct}
@@ -17,32 +17,51 @@ use Rattle.laws.proofs.Tests.{bool-ext, ltb-iff, leb-iff}
 use Rattle.laws.proofs.Rows.{all-map}
 use Rattle.laws.proofs.Parts.{singles}
 use Rattle.tables.specs.Tables.{Passed}
-use Rattle.tables.proofs.Small.{nodes-is, trains-is, intervals-is}
+use Rattle.tables.proofs.Small.{nodes-is, intervals-is}
+
+-- a train's moves are one behind another, behind those of the trains before it
+module _ (I : Instance) where
+  pub place-from : (i t : ℕ) → moveAt I i t ≡ moveAt I i 0 + t * 2
+  unfolding moveAt
+  place-from i t = omega arith
+
+  pub place-first : (i : ℕ) → moveAt I i 0 ≡ I .nodes + i * (I .intervals * 2)
+  unfolding moveAt
+  place-first i = omega arith
+
+  pub place-end : moveAt I (I .trains) 0 ≡ planLength I
+  unfolding planLength
+  place-end = place-first (I .trains)
+
+  pub train-fits : (i : ℕ) → i < I .trains → moveAt I i 0 + I .intervals * 2 ≤ planLength I
+  unfolding planLength
+  train-fits i known =
+      let turn : suc i * (I .intervals * 2) ≤ I .trains * (I .intervals * 2) = mul-le-mul-right (I .intervals * 2) known in
+      omega (arith, place-first i, suc-mul i (I .intervals * 2))
+
+  pub move-fits : (i t : ℕ) → i < I .trains → t < I .intervals → moveAt I i t + 2 ≤ planLength I
+  move-fits i t known inside = omega (arith, place-from i t, train-fits i known)
+
+  -- the move there
+  pub move-is : (s : Bytes) (i t : ℕ) → moveOf (field s (moveAt I i t) 2) ≡ planOf I s .move i t
+  unfolding planOf
+  move-is s i t = refl
 
 module _ (b : BookStruct) (p : Passed b) where
-  -- a plan's length, by the struct's counts
-  pub length-is : b .«node_count» + b .«train_count» * (b .intervals * 2) ≡ planLength (instanceOf (held b))
+  -- a move's place, by the struct's counts
+  pub place-is : (i t : ℕ) → b .«node_count» + (i * (b .intervals * 2) + t * 2) ≡ moveAt (instanceOf (held b)) i t
+  unfolding moveAt
+  place-is i t = rw (nodes-is b p, intervals-is b p)
+
+  -- the nodes' bytes lie inside a plan
+  pub nodes-fit : b .«node_count» ≤ planLength (instanceOf (held b))
   unfolding planLength
-  length-is = rw (nodes-is b p, trains-is b p, intervals-is b p)
+  nodes-fit = omega (arith, nodes-is b p)
 
   -- no number in it is large
   pub span-small : (i : ℕ) → i ≤ b .«train_count» → i * (b .intervals * 2) ≤ 1048576
   span-small i l =
       mul-le-mul {n₂ = 8} {m₂ = 131072} (omega (arith, p .packed .counts .trains)) (omega (arith, p .packed .numbers .intervals))
-
-  module _ (i t : ℕ) (known : i < b .«train_count») (inside : t < b .intervals) where
-    abbrev at : ℕ
-    at = b .«node_count» + (i * (b .intervals * 2) + t * 2)
-
-    pub move-fits : at + 2 ≤ planLength (instanceOf (held b))
-    move-fits =
-        let turn : suc i * (b .intervals * 2) ≤ b .«train_count» * (b .intervals * 2) = mul-le-mul-right (b .intervals * 2) known in
-        omega (arith, length-is, suc-mul i (b .intervals * 2))
-
-    -- the move there
-    pub move-is : (s : Bytes) → moveOf (field s at 2) ≡ planOf (instanceOf (held b)) s .move i t
-    unfolding planOf moveAt
-    move-is s = rw (nodes-is b p, intervals-is b p)
 
 -- ---- 15
 

@@ -4,12 +4,12 @@ use checks::all_below;
 use frames::pair;
 use model::Book;
 ghost use mathlib.Core.Path.{_≡_};
-ghost use Prim.Native.Nat.{_+_, _*_, _≤_, _<_};
+ghost use Prim.Native.Nat.{_≤_, _<_};
 ghost use lib.ListN.{length};
 ghost use lib.Dec.{ltb};
 ghost use Rattle.spec.specs.Lists.{all, upTo};
 ghost use Rattle.spec.specs.Instance.{instanceOf};
-ghost use Rattle.spec.specs.Plan.{isGone, ifRun, isMove, moveOf, planOf, planLength, planFits};
+ghost use Rattle.spec.specs.Plan.{isGone, ifRun, isMove, moveOf, moveAt, planOf, planLength, planFits};
 ghost use Rattle.spec.specs.Held.{held};
 ghost use Rattle.tables.specs.Tables.{Passed};
 ghost use Rattle.tables.specs.Ready.{Counted};
@@ -40,13 +40,29 @@ fn move_of(code: usize) -> Move
     Move::Run(code)
 }
 
+// Where the two bytes of a train's move in an interval stand in a plan: behind a byte a node and the
+// moves before it.
+pub fn move_place(b: Book, train: usize, interval: usize) -> usize
+    requires { ⌜ Passed b × (train ≤ b .«train_count») × (interval ≤ b .intervals) ⌝ }
+    ensures { λ r. ⌜ r ≡ moveAt (instanceOf (held b)) train interval ⌝ }
+{
+    b.node_count + (train * (b.intervals * 2) + interval * 2)
+}
+
+// How many bytes a plan has: those before the moves of a train behind the last.
+pub fn plan_length(b: Book) -> usize
+    requires { ⌜ Passed b ⌝ }
+    ensures { λ r. ⌜ r ≡ planLength (instanceOf (held b)) ⌝ }
+{
+    move_place(b, b.train_count, 0)
+}
+
 // The plan's move of a train in an interval.
 pub fn move_at(b: Book, plan: &[u8], train: usize, interval: usize) -> Move
     requires { ⌜ Passed b × (length (now plan) ≡ planLength (instanceOf (held b))) × (train < b .«train_count») × (interval < b .intervals) ⌝ }
     ensures { λ r. ⌜ heldMove r ≡ planOf (instanceOf (held b)) (now (plan .entry)) .move train interval ⌝ }
 {
-    let at = b.node_count + (train * (b.intervals * 2) + interval * 2);
-    move_of(pair(plan, at))
+    move_of(pair(plan, move_place(b, train, interval)))
 }
 
 // Whether a move is one of a train with n runs.
@@ -113,7 +129,7 @@ pub fn plan_fits(b: Book, runs: [usize; 8], plan: &[u8]) -> bool
     ensures { λ r. ⌜ r ≡ planFits (instanceOf (held b)) (now (plan .entry)) ⌝ }
 {
     let nodes = b.node_count;
-    if plan.len() != nodes + b.train_count * (b.intervals * 2) {
+    if plan.len() != plan_length(b) {
         return false;
     }
     all_below(&plan[0..nodes], 0, 2) && moves_fit(b, runs, plan)

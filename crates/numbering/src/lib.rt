@@ -4,18 +4,51 @@
 // Assumes nothing.
 use model::Book;
 ghost use mathlib.Core.Path.{_≡_};
-ghost use Prim.Native.Nat.{_+_, _*_, _≤_, _<_};
+ghost use Prim.Native.Nat.{_+_, _*_, _^_, _≤_, _<_};
 ghost use Rattle.spec.specs.Instance.{instanceOf};
-ghost use Rattle.spec.specs.Formula.{firstVar, base, claimVar};
+ghost use Rattle.spec.specs.Formula.{firstVar, base, claimVar, variables};
 ghost use Rattle.spec.specs.Held.{held};
 ghost use Rattle.tables.specs.Ready.{Counted};
+
+// Gone's variable in the interval whose first variable is `base`, of a train with n runs.
+pub fn gone_variable(base: usize, n: usize) -> usize
+    requires { ⌜ base + n < 2 ^ 64 ⌝ }
+    ensures { λ r. ⌜ r ≡ base + n ⌝ }
+{
+    base + n
+}
+
+// The first claim in the interval whose first variable is `base`, of a train with n runs: the claim of
+// segment s is s behind it.
+pub fn claims_from(base: usize, n: usize) -> usize
+    requires { ⌜ base + (n + 1) < 2 ^ 64 ⌝ }
+    ensures { λ r. ⌜ r ≡ base + (n + 1) ⌝ }
+{
+    gone_variable(base, n) + 1
+}
+
+// The first variable of the interval behind the one whose first variable is `base`.
+pub fn next_interval(base: usize, n: usize, segments: usize) -> usize
+    requires { ⌜ base + (n + 1 + segments) < 2 ^ 64 ⌝ }
+    ensures { λ r. ⌜ r ≡ base + (n + 1 + segments) ⌝ }
+{
+    claims_from(base, n) + segments
+}
+
+// How many variables a train with n runs has in an interval: as many as lie before the next one.
+fn width(n: usize, segments: usize) -> usize
+    requires { ⌜ n + 1 + segments < 2 ^ 64 ⌝ }
+    ensures { λ r. ⌜ r ≡ n + 1 + segments ⌝ }
+{
+    next_interval(0, n, segments)
+}
 
 // The first variable of an interval of a train with n runs, whose own first variable is `first`.
 pub fn base_from(first: usize, n: usize, segments: usize, interval: usize) -> usize
     requires { ⌜ (first ≤ 168296544) × (n ≤ 256) × (segments ≤ 64) × (interval ≤ 65536) ⌝ }
     ensures { λ r. ⌜ (r ≡ first + interval * (n + 1 + segments)) × (r < 800000000) ⌝ }
 {
-    first + interval * (n + 1 + segments)
+    first + interval * width(n, segments)
 }
 
 // The first variable of a train: those of the borders and of the trains before come before it.
@@ -30,6 +63,14 @@ pub fn first_variable(b: Book, runs: [usize; 8], train: usize) -> usize
         j += 1;
     }
     first
+}
+
+// How many variables the formula has: those before a train behind the last.
+pub fn variable_count(b: Book, runs: [usize; 8]) -> usize
+    requires { ⌜ Counted b runs ⌝ }
+    ensures { λ r. ⌜ r ≡ variables (instanceOf (held b)) ⌝ }
+{
+    first_variable(b, runs, b.train_count)
 }
 
 // The first variable of a train's interval.
@@ -50,5 +91,5 @@ pub fn first_claim(b: Book, runs: [usize; 8], train: usize, interval: usize) -> 
     requires { ⌜ Counted b runs × (train < b .«train_count») × (interval < b .intervals) ⌝ }
     ensures { λ r. ⌜ (r ≡ claimVar (instanceOf (held b)) train interval 0) × (r < 900000000) ⌝ }
 {
-    base_of(b, runs, train, interval) + (runs[train] + 1)
+    claims_from(base_of(b, runs, train, interval), runs[train])
 }

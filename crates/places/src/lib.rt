@@ -93,7 +93,7 @@ pub fn serves(b: Book, c: Call, rows: &[u8], at: usize, l: usize) -> bool
 }
 
 // Whether the place that the train is given serves the call.
-pub fn given_serves(b: Book, c: Call, t: Train) -> bool
+fn given_serves(b: Book, c: Call, t: Train) -> bool
     requires { ⌜ t .size ≤ 8 ⌝ }
     ensures { λ r. ⌜ r ≡ placeServes (held b) c (heldTrain t .place) ⌝ }
 {
@@ -106,6 +106,15 @@ pub fn in_window(c: Call, time: usize) -> bool
     ensures { λ r. ⌜ r ≡ (leb (c .first) time && leb time (c .last)) ⌝ }
 {
     c.first <= time && time <= c.last
+}
+
+// Whether the call is served at the train's departure: its window is open then, and the place that the
+// train is given serves it.
+pub fn served_at_departure(b: Book, c: Call, t: Train) -> bool
+    requires { ⌜ t .size ≤ 8 ⌝ }
+    ensures { λ r. ⌜ r ≡ ((leb (c .first) (t .departure) && leb (t .departure) (c .last)) && placeServes (held b) c (heldTrain t .place)) ⌝ }
+{
+    in_window(c, t.departure) && given_serves(b, c, t)
 }
 
 // A train's goal: its last call in the file, or zeros where it has none.

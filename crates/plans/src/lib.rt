@@ -3,6 +3,7 @@
 // nothing.
 use apart::rule_6;
 use model::Book;
+use model::MAX_SEGMENTS;
 use moves::plan_fits;
 use reading::Answer;
 use rules::first_broken;
@@ -35,7 +36,7 @@ pub fn judge_plan(
     if broken != 0 {
         return Answer::Refused(16, broken);
     }
-    let mut labels = [0usize; 64];
+    let mut labels = [0usize; MAX_SEGMENTS];
     label_sections(b, meets, end, plan, &mut labels);
     if !rule_6(b, rows, sizes, &labels, plan, runs) {
         return Answer::Refused(16, 6);

@@ -6,12 +6,15 @@ use clause_table::clear_numbers;
 use clause_table::clear_words;
 use clause_table::index_clauses;
 use formula::walk_formula;
+use meets::MEET_BYTES;
 use meets::list_meets;
 use model::Book;
-use numbering::first_variable;
+use numbering::variable_count;
 use reading::Answer;
 use reading::read_book;
 use step_list::check_steps;
+use tables::ALL_BYTES;
+use tables::ALL_RUNS;
 use tables::chain_trains;
 use tables::fill_runs;
 ghost use mathlib.Core.Path.{_≡_};
@@ -47,7 +50,7 @@ fn refute_by(
         (lengths (now (words .entry)) (now (clauses .entry)) (now (values .entry)) (now (trail .entry)))) ⌝ }
 {
     let none = &rows[0..0];
-    let variables = first_variable(b, runs, b.train_count);
+    let variables = variable_count(b, runs);
     let measured = walk_formula(
         b,
         runs,
@@ -94,11 +97,11 @@ fn refute_for(
     ensures { λ a. ⌜ a ≡ answerOf (refutedFor (instanceOf (held b)) (now (r .entry))
         (lengths (now (words .entry)) (now (clauses .entry)) (now (values .entry)) (now (trail .entry)))) ⌝ }
 {
-    let mut rows = [0u8; 32768];
-    let mut sizes = [0u8; 2048];
-    let mut firsts = [0usize; 2048];
-    let mut nexts = [0usize; 2048];
-    let mut meets = [0u8; 24192];
+    let mut rows = [0u8; ALL_BYTES];
+    let mut sizes = [0u8; ALL_RUNS];
+    let mut firsts = [0usize; ALL_RUNS];
+    let mut nexts = [0usize; ALL_RUNS];
+    let mut meets = [0u8; MEET_BYTES];
     let runs = fill_runs(b, &mut rows, &mut sizes);
     chain_trains(b, runs, &rows, &sizes, &mut firsts, &mut nexts);
     let end = list_meets(b, &mut meets);

@@ -10,11 +10,11 @@ use moves::is_gone;
 use moves::move_at;
 use places::end_of;
 use places::follows;
-use places::given_serves;
 use places::goal;
 use places::in_window;
 use places::is_given;
 use places::may_leave;
+use places::served_at_departure;
 use places::serves;
 use places::start_of;
 use tables::call_at;
@@ -303,8 +303,7 @@ fn call_served(
         || servedBy (instanceOf (held b)) (planOf (instanceOf (held b)) (now (plan .entry))) train number) ⌝ }
 {
     let c = call_at(b, train, number);
-    let t = b.trains[train];
-    if in_window(c, t.departure) && given_serves(b, c, t) {
+    if served_at_departure(b, c, b.trains[train]) {
         return true;
     }
     served_after(b, train, number, c, l, rows, sizes, plan)

@@ -7,6 +7,8 @@ use libc::STDOUT_FILENO;
 use model::Book;
 use reading::Answer;
 use reading::read_book;
+use tables::ALL_BYTES;
+use tables::ALL_RUNS;
 use tables::chain_trains;
 use tables::fill_runs;
 use track::wide;
@@ -87,10 +89,10 @@ fn print_trains(
 fn print_book(b: Book)
     requires { ⌜ Passed b ⌝ }
 {
-    let mut rows = [0u8; 32768];
-    let mut sizes = [0u8; 2048];
-    let mut firsts = [0usize; 2048];
-    let mut nexts = [0usize; 2048];
+    let mut rows = [0u8; ALL_BYTES];
+    let mut sizes = [0u8; ALL_RUNS];
+    let mut firsts = [0usize; ALL_RUNS];
+    let mut nexts = [0usize; ALL_RUNS];
     let counts = fill_runs(b, &mut rows, &mut sizes);
     chain_trains(b, counts, &rows, &sizes, &mut firsts, &mut nexts);
     print_trains(b.train_count, counts, &rows, &sizes, &firsts, &nexts);

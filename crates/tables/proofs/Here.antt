@@ -12,7 +12,7 @@ use Rattle.model.specs.declared.Book.{Book as BookStruct}
 use Rattle.model.specs.declared.Train.{Train as TrainStruct}
 use Rattle.spec.specs.Lists.{Bytes}
 use Rattle.spec.specs.Book.{Call, Train, trainAt, lengthInSegments}
-use Rattle.spec.specs.Instance.{Instance, instanceOf, compile, callAt, trainLength, placeServes, inWindow}
+use Rattle.spec.specs.Instance.{Instance, instanceOf, compile, callAt, trainLength, placeServes, inWindow, servedAtDeparture}
 use Rattle.spec.specs.Held.{held, heldTrain, NumbersFit}
 use Rattle.content.proofs.Packing.{trains-counted}
 use Rattle.listing.proofs.Lists.{reach}
@@ -114,7 +114,19 @@ module _ (b : BookStruct) (i number : ℕ) {c : Call} (e : c ≡ callAt (held b)
   unfolding instanceOf compile inWindow
   window-answer time t = t ∙ ap (λ (k : Call). leb (k .first) time && leb time (k .last)) e
 
-  pub start-answer : {t : Train} {test : Bool} → t ≡ trainAt (held b) i → test ≡ placeServes (held b) c (t .place)
+  start-answer : {t : Train} {test : Bool} → t ≡ trainAt (held b) i → test ≡ placeServes (held b) c (t .place)
       → test ≡ instanceOf (held b) .servedAtStart i number
   unfolding instanceOf compile
   start-answer s t = t ∙ ap₂ (λ (k : Call) (u : Train). placeServes (held b) k (u .place)) e s
+
+  -- whether it is served at the departure, as `places::served_at_departure` answers it
+  pub departure-answer : (p : Passed b) (known : i < b .«train_count») {test : Bool}
+      → test ≡ ((leb (c .first) (train b p i known .departure) && leb (train b p i known .departure) (c .last))
+      && placeServes (held b) c (heldTrain (train b p i known) .place))
+      → test ≡ servedAtDeparture (instanceOf (held b)) i number
+  unfolding servedAtDeparture
+  departure-answer p known t =
+      t
+      ∙ ap₂ _&&_
+      (window-answer _ refl ∙ ap (inWindow (instanceOf (held b)) i number) (departs-here b p i known))
+      (start-answer (same-train b p i known) refl)

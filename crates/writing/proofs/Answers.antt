@@ -10,14 +10,13 @@ use lib.IntN.{ℤ}
 use Rattle.model.specs.declared.Book.{Book as BookStruct}
 use Rattle.spec.specs.Lists.{Bytes, Verdict, accepted, refused, andThen}
 use Rattle.spec.specs.Instance.{Instance, instanceOf}
-use Rattle.spec.specs.Formula.{firstVar, formula, wordsOf}
+use Rattle.spec.specs.Formula.{variables, formula, wordsOf}
 use Rattle.spec.specs.Held.{held}
 use Rattle.spec.specs.Entry.{Written, demand, formulaWritten, overwrite, written, writtenFor, wordsAfter}
 use Rattle.clauses.specs.declared.Walk.{Walk}
 use Rattle.clauses.specs.Walked.{start, Walks}
 use Rattle.clauses.proofs.Totals.{stored-front}
 use Rattle.tables.specs.Tables.{Passed}
-use Rattle.tables.proofs.Small.{all-variables}
 use Rattle.formula.proofs.Totals.{is-small}
 use Rattle.writing.specs.declared.FormulaAnswer.{FormulaAnswer}
 use Rattle.writing.specs.declared.FormulaAnswer.the-variants.{Totals, Refused}
@@ -54,12 +53,11 @@ module _ (b : BookStruct) (p : Passed b) where
       (sym (lt-leb (length words) (length old) h))
 
   -- enough
-  pub answer-fits : (room : ℕ) → length words ≤ room → {v c n : ℕ} → v ≡ firstVar I (I .trains) → c ≡ length (formula I) → n ≡ length words
+  pub answer-fits : (room : ℕ) → length words ≤ room → {v c n : ℕ} → v ≡ variables I → c ≡ length (formula I) → n ≡ length words
       → Totals v c n ≡ formulaAnswer (writtenFor I room)
   unfolding writtenFor demand andThen formulaWritten
-  answer-fits room h {v} {c} {n} e f g =
-      let k = e ∙ all-variables I in
-      three k f g
+  answer-fits room h e f g =
+      three e f g
       ∙ ap (λ (t : Bool). formulaAnswer (andThen (demand t 12) λ _. accepted (formulaWritten I))) (sym (le-leb (length words) room h))
     where
       three : {v v′ c c′ n n′ : ℕ} → v ≡ v′ → c ≡ c′ → n ≡ n′ → Totals v c n ≡ Totals v′ c′ n′

@@ -2,11 +2,14 @@
 // answers the totals, with the words written, or one numbered refusal, with the output as it was.
 // The words are measured before anything is written. Assumes nothing.
 use formula::walk_formula;
+use meets::MEET_BYTES;
 use meets::list_meets;
 use model::Book;
-use numbering::first_variable;
+use numbering::variable_count;
 use reading::Answer;
 use reading::read_book;
+use tables::ALL_BYTES;
+use tables::ALL_RUNS;
 use tables::chain_trains;
 use tables::fill_runs;
 ghost use mathlib.Core.Path.{_≡_};
@@ -63,7 +66,7 @@ fn write_by(
     }
     let w = walk_formula(b, runs, rows, sizes, firsts, nexts, meets, end, none, out);
     FormulaAnswer::Totals {
-        variables: first_variable(b, runs, b.train_count),
+        variables: variable_count(b, runs),
         clauses: w.clauses,
         words: w.words,
     }
@@ -75,11 +78,11 @@ fn write_words(b: Book, out: &mut [i32]) -> FormulaAnswer
     ensures { λ r. ⌜ (r ≡ formulaAnswer (writtenFor (instanceOf (held b)) (length (now (out .entry)))))
         × (now (out .exit) ≡ wordsAfter (now (out .entry)) (writtenFor (instanceOf (held b)) (length (now (out .entry))))) ⌝ }
 {
-    let mut rows = [0u8; 32768];
-    let mut sizes = [0u8; 2048];
-    let mut firsts = [0usize; 2048];
-    let mut nexts = [0usize; 2048];
-    let mut meets = [0u8; 24192];
+    let mut rows = [0u8; ALL_BYTES];
+    let mut sizes = [0u8; ALL_RUNS];
+    let mut firsts = [0usize; ALL_RUNS];
+    let mut nexts = [0usize; ALL_RUNS];
+    let mut meets = [0u8; MEET_BYTES];
     let runs = fill_runs(b, &mut rows, &mut sizes);
     chain_trains(b, runs, &rows, &sizes, &mut firsts, &mut nexts);
     let end = list_meets(b, &mut meets);

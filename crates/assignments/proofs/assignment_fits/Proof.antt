@@ -3,36 +3,25 @@ use borrow.Author.Needs.{needs}
 use borrow.Author.Tests.{eq-eqb, ne-eqb}
 use mathlib.Core.Path.{_≡_, sym, ap, _∙_}
 use Prim.Native.Nat.{ℕ}
-use denote.Ref.{now}
-use lib.ListN.{length}
 use lib.Dec.{eqb}
 use Rattle.spec.specs.Instance.{instanceOf}
-use Rattle.spec.specs.Formula.{firstVar, variables}
+use Rattle.spec.specs.Formula.{variables}
 use Rattle.spec.specs.Held.{held}
 use Rattle.moves.proofs.Places.{all-bits}
-use Rattle.tables.proofs.Small.{trains-is, all-variables}
 use Rattle.assignments.proofs.Answers.{fits-long, fits-bits}
 use Rattle.assignments.proofs.assignment_fits.Statement.{statement}
 use Rattle.assignments.proofs.assignment_fits.Tie as tie
 
-first-variable-requires : tie.Need-first-variable-requires
-first-variable-requires c κs = search needs
+variable-count-requires : tie.Need-variable-count-requires
+variable-count-requires c κs = search needs
 
 all-below-requires : tie.Need-all-below-requires
 all-below-requires c κs = search needs
 
 -- the number that the length is compared with
-module _ (c : tie.After-first-variable) where
-  abbrev start : tie.Start
-  start = c .before .before
-
-  count : (n : ℕ) → eqb n (c .first-variable .result) ≡ eqb n (variables (instanceOf (held (start .args .b))))
-  count n =
-      let I = instanceOf (held (start .args .b)) in
-      ap (eqb n)
-      (c .first-variable .ensures
-      ∙ ap (firstVar I) (sym (trains-is (start .args .b) (start .pre .passed)))
-      ∙ all-variables I)
+count : (c : tie.After-variable-count) (n : ℕ)
+    → eqb n (c .variable-count .result) ≡ eqb n (variables (instanceOf (held (c .before .before .args .b))))
+count c n = ap (eqb n) (c .variable-count .ensures)
 
 returns : tie.Need-returns
 returns c =
@@ -44,4 +33,4 @@ returns-2 c = let e = ne-eqb _ _ (c .if1 .left) in e ∙ fits-long _ _ (sym (cou
 
 pub assignment-fits-spec : {M : Type 1} → statement M
 assignment-fits-spec =
-    tie.close (tie.spec first-variable-requires all-below-requires returns returns-2)
+    tie.close (tie.spec variable-count-requires all-below-requires returns returns-2)

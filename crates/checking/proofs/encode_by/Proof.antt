@@ -1,14 +1,13 @@
 -- `checking::encode_by` meets its contract: room, the judgement, then the assignment. Assumes nothing.
 use borrow.Author.Needs.{needs}
 use native.Mathlib.Omega.{arith}
-use mathlib.Core.Path.{_≡_, sym, ap, _∙_}
+use mathlib.Core.Path.{_≡_, sym, _∙_}
 use Prim.Native.Nat.{_≤_}
 use denote.Ref.{now}
 use lib.ListN.{length}
 use Rattle.spec.specs.Instance.{instanceOf}
-use Rattle.spec.specs.Formula.{firstVar, variables}
+use Rattle.spec.specs.Formula.{variables}
 use Rattle.spec.specs.Held.{held}
-use Rattle.tables.proofs.Small.{trains-is, all-variables}
 use Rattle.checking.proofs.Answers.{plan-fits, length-assignment, encoded-short, encoded-refused, encoded-accepted}
 use Rattle.spec.specs.Entry.{judgePlan}
 use Rattle.reading.specs.declared.Answer.the-variants.{Accepted}
@@ -16,20 +15,16 @@ use Rattle.reading.specs.BookAnswers.{answerOf}
 use Rattle.checking.proofs.encode_by.Statement.{statement}
 use Rattle.checking.proofs.encode_by.Tie as tie
 
-first-variable-requires : tie.Need-first-variable-requires
-first-variable-requires c κs = search needs
+variable-count-requires : tie.Need-variable-count-requires
+variable-count-requires c κs = search needs
 
 -- the length that is compared, and the output's
-module _ (c : tie.After-first-variable) where
+module _ (c : tie.After-variable-count) where
   abbrev start : tie.Start
   start = c .before .before .before .before .before .before
 
-  need : c .first-variable .result ≡ variables (instanceOf (held (start .args .b)))
-  need =
-      let I = instanceOf (held (start .args .b)) in
-      c .first-variable .ensures
-      ∙ ap (firstVar I) (sym (trains-is (start .args .b) (start .pre .0 .counted .passed)))
-      ∙ all-variables I
+  need : c .variable-count .result ≡ variables (instanceOf (held (start .args .b)))
+  need = c .variable-count .ensures
 
 room : (c : tie.Else1) → variables (instanceOf (held (start (c .before) .args .b))) ≤ length (now (start (c .before) .args .out))
 room c = omega (arith, c .if1 .left, need (c .before))
@@ -76,7 +71,7 @@ pub encode-by-spec : {M : Type 1} → statement M
 encode-by-spec =
     tie.close
     (tie.spec
-    first-variable-requires
+    variable-count-requires
     returns
     judge-plan-requires
     enum-known-judged

@@ -1,7 +1,7 @@
 -- `decoding::decode_train` meets its contract. The loop's invariant: the numbers of the first intervals stand in the output from
--- `at` on. Assumes nothing.
+-- the train's first move on. Assumes nothing.
 use native.Mathlib.Omega.{arith}
-use mathlib.Core.Path.{_≡_, sym, ap, _∙_, subst}
+use mathlib.Core.Path.{_≡_, sym, ap, ap₂, _∙_, subst}
 use Prim.Native.Nat.{ℕ, _+_, _*_, _-_, _≤_, _<_}
 use denote.Ref.{now}
 use lib.ListN.{length, getD}
@@ -9,9 +9,11 @@ use lib.Seq.{sets}
 use Rattle.spec.specs.Lists.{Bytes}
 use Rattle.spec.specs.Numbers.{littleEndian}
 use Rattle.spec.specs.Instance.{instanceOf}
+use Rattle.spec.specs.Plan.{moveAt}
 use Rattle.spec.specs.Held.{held}
 use Rattle.laws.proofs.Numbers.{length-littleEndian}
-use Rattle.tables.proofs.Small.{few-trains, few-runs, few-segments, first-below, base-here, intervals-is}
+use Rattle.tables.proofs.Small.{few-trains, few-runs, few-segments, first-below, base-here, known, intervals-is}
+use Rattle.moves.proofs.Places.{place-from, move-fits}
 use Rattle.decoding.specs.Decoded.{codeOf}
 use Rattle.decoding.proofs.Rows.{Rows, rows-none, rows-next, rows-kept, rows-all, train-is}
 use Rattle.decoding.proofs.decode_train.Statement.{statement}
@@ -22,11 +24,11 @@ abbrev cell : Bytes → ℕ → ℕ → ℕ → ℕ → Bytes
 cell values first n segments t = littleEndian 2 (codeOf values (first + t * (n + 1 + segments)) n)
 
 abbrev Inv-loop : tie.InvT-loop
-Inv-loop train values out₀ at first intervals segments n interval₀ out interval =
-    (interval ≤ intervals) × Rows (cell values first n segments) out₀ at interval out
+Inv-loop b train values out₀ first intervals segments n interval₀ out interval =
+    (interval ≤ intervals) × Rows (cell values first n segments) out₀ (moveAt (instanceOf (held b)) train 0) interval out
 
 abbrev μ-loop : tie.MeasureT-loop
-μ-loop train values out₀ at first intervals segments n interval₀ out interval = intervals - interval
+μ-loop b train values out₀ first intervals segments n interval₀ out interval = intervals - interval
 
 first-variable-requires : tie.Need-first-variable-requires Inv-loop μ-loop
 first-variable-requires c κs = let p = c .before .before .pre in (p .0, omega (arith, p .1))
@@ -41,9 +43,6 @@ module _ (s : tie.Start Inv-loop μ-loop) where
 
   long-here : s .args .b .intervals ≤ 65536
   long-here = omega (arith, s .pre .0 .passed .packed .numbers .intervals)
-
-  end-here : s .args .at + s .args .b .intervals * 2 < 18446744073709551616
-  end-here = omega (arith, s .pre .2)
 
 mul-n : tie.Need-mul-n Inv-loop μ-loop
 mul-n c = omega (arith, few-here (c .before .before .before))
@@ -65,11 +64,18 @@ module _ (t : tie.In-loop Inv-loop μ-loop) where
   short : interval < 65536
   short = omega (arith, long-here given, t .loop-test .taken)
 
-  small : given .args .at + interval * 2 < 18446744073709551616
-  small = omega (arith, end-here given, t .loop-test .taken)
-
-  room : given .args .at + interval * 2 + 2 ≤ length (t .before .loop .out)
-  room = omega (arith, given .pre .2, t .loop-test .taken, rows-kept (t .before .loop .inv .1))
+  room : moveAt (instanceOf (held (given .args .b))) (given .args .train) interval + 2 ≤ length (t .before .loop .out)
+  room =
+      let a = given .args in
+      let counted = given .pre .0 in
+      let I = instanceOf (held (a .b)) in
+      let inside : interval < I .intervals = omega (arith, t .loop-test .taken, intervals-is (a .b) (counted .passed)) in
+      omega (
+        arith,
+        given .pre .2,
+        rows-kept (t .before .loop .inv .1),
+        move-fits I (a .train) interval (known (a .b) (a .t2) counted (a .train) (given .pre .1)) inside,
+      )
 
 base-from-requires : tie.Need-base-from-requires Inv-loop μ-loop
 base-from-requires c κs =
@@ -85,24 +91,27 @@ base-from-requires c κs =
 code-of-requires : tie.Need-code-of-requires Inv-loop μ-loop
 code-of-requires c κs = (c .base-from .ensures .1, runs-here (given (c .before)))
 
-mul-put-code : tie.Need-mul-put-code Inv-loop μ-loop
-mul-put-code c = omega (arith, short (c .before .before .before))
-
-add-put-code : tie.Need-add-put-code Inv-loop μ-loop
-add-put-code c = omega (arith, small (c .before .before .before))
+move-place-requires : tie.Need-move-place-requires Inv-loop μ-loop
+move-place-requires c κs =
+    let t = c .before .before .before in
+    let s = given t in
+    (s .pre .0 .passed, omega (arith, s .pre .1), omega (arith, t .loop-test .taken))
 
 put-code-requires : tie.Need-put-code-requires Inv-loop μ-loop
-put-code-requires c κs = (room (c .before .before .before), omega (arith, c .before .code-of .ensures .1))
+put-code-requires c κs =
+    let v = c .before .before in
+    (omega (arith, room (v .before .before), c .move-place .ensures), v .code-of .ensures .1)
 
 add-interval : tie.Need-add-interval Inv-loop μ-loop
-add-interval c = omega (arith, short (c .before .before .before .before .before .before))
+add-interval c = omega (arith, short (c .before .before .before .before .before .before .before))
 
 loop-less : tie.Need-loop-less Inv-loop μ-loop
-loop-less c = let h = c .before .before .before .before .before .before .loop-test .taken in omega (arith, h)
+loop-less c = let h = c .before .before .before .before .before .before .before .loop-test .taken in omega (arith, h)
 
 loop-again : tie.Need-loop-again Inv-loop μ-loop
 loop-again c =
-    let v = c .before .before .before .before in
+    let p = c .before .before .before in
+    let v = p .before .before in
     let t = v .before .before in
     let a = given t .args in
     let n = getD (a .t2) (a .train) 0 in
@@ -110,7 +119,7 @@ loop-again c =
       omega (arith, t .loop-test .taken),
       rows-next _ 2 (λ i. length-littleEndian 2 _) (t .before .loop .inv .1)
           (c .before .before .put-code .ensures
-          ∙ ap (λ (x : ℕ). sets (t .before .loop .out) (a .at + interval t * 2) (littleEndian 2 x)) number),
+          ∙ ap₂ (λ (at x : ℕ). sets (t .before .loop .out) at (littleEndian 2 x)) (p .move-place .ensures ∙ place-from _ _ _) number),
     )
 
 same-length : tie.Need-same-length Inv-loop μ-loop
@@ -127,7 +136,7 @@ returns c =
     let first = f .first-variable .ensures in
     let done : l .interval ≡ a .b .intervals = omega (arith, c .loop-test .left, l .inv .0) in
     rows-all (l .inv .1) done
-    ∙ ap (sets (now (a .out)) (a .at))
+    ∙ ap (sets (now (a .out)) (moveAt I (a .train) 0))
     (train-is I (now (a .values)) (a .train) n (a .b .intervals) (λ t. f .first-variable .result + t * (n + 1 + a .b .«segment_count»))
     (s .pre .0 .runs (a .train) (s .pre .1))
     (sym (intervals-is (a .b) (s .pre .0 .passed)))
@@ -145,8 +154,7 @@ decode-train-spec =
     loop-holds
     base-from-requires
     code-of-requires
-    mul-put-code
-    add-put-code
+    move-place-requires
     put-code-requires
     add-interval
     loop-less

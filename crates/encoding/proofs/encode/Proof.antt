@@ -13,7 +13,7 @@ use Rattle.spec.specs.Lists.{Bytes, upTo, range, each}
 use Rattle.spec.specs.Instance.{Instance, instanceOf}
 use Rattle.spec.specs.Plan.{Plan, bit, planOf}
 use Rattle.spec.specs.Held.{held}
-use Rattle.moves.proofs.Places.{length-is}
+use Rattle.moves.proofs.Places.{nodes-fit}
 use Rattle.tables.proofs.Small.{nodes-is, trains-is}
 use Rattle.apart.proofs.Rows.{plan-long}
 use Rattle.encoding.specs.Encoded.{borderBytes, trainBytes}
@@ -53,7 +53,7 @@ module _ (s : tie.Start Inv-loop μ-loop) where
 write-borders-requires : tie.Need-write-borders-requires Inv-loop μ-loop
 write-borders-requires c κs =
     let s = c .before .before .before .before .before .before in (
-      omega (arith, plan-long _ _ (s .pre .0 .1), length-is (s .args .b) (s .pre .0 .0 .counted .passed)),
+      omega (arith, plan-long _ _ (s .pre .0 .1), nodes-fit (s .args .b) (s .pre .0 .0 .counted .passed)),
       omega (arith, room s),
     )
 

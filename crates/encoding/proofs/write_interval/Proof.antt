@@ -99,27 +99,25 @@ module _ (c : tie.After-row-of) where
 mark-requires : tie.Need-mark-requires
 mark-requires c κs = fits (c .before)
 
-add-claims : tie.Need-add-claims
-add-claims c = let r = c .before .before in omega (arith, room (start r), start r .good)
-
-add-claims-2 : tie.Need-add-claims-2
-add-claims-2 c = let r = c .before .before in omega (arith, room (start r), start r .good)
+claims-from-requires : tie.Need-claims-from-requires
+claims-from-requires c κs = let r = c .before .before .before in omega (arith, room (start r), start r .good)
 
 write-marked-requires : tie.Need-write-marked-requires
 write-marked-requires c κs =
-    let r = c .before .before .before .before in
+    let f = c .before in
+    let r = f .before .before .before .before in
     let s = start r in
     let e = segments-are s in
     let most : s .args .b .«segment_count» ≤ 64 = s .pre .0 .0 .counted .passed .packed .counts .segments in (
       omega (arith, s .pre .0 .2 .long, most),
       (λ k l. omega (arith, s .pre .0 .2 .below k (subst (λ (n : ℕ). k < n) (sym e) l), e, most)),
-      omega (arith, room s, sized r),
+      omega (arith, room s, sized r, f .claims-from .ensures),
     )
 
 -- both parts are written
 module _ (c : tie.After-write-marked) where
   abbrev at-row : tie.After-row-of
-  at-row = c .before .before .before .before .before
+  at-row = c .before .before .before .before .before .before
 
   abbrev place : ℕ
   place = start at-row .args .at + getD (start at-row .args .t2) (start at-row .args .train) 0 + 1
@@ -134,9 +132,12 @@ module _ (c : tie.After-write-marked) where
   written =
       let s = start at-row in
       let a = s .args in
+      let f = c .before .before in
+      let claims : f .claims-from .result ≡ place = omega (arith, f .claims-from .ensures) in
       c .write-marked .ensures
-      ∙ ap (λ (marks : Bytes). sets half place (map (λ k. bit (isMarked marks (getD (now (a .labels)) k 0))) (upTo (a .b .«segment_count»))))
-      (c .before .before .before .mark .ensures
+      ∙ ap₂ (λ (at : ℕ) (marks : Bytes). sets half at (map (λ k. bit (isMarked marks (getD (now (a .labels)) k 0))) (upTo (a .b .«segment_count»))))
+      claims
+      (f .before .before .mark .ensures
       ∙ ap (λ (row : Row). marking (replicate 64 0) (labelsOf (now (a .labels)) (now (a .rows)) row)) (row-is at-row))
       ∙ ap (sets half place)
       (claims-marked (a .b) (a .t2) (now (a .rows)) (now (a .sizes)) (now (a .labels)) (now (a .plan)) (s .pre .0) (a .interval) (s .pre .2)
@@ -144,16 +145,16 @@ module _ (c : tie.After-write-marked) where
       ∙ ap (λ (out : Bytes). sets out place (claimBytes (I s) (p s) (a .train) (a .interval))) (at-row .before .before .before .write-move .ensures)
       ∙ interval-written (I s) (p s) (a .train) (a .interval) (a .at) _ _ (now (a .out)) (runs-are s) (moved at-row)
 
-add-result : tie.Need-add-result
-add-result c = let s = start (at-row (c .before .before)) in omega (arith, room s, s .good)
+next-interval-requires : tie.Need-next-interval-requires
+next-interval-requires c κs = let s = start (at-row (c .before .before)) in omega (arith, room s, s .good)
 
 same-length : tie.Need-same-length
-same-length c = ap length (written (c .before .before)) ∙ simp length-sets
+same-length c = ap length (written (c .before .before .before)) ∙ simp length-sets
 
 returns : tie.Need-returns
 returns c =
-    let s = start (at-row (c .before .before)) in
-    (omega (arith, long s), written (c .before .before))
+    let w = c .before .before .before in
+    (omega (arith, long (start (at-row w)), c .next-interval .ensures), written w)
 
 pub write-interval-spec : {M : Type 1} → statement M
 write-interval-spec =
@@ -165,9 +166,8 @@ write-interval-spec =
     write-move-requires
     row-of-requires
     mark-requires
-    add-claims
-    add-claims-2
+    claims-from-requires
     write-marked-requires
-    add-result
+    next-interval-requires
     same-length
     returns)

@@ -56,29 +56,31 @@ loop-again c =
     ⊎-elim (λ w. w .1 ∙ ap bit (sym (w .0 .taken) ∙ h)) (λ w. w .1 ∙ ap bit (sym (w .0 .left) ∙ h)) (c .if1 .came) in
     stored-next (t .loop .inv) (c .before .before .loop-test .taken) byte
 
+gone-variable-requires : tie.Need-gone-variable-requires Inv-loop μ-loop
+gone-variable-requires c κs = omega arith
+
 is-gone-requires : tie.Need-is-gone-requires Inv-loop μ-loop
 is-gone-requires c κs = tt
-
-add-out-2 : tie.Need-add-out-2 Inv-loop μ-loop
-add-out-2 c = omega arith
 
 slice-write-out-2 : tie.Need-slice-write-out-2 Inv-loop μ-loop
 slice-write-out-2 c = omega arith
 
 same-length : tie.Need-same-length Inv-loop μ-loop
-same-length c = simp length-set (c .before .before .before .loop .inv .size)
+same-length c = simp length-set (c .before .before .before .before .loop .inv .size)
 
 returns : tie.Need-returns Inv-loop μ-loop
 unfolding moveBytes bit
 returns c =
-    let t = c .before .before .before in
+    let v = c .before .before in
+    let t = v .before .before in
     let a = t .before .before .args in
     let h = c .before .is-gone .ensures in
     let byte : c .if2 .out ≡ bit (isGone (heldMove (a .m))) =
     ⊎-elim (λ w. w .1 ∙ ap bit (sym (w .0 .taken) ∙ h)) (λ w. w .1 ∙ ap bit (sym (w .0 .left) ∙ h)) (c .if2 .came) in
     let size : length (map (own (a .m)) (upTo (a .n))) ≡ a .n = length-map (upTo (a .n)) (own (a .m)) ∙ length-upTo (a .n) in
-    ap₂ (λ (o : Bytes) (x : ℕ). set o (a .at + a .n) x) (stored-done (t .loop .inv) (c .before .before .loop-test .left)) byte
-    ∙ ap (λ (k : ℕ). set (sets (now (a .out)) (a .at) (map (own (a .m)) (upTo (a .n)))) (a .at + k) (bit (isGone (heldMove (a .m))))) (sym size)
+    ap₂ (λ (o : Bytes) (x : ℕ). set o (v .gone-variable .result) x) (stored-done (t .loop .inv) (v .before .loop-test .left)) byte
+    ∙ ap (λ (k : ℕ). set (sets (now (a .out)) (a .at) (map (own (a .m)) (upTo (a .n)))) k (bit (isGone (heldMove (a .m)))))
+    (v .gone-variable .ensures ∙ ap (λ (k : ℕ). a .at + k) (sym size))
     ∙ sets-next (map (own (a .m)) (upTo (a .n))) (now (a .out)) (a .at) (bit (isGone (heldMove (a .m))))
 
 pub write-move-spec : {M : Type 1} → statement M
@@ -94,8 +96,8 @@ write-move-spec =
     add-r
     loop-less
     loop-again
+    gone-variable-requires
     is-gone-requires
-    add-out-2
     slice-write-out-2
     same-length
     returns)

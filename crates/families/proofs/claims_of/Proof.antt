@@ -1,8 +1,9 @@
 -- `families::claims_of` meets its contract. The loop's invariant: what is left to pass are the clauses of the directed segments
 -- from k on, and k is not before `at`. Assumes nothing.
+use native.Mathlib.Nat.{add-assoc}
 use native.Mathlib.Omega.{arith}
 use borrow.Author.Needs.{needs}
-use mathlib.Core.Path.{_≡_, ap, _∙_}
+use mathlib.Core.Path.{_≡_, ap, ap₂, _∙_}
 use Prim.Native.Nat.{ℕ, _+_, _-_, _/_, _≤_, _<_}
 use mathlib.Core.List.{List, [], _∷_, _++_, map}
 use lib.IntN.{ℤ}
@@ -23,6 +24,12 @@ use Rattle.families.proofs.claims_of.Tie as tie
 abbrev clause : ℕ → ℕ → ℕ → ℕ → Clause
 clause base n r s = not′ (base + r) ∷ one (is (base + (n + 1 + s)))
 
+-- and by the place of the first claim
+clause-same : (base n r : ℕ) {claims x y : ℕ} → claims ≡ base + (n + 1) → x ≡ y
+    → wordsOf (one (not′ (base + r) ∷ one (is (claims + x / 2)))) ≡ wordsOf (one (clause base n r (y / 2)))
+clause-same base n r {y = y} e f =
+    ap (λ (v : ℕ). wordsOf (one (not′ (base + r) ∷ one (is v)))) (ap₂ (λ (c k : ℕ). c + k / 2) e f ∙ add-assoc base (n + 1) (y / 2))
+
 -- the words of the directed segments from k on
 abbrev behind : ℕ → ℕ → ℕ → Bytes → ℕ → ℕ → List ℤ
 behind base n r rows end k = wordsOf (map (clause base n r) (map segmentOf (slice k end rows)))
@@ -40,11 +47,14 @@ behind-end base n r rows end k h =
     ap (λ (ds : List ℕ). wordsOf (map (clause base n r) (map segmentOf ds))) (slice-end rows end k h)
 
 abbrev Inv-loop : tie.InvT-loop
-Inv-loop base n r rows at size values out₀ end next₀ k₀ out next k =
+Inv-loop base n r rows at size values out₀ claims end next₀ k₀ out next k =
     (at ≤ k) × Ahead values (behind base n r rows end at) (behind base n r rows end k) next₀ out₀ next out
 
 abbrev μ-loop : tie.MeasureT-loop
-μ-loop base n r rows at size values out₀ end next₀ k₀ out next k = end - k
+μ-loop base n r rows at size values out₀ claims end next₀ k₀ out next k = end - k
+
+claims-from-requires : tie.Need-claims-from-requires Inv-loop μ-loop
+claims-from-requires c κs = omega arith
 
 add-end : tie.Need-add-end Inv-loop μ-loop
 add-end c = omega arith
@@ -52,23 +62,17 @@ add-end c = omega arith
 loop-holds : tie.Need-loop-holds Inv-loop μ-loop
 loop-holds c = (omega arith, ahead-start _ _ _ _)
 
-add-implies : tie.Need-add-implies Inv-loop μ-loop
-add-implies c = omega arith
-
-add-implies-2 : tie.Need-add-implies-2 Inv-loop μ-loop
-add-implies-2 c = omega arith
-
 shared-slice-read-wide : tie.Need-shared-slice-read-wide Inv-loop μ-loop
 shared-slice-read-wide c = omega arith
 
 wide-requires : tie.Need-wide-requires Inv-loop μ-loop
 wide-requires c κs = search needs
 
-add-implies-3 : tie.Need-add-implies-3 Inv-loop μ-loop
-add-implies-3 c = omega arith
+add-claim : tie.Need-add-claim Inv-loop μ-loop
+add-claim c = omega arith
 
-add-implies-4 : tie.Need-add-implies-4 Inv-loop μ-loop
-add-implies-4 c = omega arith
+add-implies : tie.Need-add-implies Inv-loop μ-loop
+add-implies c = omega arith
 
 implies-requires : tie.Need-implies-requires Inv-loop μ-loop
 implies-requires c κs = (omega arith, omega arith)
@@ -83,8 +87,9 @@ loop-again : tie.Need-loop-again Inv-loop μ-loop
 unfolding segmentOf
 loop-again c =
     let t = c .before .before .before .before .before in
-    let a = t .before .before .before .before .args in
-    let segment = ap (λ (x : ℕ). wordsOf (one (clause (a .base) (a .n) (a .r) (x / 2)))) (c .before .before .before .wide .ensures .0) in
+    let f = t .before .before in
+    let a = f .before .before .before .args in
+    let segment = clause-same (a .base) (a .n) (a .r) (f .claims-from .ensures) (c .before .before .before .wide .ensures .0) in
     let ahead = ahead-same (behind-next _ _ _ _ _ _ (t .loop-test .taken) (omega arith)) (t .before .loop .inv .1) in
     (omega arith, ahead-pass ahead (walks-same segment (c .before .implies .ensures)))
 
@@ -101,14 +106,13 @@ claims-of-spec =
     (tie.spec
     Inv-loop
     μ-loop
+    claims-from-requires
     add-end
     loop-holds
-    add-implies
-    add-implies-2
     shared-slice-read-wide
     wide-requires
-    add-implies-3
-    add-implies-4
+    add-claim
+    add-implies
     implies-requires
     add-k
     loop-less

@@ -84,8 +84,8 @@ loop-again c =
     let same-words = ap (λ (x : Bool). wordsOf (clause (a .base) (t .before .loop .k) x)) (g .is-given .ensures ∙ place) in
     turn _ _ _ (t .before .loop .inv) (t .loop-test .taken) (walks-same same-words (c .before .unit-not-if .ensures))
 
-add-unit-not : tie.Need-add-unit-not Inv-loop μ-loop
-add-unit-not c = omega arith
+gone-variable-requires : tie.Need-gone-variable-requires Inv-loop μ-loop
+gone-variable-requires c κs = omega arith
 
 unit-not-requires : tie.Need-unit-not-requires Inv-loop μ-loop
 unit-not-requires c κs = omega arith
@@ -93,7 +93,8 @@ unit-not-requires c κs = omega arith
 returns : tie.Need-returns Inv-loop μ-loop
 unfolding rowsD
 returns c =
-    let l = c .before .before .before in
+    let v = c .before .before .before in
+    let l = v .before in
     let s = l .before .before .before .before .before in
     let a = s .args in
     let p = s .pre in
@@ -101,7 +102,8 @@ returns c =
     let row = words-range _ (λ k. clause (a .base) k (instanceOf (held (a .t1)) .given (a .train) k)) (a .n) _ (p .2)
     (λ k h. ap (clause (a .base) k) (given-answer (a .t1) (a .train) k (p .5) train (p .8 k h) refl)) in
     let runs = walks-same row (turned _ _ _ (l .before .loop .inv) (l .loop-test .left)) in
-    let gone = walks-same (ap (λ (k : ℕ). wordsOf (one (one (not′ (a .base + k))))) (p .2)) (c .before .unit-not .ensures) in
+    let place = v .gone-variable .ensures ∙ ap (λ (k : ℕ). a .base + k) (p .2) in
+    let gone = walks-same (ap (λ (k : ℕ). wordsOf (one (one (not′ k)))) place) (c .before .unit-not .ensures) in
     walks-same (sym (words-append _ _)) (walks-behind runs gone)
 
 same-length : tie.Need-same-length Inv-loop μ-loop
@@ -123,7 +125,7 @@ rows-d-spec =
     add-k
     loop-less
     loop-again
-    add-unit-not
+    gone-variable-requires
     unit-not-requires
     same-length
     returns)

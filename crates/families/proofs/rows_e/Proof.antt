@@ -112,11 +112,11 @@ loop-again c =
     let same-words = clause-same (instanceOf (held (a .b))) (a .train) (a .base) (a .after) r (p .2) leaves in
     turn _ _ _ (t .before .loop .inv) (t .loop-test .taken) (walks-same same-words (c .before .clause-e .ensures _ (chained t)))
 
-add-implies : tie.Need-add-implies Inv-loop μ-loop
-add-implies c = omega arith
+gone-variable-requires : tie.Need-gone-variable-requires Inv-loop μ-loop
+gone-variable-requires c κs = omega arith
 
-add-implies-2 : tie.Need-add-implies-2 Inv-loop μ-loop
-add-implies-2 c = omega arith
+gone-variable-requires-2 : tie.Need-gone-variable-requires-2 Inv-loop μ-loop
+gone-variable-requires-2 c κs = omega arith
 
 implies-requires : tie.Need-implies-requires Inv-loop μ-loop
 implies-requires c κs = (omega arith, omega arith)
@@ -124,14 +124,19 @@ implies-requires c κs = (omega arith, omega arith)
 returns : tie.Need-returns Inv-loop μ-loop
 unfolding rowsE
 returns c =
-    let l = c .before .before .before in
+    let after = c .before .before .before in
+    let here = after .before in
+    let l = here .before in
     let s = l .before .before .before .before .before .before .before .before in
     let a = s .args in
     let n = s .pre .2 in
     let row = words-row (clauseE (instanceOf (held (a .b))) (a .train) (a .base) (a .after)) (a .n)
     ∙ ap (λ (k : ℕ). wordsOf (map (clauseE (instanceOf (held (a .b))) (a .train) (a .base) (a .after)) (upTo k))) n in
     let runs = walks-same row (turned _ _ _ (l .before .loop .inv) (l .loop-test .left)) in
-    let gone = walks-same (ap (λ (k : ℕ). wordsOf (one (not′ (a .base + k) ∷ one (is (a .after + k))))) n) (c .before .implies .ensures) in
+    let gone = walks-same
+    (ap₂ (λ (x y : ℕ). wordsOf (one (not′ x ∷ one (is y))))
+    (here .gone-variable .ensures ∙ ap (λ (k : ℕ). a .base + k) n) (after .gone-variable2 .ensures ∙ ap (λ (k : ℕ). a .after + k) n))
+    (c .before .implies .ensures) in
     walks-same (sym (words-append _ _)) (walks-behind runs gone)
 
 same-length : tie.Need-same-length Inv-loop μ-loop
@@ -151,8 +156,8 @@ rows-e-spec =
     add-r
     loop-less
     loop-again
-    add-implies
-    add-implies-2
+    gone-variable-requires
+    gone-variable-requires-2
     implies-requires
     same-length
     returns)

@@ -2,7 +2,8 @@
 -- and `at` is not behind `end`. Assumes nothing.
 use native.Mathlib.Omega.{arith}
 use borrow.Author.Needs.{needs}
-use Prim.Native.Nat.{_+_, _-_, _≤_}
+use mathlib.Core.Path.{ap, _∙_}
+use Prim.Native.Nat.{ℕ, _-_, _≤_}
 use denote.Ref.{now}
 use Rattle.clauses.proofs.Laws.{walks-same}
 use Rattle.clauses.proofs.Turns.{Ahead, ahead-start, ahead-same, ahead-pass, ahead-done}
@@ -17,11 +18,8 @@ Inv-loop train base n meets end values out₀ claims next₀ at₀ out next at =
 abbrev μ-loop : tie.MeasureT-loop
 μ-loop train base n meets end values out₀ claims next₀ at₀ out next at = end - at
 
-add-claims : tie.Need-add-claims Inv-loop μ-loop
-add-claims c = omega arith
-
-add-claims-2 : tie.Need-add-claims-2 Inv-loop μ-loop
-add-claims-2 c = omega arith
+claims-from-requires : tie.Need-claims-from-requires Inv-loop μ-loop
+claims-from-requires c κs = omega arith
 
 loop-holds : tie.Need-loop-holds Inv-loop μ-loop
 loop-holds c = (omega arith, ahead-start _ _ _ _)
@@ -74,8 +72,7 @@ loop-again c =
     let v = w .before .before in
     let u = v .before .before in
     let t = u .before .before in
-    let a = t .before .before .before .before .args in
-    let y = a .base + (a .n + 1) in
+    let y = t .before .before .claims-from .result in
     let same-words = meeting-same y (v .wide2 .ensures .0) (u .wide .ensures .0) (w .wide3 .ensures .0) in
     let ahead = ahead-same (behind-next y _ _ _ (t .loop-test .taken) (omega arith)) (t .before .loop .inv .1) in
     (omega arith, ahead-pass ahead (walks-same same-words (c .before .implies-either .ensures)))
@@ -85,9 +82,11 @@ same-length c = c .before .loop .inv .1 .size
 
 returns : tie.Need-returns Inv-loop μ-loop
 returns c =
-    let s = c .before .before .before .before in
+    let f = c .before .before in
+    let s = f .before .before .before in
     let passed = ahead-done (ahead-same (behind-end _ _ _ _ (c .loop-test .left)) (c .before .loop .inv .1)) in
-    walks-same (behind-all _ _ _ _ (now (s .args .meets)) (s .args .end) (s .pre .0) (s .pre .3)) passed
+    let all = behind-all _ _ _ _ (now (s .args .meets)) (s .args .end) (s .pre .0) (s .pre .3) in
+    walks-same (ap (λ (y : ℕ). behind y (now (s .args .meets)) (s .args .end) 0) (f .claims-from .ensures) ∙ all) passed
 
 pub rows-h-spec : {M : Type 1} → statement M
 rows-h-spec =
@@ -95,8 +94,7 @@ rows-h-spec =
     (tie.spec
     Inv-loop
     μ-loop
-    add-claims
-    add-claims-2
+    claims-from-requires
     loop-holds
     add-loop
     add-wide

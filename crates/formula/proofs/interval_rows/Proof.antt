@@ -21,14 +21,8 @@ told : (b : BookStruct) (i x : ℕ) {f g : Family} → f ≡ g
     → wordsOf (rowsOf (instanceOf (held b)) g i x) ≡ wordsOf (rowsOf (instanceOf (held b)) f i x)
 told b i x e = ap (λ (h : Family). wordsOf (rowsOf (instanceOf (held b)) h i x)) (sym e)
 
-add-after : tie.Need-add-after
-add-after c = search needs
-
-add-after-2 : tie.Need-add-after-2
-add-after-2 c = search needs
-
-add-after-3 : tie.Need-add-after-3
-add-after-3 c = search needs
+next-interval-requires : tie.Need-next-interval-requires
+next-interval-requires c κs = search needs
 
 enum-told : tie.Need-enum-told
 enum-told c = search needs
@@ -105,10 +99,12 @@ same-length-4 c = search needs
 
 returns-4 : tie.Need-returns-4
 returns-4 c =
+    let f = c .before .before .before .before .before in
     let s = c .before .before .before .before .before .before .before .before .before .before .before .before in
     let a = s .args in
     let wide = width-is (a .b) (s .pre .0) (a .train) (a .n) (s .pre .2) in
-    let same = ap (λ (k : ℕ). wordsOf (rowsE (instanceOf (held (a .b))) (a .train) (a .base) (a .base + k))) wide in
+    let after = f .next-interval .ensures ∙ ap (λ (k : ℕ). a .base + k) wide in
+    let same = ap (λ (y : ℕ). wordsOf (rowsE (instanceOf (held (a .b))) (a .train) (a .base) y)) after in
     walks-same (same ∙ told (a .b) (a .train) (a .base) (c .before .before .before .enum-told4 .given .1)) (c .before .rows-e .ensures)
 
 same-length-5 : tie.Need-same-length-5
@@ -131,9 +127,7 @@ pub interval-rows-spec : {M : Type 1} → statement M
 interval-rows-spec =
     tie.close
     (tie.spec
-    add-after
-    add-after-2
-    add-after-3
+    next-interval-requires
     enum-told
     rows-b-requires
     enum-told-2

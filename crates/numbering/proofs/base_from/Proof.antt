@@ -2,29 +2,28 @@
 use borrow.Author.Needs.{needs}
 use native.Mathlib.Nat.{mul-le-mul}
 use native.Mathlib.Omega.{arith}
-use mathlib.Core.Path.{refl}
-use Prim.Native.Nat.{_+_, _*_, _≤_}
+use mathlib.Core.Path.{ap}
+use Prim.Native.Nat.{ℕ, _+_, _*_, _≤_}
 use Rattle.numbering.proofs.base_from.Statement.{statement}
 use Rattle.numbering.proofs.base_from.Tie as tie
 
-add-result : tie.Need-add-result
-add-result c = search needs
-
-add-result-2 : tie.Need-add-result-2
-add-result-2 c = search needs
+width-requires : tie.Need-width-requires
+width-requires c κs = search needs
 
 -- the intervals before it have so many variables at most
-span : (s : tie.Start) → s .args .interval * (s .args .n + 1 + s .args .segments) ≤ 21037056
-span s = mul-le-mul {n₂ = 65536} {m₂ = 321} (s .pre .3) (omega arith)
+span : (c : tie.After-width) → c .before .args .interval * c .width .result ≤ 21037056
+span c = mul-le-mul {n₂ = 65536} {m₂ = 321} (c .before .pre .3) (omega arith)
 
 mul-result : tie.Need-mul-result
 mul-result c = omega (arith, span c)
 
-add-result-3 : tie.Need-add-result-3
-add-result-3 c = omega (arith, span c)
+add-result : tie.Need-add-result
+add-result c = omega (arith, span c)
 
 returns : tie.Need-returns
-returns c = (refl, omega (arith, span c))
+returns c =
+    let a = c .before .args in
+    (ap (λ (w : ℕ). a .first + a .interval * w) (c .width .ensures), omega (arith, span c))
 
 pub base-from-spec : {M : Type 1} → statement M
-base-from-spec = tie.close (tie.spec add-result add-result-2 mul-result add-result-3 returns)
+base-from-spec = tie.close (tie.spec width-requires mul-result add-result returns)

@@ -1,8 +1,8 @@
 -- `numbering::first_claim` meets its contract: the claims lie behind the interval's runs and the variable "gone". Assumes nothing.
 use borrow.Author.Needs.{needs}
 use native.Mathlib.Omega.{arith}
-use mathlib.Core.Path.{_≡_, ap, _∙_}
-use Prim.Native.Nat.{ℕ, _+_, _≤_, _<_}
+use mathlib.Core.Path.{_≡_}
+use Prim.Native.Nat.{ℕ, _+_, _≤_}
 use lib.ListN.{getD}
 use Rattle.spec.specs.Instance.{Instance}
 use Rattle.spec.specs.Formula.{base, claimVar}
@@ -13,34 +13,32 @@ use Rattle.numbering.proofs.first_claim.Tie as tie
 base-of-requires : tie.Need-base-of-requires
 base-of-requires c κs = search needs
 
-mul-result : tie.Need-mul-result
-mul-result c = search needs
+mul-claims-from : tie.Need-mul-claims-from
+mul-claims-from c = search needs
 
-array-read-result : tie.Need-array-read-result
-array-read-result c = search needs
+array-read-claims-from : tie.Need-array-read-claims-from
+array-read-claims-from c = search needs
 
 runs-few : (s : tie.Start) → getD (s .args .t2) (s .args .train) 0 ≤ 256
 runs-few s = few-runs (s .args .b) (s .args .t2) (s .pre .0) (s .args .train) (s .pre .1)
 
-add-result : tie.Need-add-result
-add-result c = omega (arith, runs-few (c .before))
-
-add-result-2 : tie.Need-add-result-2
-add-result-2 c = omega (arith, runs-few (c .before), c .base-of .ensures .1)
+claims-from-requires : tie.Need-claims-from-requires
+claims-from-requires c κs = omega (arith, runs-few (c .before), c .base-of .ensures .1)
 
 -- the first claim, as the instance numbers it
-claims-at : (I : Instance) (i t : ℕ) {n x : ℕ} → n ≡ I .runs i → x ≡ base I i t → x + (n + 1) ≡ claimVar I i t 0
+claims-at : (I : Instance) (i t : ℕ) {n x y : ℕ} → n ≡ I .runs i → x ≡ base I i t → y ≡ x + (n + 1) → y ≡ claimVar I i t 0
 unfolding claimVar
-claims-at I i t e f = omega arith
+claims-at I i t e f g = omega arith
 
 returns : tie.Need-returns
 returns c =
-    let s = c .before in (
-      claims-at _ _ _ (s .pre .0 .runs (s .args .train) (s .pre .1)) (c .base-of .ensures .0),
-      omega (arith, runs-few s, c .base-of .ensures .1),
+    let v = c .before in
+    let s = v .before in (
+      claims-at _ _ _ (s .pre .0 .runs (s .args .train) (s .pre .1)) (v .base-of .ensures .0) (c .claims-from .ensures),
+      omega (arith, runs-few s, v .base-of .ensures .1, c .claims-from .ensures),
     )
 
 pub first-claim-spec : {M : Type 1} → statement M
 first-claim-spec =
     tie.close
-    (tie.spec base-of-requires mul-result array-read-result add-result add-result-2 returns)
+    (tie.spec base-of-requires mul-claims-from array-read-claims-from claims-from-requires returns)

@@ -14,13 +14,13 @@ use lib.Seq.{length-take-le}
 use lib.IntN.{ℤ}
 use lib.Dec.{T}
 use Rattle.spec.specs.Instance.{Instance, instanceOf}
-use Rattle.spec.specs.Formula.{firstVar, formula, variables, wordsOf}
+use Rattle.spec.specs.Formula.{formula, variables, wordsOf}
 use Rattle.spec.specs.Refutation.{Lent, inRange}
 use Rattle.spec.specs.Held.{held}
 use Rattle.demands.proofs.Words.{formula-in-range}
 use Rattle.demands.proofs.Wellformed.{sound}
 use Rattle.tables.specs.Tables.{Passed}
-use Rattle.tables.proofs.Small.{trains-is, all-variables, first-small, passed-few}
+use Rattle.tables.proofs.Small.{all-variables, first-small, passed-few}
 use Rattle.formula.proofs.Totals.{nothing-ahead, walks-from, walk-words, walk-clauses, is-small}
 use Rattle.refutations.specs.Lent.{lengths}
 use Rattle.refutations.proofs.Lengths.{Room, short, checked}
@@ -37,8 +37,8 @@ part-none-start c = search needs
 part-none-end : tie.Need-part-none-end
 part-none-end c = search needs
 
-first-variable-requires : tie.Need-first-variable-requires
-first-variable-requires c κs = search needs
+variable-count-requires : tie.Need-variable-count-requires
+variable-count-requires c κs = search needs
 
 sub-walk-formula : tie.Need-sub-walk-formula
 sub-walk-formula c = search needs
@@ -81,11 +81,10 @@ module _ (m : tie.After-walk-formula) where
 
   -- the variables: how many, that they are few, and that the formula's literals are of them
   abbrev vars : ℕ
-  vars = m .before .before .first-variable .result
+  vars = m .before .before .variable-count .result
 
   variable-count : vars ≡ variables I
-  variable-count =
-      m .before .before .first-variable .ensures ∙ ap (firstVar I) (sym (trains-is (start .args .b) passed)) ∙ all-variables I
+  variable-count = m .before .before .variable-count .ensures
 
   few : vars < 2147483648
   few = omega (arith, variable-count, all-variables I, first-small I (passed-few (start .args .b) passed) (I .trains) (le-refl _))
@@ -234,7 +233,7 @@ refute-by-spec =
     sub-none
     part-none-start
     part-none-end
-    first-variable-requires
+    variable-count-requires
     sub-walk-formula
     part-walk-formula-start
     part-walk-formula-end

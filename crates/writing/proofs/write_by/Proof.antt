@@ -1,15 +1,13 @@
 -- `writing::write_by` meets its contract: the first walk measures, the second writes. Assumes nothing.
 use borrow.Author.Needs.{needs}
-use native.Mathlib.Nat.{le-refl}
 use native.Mathlib.Omega.{arith}
-use mathlib.Core.Path.{_≡_, refl, sym, ap, _∙_}
-use Prim.Native.Nat.{ℕ, _≤_, _<_}
+use mathlib.Core.Path.{refl, ap, _∙_}
+use Prim.Native.Nat.{_≤_, _<_}
 use denote.Ref.{now}
 use lib.ListN.{length}
 use Rattle.spec.specs.Instance.{instanceOf}
-use Rattle.spec.specs.Formula.{firstVar, formula, wordsOf}
+use Rattle.spec.specs.Formula.{formula, wordsOf}
 use Rattle.spec.specs.Held.{held}
-use Rattle.tables.proofs.Small.{trains-is}
 use Rattle.formula.proofs.Totals.{nothing-ahead, walks-from, walk-words, walk-clauses}
 use Rattle.writing.proofs.Answers.{answer-short, output-short, answer-fits, output-fits}
 use Rattle.writing.proofs.write_by.Statement.{statement}
@@ -53,8 +51,8 @@ returns c =
 walk-formula-requires-2 : tie.Need-walk-formula-requires-2
 walk-formula-requires-2 c κs = search needs
 
-first-variable-requires : tie.Need-first-variable-requires
-first-variable-requires c κs = (c .before .before .before .before .before .before .before .before .before .before .before .before .before .before .pre .0 .counted, le-refl _)
+variable-count-requires : tie.Need-variable-count-requires
+variable-count-requires c κs = c .before .before .before .before .before .before .before .before .before .before .before .before .before .before .pre .0 .counted
 
 same-length-2 : tie.Need-same-length-2
 same-length-2 c = search needs
@@ -71,8 +69,7 @@ returns-2 c =
     let k = walks-from e (w .walk-formula2 .ensures) in
     let n = walk-words (a .b) p (m .walk-formula .ensures) in
     let h : length (wordsOf (formula (instanceOf (held (a .b))))) ≤ length out = omega (arith, w .before .before .if1 .left, ap length e, n) in (
-      answer-fits (a .b) p (length out) h (c .first-variable .ensures ∙ ap (firstVar _) (sym (trains-is (a .b) p))) (walk-clauses (a .b) p k)
-          (walk-words (a .b) p k),
+      answer-fits (a .b) p (length out) h (c .variable-count .ensures) (walk-clauses (a .b) p k) (walk-words (a .b) p k),
       output-fits (a .b) p h k,
     )
 
@@ -90,6 +87,6 @@ write-by-spec =
     same-length
     returns
     walk-formula-requires-2
-    first-variable-requires
+    variable-count-requires
     same-length-2
     returns-2)
