@@ -54,7 +54,7 @@ fn formula_number(answer: FormulaAnswer) -> usize
     }
 }
 
-// Whether the bytes are a book.
+// 0 where the bytes are a book, or the number of the refusal.
 #[no_mangle]
 pub extern "C" fn gentupag_read_book(book: &[u8]) -> usize
     ensures { λ r. ⌜ r ≡ answerNumber (answerOf (readBook (now (book .entry)))) ⌝ }
