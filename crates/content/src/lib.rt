@@ -1,6 +1,6 @@
-// The content of a book's frames: 4 to 9 for each kind, and what the frame adds to the book. Each
-// `add_` takes a payload and answers the refusal's number beside the book unchanged, or the book with
-// what the frame adds. Assumes nothing.
+// The content of a book's frames: 4 to 9 for each kind but End, whose 4 the reader asks, and what the
+// frame adds to the book. Each `add_` takes a payload and answers the refusal's number beside the book
+// unchanged, or the book with what the frame adds. Assumes nothing.
 use checks::all_below;
 use checks::calls_of;
 use checks::may_divide;

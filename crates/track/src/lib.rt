@@ -1,6 +1,7 @@
 // The track of a book: what touches a node, where a directed segment begins and ends, which directed
-// segments lead to which, lengths and speeds in segments, and whether a row is a path. One function
-// for each rule; reader, run lists and plan check all use these. Assumes nothing.
+// segments lead to which, lengths and speeds in segments, and whether a row is a path. Reader, run
+// lists, formula and plan check go by these; only the filler of the run lists' successors asks for the
+// two halves of "leads to" by itself. Assumes nothing.
 use model::Book;
 use model::Join;
 use model::Segment;
