@@ -103,7 +103,7 @@ pub fn print(buf: &[u8], n: usize) -> bool {
 }
 
 // Prints the text of words in pieces, a buffer at a time.
-fn print_words(words: &[i32]) {
+pub fn print_words(words: &[i32]) {
     let mut buf = io::large_buffer();
     let mut from = 0;
     while from < words.len() {

@@ -281,6 +281,8 @@ further =
     ∷ record { asked = clauseNumber 218 bookN; answer = clause (negsuc 29 ∷ negsuc 56 ∷ []) }
     -- a window from 3 to 3: only the runs of interval 2
     ∷ record { asked = clauseNumber 152 (passingBook 3 3); answer = clause (pos 24 ∷ pos 25 ∷ pos 26 ∷ []) }
+    -- a window that shuts before the departure: no refusal, and a clause that nothing satisfies
+    ∷ record { asked = clauseNumber 152 (passingBook 0 0); answer = clause [] }
     -- N's plan with a border at node 1, its assignment, and the way back
     ∷ record { asked = encodes bookN planN 57; answer = text assignmentN }
     ∷ record { asked = decodes bookN assignmentN 15; answer = text planN }

@@ -1,13 +1,12 @@
 // The programs over the checks: their files, and what they print. `verdict_text` makes the line of a
 // verdict, 12 first where an input is too long, and the result where there is one; its contract says that
-// these are the specification's. The other functions only read files by the arguments' names, and hand
-// bytes to the output and to a file. A slice has at most 64 KiB.
+// these are the specification's. The other functions only read files by their names, and hand bytes to the
+// output and to a file. A slice has at most 64 KiB.
 use checking::OutputAnswer;
 use checking::check_assignment;
 use checking::check_plan;
 use dimacs::put_bytes;
 use dimacs::put_refusal;
-use libc::STDERR_FILENO;
 use printing::Loaded;
 use printing::load_from;
 use printing::print;
@@ -152,15 +151,13 @@ pub fn verdict_text(
     }
 }
 
-// Reads the file that an argument names; where it can't be read, standard error says why.
-fn load(argument: usize, buf: &mut [u8]) -> Loaded
+// Reads the file of this name; where it can't be read, standard error says why.
+fn load(name: &[u8], buf: &mut [u8]) -> Loaded
     ensures { λ r. ⌜ Counts (r .len) (now (buf .exit)) ⌝ }
 {
-    let mut name = io::buffer();
-    let n = os::arg(argument, &mut name);
-    let fd = os::open_read(&name[..n]);
+    let fd = os::open_read(name);
     if fd < 0 {
-        os::fail(&name[..n]);
+        os::fail(name);
         return Loaded {
             len: 0,
             long: false,
@@ -169,77 +166,51 @@ fn load(argument: usize, buf: &mut [u8]) -> Loaded
     }
     let loaded = load_from(fd, buf);
     if !loaded.read {
-        os::fail(&name[..n]);
+        os::fail(name);
     }
     libc::close(fd);
     loaded
 }
 
-// Writes bytes into the file that an argument names; where it can't be written, standard error says
-// why.
-fn save(argument: usize, bytes: &[u8]) {
-    let mut name = io::buffer();
-    let n = os::arg(argument, &mut name);
-    let fd = os::open_overwrite(&name[..n]);
+// Writes bytes into the file of this name; where it can't be written, standard error says why.
+fn save(name: &[u8], bytes: &[u8]) {
+    let fd = os::open_overwrite(name);
     if fd < 0 {
-        os::fail(&name[..n]);
+        os::fail(name);
         return;
     }
     if !io::write_all(fd, bytes) {
-        os::fail(&name[..n]);
+        os::fail(name);
     }
     libc::close(fd);
 }
 
-// Prints the line of a verdict; its result, if it has one, goes to the file that an argument names, if
-// there is such an argument.
-fn hand_out(said: Said, line: &[u8], out: &[u8], argument: usize) {
+// Prints the line of a verdict; its result, if it has one, goes to the file of this name, if one was
+// named.
+fn hand_out(said: Said, line: &[u8], out: &[u8], result: &[u8], named: bool) {
     let n = said.result;
     if !print(line, said.len) {
         return;
     }
-    if 0 < n && n <= out.len() && argument < os::arg_count() {
-        save(argument, &out[..n]);
+    if 0 < n && n <= out.len() && named {
+        save(result, &out[..n]);
     }
 }
 
-// Judges the files that three arguments in a row name, the first of them given by its number: the book,
-// the second input, and the result, which may be missing. Where an input can't be read, nothing is
-// printed.
-pub fn judge_files(check: Check, first: usize)
-    requires { ⌜ first ≤ 1000000000 ⌝ }
-{
-    let mut book = io::large_buffer();
-    let mut second = io::large_buffer();
-    let a = load(first, &mut book);
-    let b = load(first + 1, &mut second);
+// Judges the files of these names: the book, the second input, and the result, if one was named. Where an
+// input can't be read, nothing is printed.
+pub fn judge_files(check: Check, book: &[u8], second: &[u8], result: &[u8], named: bool) {
+    let mut bytes = io::large_buffer();
+    let mut more = io::large_buffer();
+    let a = load(book, &mut bytes);
+    let b = load(second, &mut more);
     if a.read && b.read {
         let mut out = io::large_buffer();
         let mut line = [0u8; 64];
         let n = a.len;
         let m = b.len;
         let long = a.long || b.long;
-        let said = verdict_text(check, &book[..n], &second[..m], long, &mut out, &mut line);
-        hand_out(said, &line, &out, first + 2);
+        let said = verdict_text(check, &bytes[..n], &more[..m], long, &mut out, &mut line);
+        hand_out(said, &line, &out, result, named);
     }
-}
-
-// How many arguments a program takes at most, its own name among them: a refutation has no result to
-// write.
-fn most_arguments(check: Check) -> usize {
-    match check {
-        Check::Assignment => 4,
-        Check::Plan => 4,
-        Check::Refutation => 3,
-    }
-}
-
-// A program: it judges the files that its arguments name, or says what arguments it takes.
-pub fn run(check: Check, usage: &[u8]) {
-    let names = os::arg_count();
-    if names < 3 || most_arguments(check) < names {
-        io::write_all(STDERR_FILENO, usage);
-        return;
-    }
-    judge_files(check, 1);
 }

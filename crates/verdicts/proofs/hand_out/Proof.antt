@@ -13,11 +13,8 @@ print-requires c κs = search needs
 returns : tie.Need-returns
 returns c = search needs
 
-arg-count-requires : tie.Need-arg-count-requires
-arg-count-requires c κs = search needs
-
 slice-aggregate-save : tie.Need-slice-aggregate-save
-slice-aggregate-save c = sym (length-take-le _ _ (leb→le _ _ (from-true (c .before .before .before .if3 .taken))))
+slice-aggregate-save c = sym (length-take-le _ _ (leb→le _ _ (from-true (c .before .before .if3 .taken))))
 
 save-requires : tie.Need-save-requires
 save-requires c κs = search needs
@@ -34,7 +31,6 @@ hand-out-spec =
     (tie.spec
     print-requires
     returns
-    arg-count-requires
     slice-aggregate-save
     save-requires
     returns-2

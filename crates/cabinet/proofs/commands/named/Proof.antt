@@ -1,0 +1,52 @@
+-- `cabinet::commands::named` meets its contract: each test is of the word itself. Assumes nothing.
+use borrow.Author.Needs.{needs}
+use mathlib.Core.Path.{_≡_}
+use mathlib.Core.Bool.{Bool, true, false}
+use Rattle.laws.proofs.Tests.{from-true, from-false}
+use Rattle.cabinet.proofs.commands.named.Statement.{statement}
+use Rattle.cabinet.proofs.commands.named.Tie as tie
+
+returns : tie.Need-returns
+returns c = c .before .same .ensures .0 (c .if1 .taken)
+
+returns-2 : tie.Need-returns-2
+returns-2 c = c .before .same2 .ensures .0 (c .if2 .taken)
+
+returns-3 : tie.Need-returns-3
+returns-3 c = c .before .same3 .ensures .0 (c .if3 .taken)
+
+returns-4 : tie.Need-returns-4
+returns-4 c = c .before .same4 .ensures .0 (c .if4 .taken)
+
+-- a test that failed is of another word
+other : {A : Type 0} {b : Bool} → b ≡ false → (A → b ≡ true) → A → ⊥
+other failed held a = from-false failed (from-true (held a))
+
+returns-5 : tie.Need-returns-5
+returns-5 c =
+    let third = c .before .before .before in
+    let second = third .before .before .before in
+    let first = second .before .before .before in (
+      other (first .if1 .left) (first .before .same .ensures .1),
+      other (second .if2 .left) (second .before .same2 .ensures .1),
+      other (third .if3 .left) (third .before .same3 .ensures .1),
+      other (c .if4 .left) (c .before .same4 .ensures .1),
+    )
+
+pub named-spec : {M : Type 1} → statement M
+named-spec =
+    tie.close
+    (tie.spec
+    (λ c. search needs)
+    (λ c κs. search needs)
+    returns
+    (λ c. search needs)
+    (λ c κs. search needs)
+    returns-2
+    (λ c. search needs)
+    (λ c κs. search needs)
+    returns-3
+    (λ c. search needs)
+    (λ c κs. search needs)
+    returns-4
+    returns-5)

@@ -1,0 +1,30 @@
+// The commands and their words.
+use check::same;
+ghost use Rattle.cabinet.specs.Words.{Names};
+
+pub enum Command {
+    PrintFormula,
+    CheckAssignment,
+    CheckPlan,
+    CheckRefutation,
+    Unknown,
+}
+
+// The command that a word names.
+pub fn named(word: &[u8]) -> Command
+    ensures { λ r. ⌜ Names (now (word .entry)) r ⌝ }
+{
+    if same(word, b"print_formula") {
+        return Command::PrintFormula;
+    }
+    if same(word, b"check_assignment") {
+        return Command::CheckAssignment;
+    }
+    if same(word, b"check_plan") {
+        return Command::CheckPlan;
+    }
+    if same(word, b"check_refutation") {
+        return Command::CheckRefutation;
+    }
+    Command::Unknown
+}

@@ -1,0 +1,81 @@
+// cabinet COMMAND ..: the commands over the core, one program for all.
+//
+//   print_formula < BOOK                      prints the book's formula in DIMACS CNF
+//   check_assignment BOOK ASSIGNMENT [PLAN]   an accepted assignment's plan goes to the third file
+//   check_plan BOOK PLAN [ASSIGNMENT]         an accepted plan is written as an assignment
+//   check_refutation BOOK REFUTATION
+//
+// A check prints accepted; every command prints a refusal as its number, a blank and its detail. A slice
+// has at most 64 KiB: longer input is refused by 12 first.
+mod commands;
+
+use commands::Command;
+use commands::named;
+use libc::STDERR_FILENO;
+use libc::STDIN_FILENO;
+use printing::print_formula_from;
+use verdicts::Check;
+use verdicts::judge_files;
+
+fn complain(message: &[u8]) {
+    io::write_all(STDERR_FILENO, message);
+}
+
+fn print_formula() {
+    if os::arg_count() != 2 {
+        complain(b"usage: print_formula < BOOK\n");
+        return;
+    }
+    if !print_formula_from(STDIN_FILENO) {
+        complain(b"print_formula: standard input can't be read\n");
+    }
+}
+
+// Judges the files that the arguments behind the command name; the third of them may be missing, and where
+// there is no result there is none.
+fn judge(check: Check, most: usize, usage: &[u8]) {
+    let words = os::arg_count();
+    if words < 4 || most < words {
+        complain(usage);
+        return;
+    }
+    let mut book = io::buffer();
+    let mut second = io::buffer();
+    let mut result = io::buffer();
+    let n = os::arg(2, &mut book);
+    let m = os::arg(3, &mut second);
+    let k = os::arg(4, &mut result);
+    judge_files(check, &book[..n], &second[..m], &result[..k], words == 5);
+}
+
+fn main() {
+    let mut word = io::buffer();
+    let n = os::arg(1, &mut word);
+    let command = named(&word[..n]);
+    match command {
+        Command::PrintFormula => print_formula(),
+        Command::CheckAssignment => judge(
+            Check::Assignment,
+            5,
+            b"usage: check_assignment BOOK ASSIGNMENT [PLAN]\n",
+        ),
+        Command::CheckPlan => judge(
+            Check::Plan,
+            5,
+            b"usage: check_plan BOOK PLAN [ASSIGNMENT]\n",
+        ),
+        Command::CheckRefutation => {
+            judge(
+                Check::Refutation,
+                4,
+                b"usage: check_refutation BOOK REFUTATION\n",
+            )
+        }
+        Command::Unknown => {
+            complain(b"usage: cabinet print_formula < BOOK\n");
+            complain(b"       cabinet check_assignment BOOK ASSIGNMENT [PLAN]\n");
+            complain(b"       cabinet check_plan BOOK PLAN [ASSIGNMENT]\n");
+            complain(b"       cabinet check_refutation BOOK REFUTATION\n");
+        }
+    }
+}

@@ -1,0 +1,64 @@
+-- `cases::formulas::more_words` is safe and ends: each piece leads further on. Assumes nothing.
+use borrow.Author.Needs.{needs}
+use mathlib.Core.Path.{_≡_, sym, ap, _∙_}
+use Prim.Native.Nat.{_≤_, _<_, _-_}
+use native.Mathlib.Omega.{arith}
+use lib.ListN.{length, take, drop}
+use lib.Seq.{sets, length-sets}
+use Rattle.dimacs.specs.Text.{wordsText, taken}
+use Rattle.printing.proofs.Texts.{piece-some, piece-le}
+use Rattle.cases.proofs.formulas.more_words.Statement.{statement}
+use Rattle.cases.proofs.formulas.more_words.Tie as tie
+
+abbrev Inv-loop : tie.InvT-loop
+Inv-loop words buf₀ digest₀ from₀ buf digest from = (from ≤ length words) × (length buf ≡ 65536) × (digest .sum < 1000000007)
+
+abbrev μ-loop : tie.MeasureT-loop
+μ-loop words buf₀ digest₀ from₀ buf digest from = length words - from
+
+-- a piece leaves the buffer's length as it is
+filled : (c : tie.After-put-words Inv-loop μ-loop) → length (c .put-words .last .0) ≡ 65536
+filled c =
+    let k = c .before .before .before in
+    let ls = drop (k .loop .from) (k .before .before .args .words .now) in
+    let text = wordsText (take (taken (length (k .loop .buf)) ls) ls) in
+    ap length {y = sets (k .loop .buf) 0 text} (c .put-words .ensures .3) ∙ length-sets (k .loop .buf) 0 text ∙ k .loop .inv .1
+
+loop-holds : tie.Need-loop-holds Inv-loop μ-loop
+loop-holds c = (omega arith, sym (c .large-buffer .ensures), c .before .pre)
+
+put-words-requires : tie.Need-put-words-requires Inv-loop μ-loop
+put-words-requires c κs =
+    let i = c .before .before .loop .inv in
+    (i .0, omega (arith, i .1))
+
+loop-less : tie.Need-loop-less Inv-loop μ-loop
+loop-less c =
+    let piece = c .before .before .before in
+    let k = piece .before .before .before in
+    let less = piece .before .before .loop-test .taken in
+    let more = piece-some (length (k .loop .buf)) (k .before .before .args .words .now) (k .loop .from) (omega (arith, k .loop .inv .1)) less in
+    omega (arith, piece .put-words .ensures .0, more, less)
+
+loop-again : tie.Need-loop-again Inv-loop μ-loop
+loop-again c =
+    let piece = c .before .before .before in
+    let k = piece .before .before .before in
+    let within = piece-le (length (k .loop .buf)) (k .before .before .args .words .now) (k .loop .from) (k .loop .inv .0) in
+    (omega (arith, piece .put-words .ensures .0, within), filled piece, c .more .ensures)
+
+pub more-words-spec : {M : Type 1} → statement M
+more-words-spec =
+    tie.close
+    (tie.spec
+    Inv-loop
+    μ-loop
+    (λ c κs. search needs)
+    loop-holds
+    (λ c. sym (c .before .before .loop .inv .1))
+    put-words-requires
+    (λ c. sym (filled (c .before .before)))
+    (λ c κs. c .before .before .before .before .before .loop .inv .2)
+    loop-less
+    loop-again
+    (λ c. search needs))

@@ -1,0 +1,81 @@
+// The verdicts on assignments, plans and refutations. What is lent holds something already.
+use crate::lent::lent;
+use libc::STDOUT_FILENO;
+use printing::print;
+use verdicts::Check;
+use verdicts::Said;
+use verdicts::refutation_text;
+use verdicts::verdict_text;
+ghost use mathlib.Core.Path.{_≡_};
+ghost use lib.ListN.{length};
+
+// The verdict on an assignment or a plan, with as much of the output lent as the numbers say.
+fn verdict(
+    check: Check,
+    book: &[u8],
+    second: &[u8],
+    numbers: &[u8],
+    out: &mut [u8],
+    line: &mut [u8],
+) -> Said
+    requires { ⌜ length (now line) ≡ 64 ⌝ }
+{
+    let n = lent(numbers, 0, out.len());
+    verdict_text(check, book, second, false, &mut out[..n], line)
+}
+
+// The verdict's line and, where it is accepted, its result on a line.
+pub fn judge(check: Check, book: &[u8], second: &[u8], numbers: &[u8]) {
+    let mut out = [7u8; 65536];
+    let mut line = [0u8; 64];
+    let said = verdict(check, book, second, numbers, &mut out, &mut line);
+    print(&line, said.len);
+    if 0 < said.result {
+        print(&out, said.result);
+        io::write_all(STDOUT_FILENO, b"\n");
+    }
+}
+
+// The verdict on a refutation, with as much of the slices lent as the numbers say.
+fn refutation(
+    book: &[u8],
+    r: &[u8],
+    numbers: &[u8],
+    words: &mut [i32],
+    clauses: &mut [usize],
+    values: &mut [u8],
+    trail: &mut [usize],
+) {
+    let mut line = [0u8; 64];
+    let w = lent(numbers, 0, words.len());
+    let c = lent(numbers, 1, clauses.len());
+    let v = lent(numbers, 2, values.len());
+    let t = lent(numbers, 3, trail.len());
+    let said = refutation_text(
+        book,
+        r,
+        &mut words[..w],
+        &mut clauses[..c],
+        &mut values[..v],
+        &mut trail[..t],
+        &mut line,
+    );
+    print(&line, said.len);
+}
+
+// The verdict's line.
+pub fn refute(book: &[u8], r: &[u8], numbers: &[u8]) {
+    let mut words = [-7i32; 16384];
+    let mut clauses = [9usize; 8192];
+    let mut values = [2u8; 65536];
+    let mut trail = [5usize; 8192];
+    refutation(
+        book,
+        r,
+        numbers,
+        &mut words,
+        &mut clauses,
+        &mut values,
+        &mut trail,
+    );
+}
