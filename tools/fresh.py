@@ -1,20 +1,14 @@
-#!/usr/bin/env python3
-"""Holds the built programs, the reference and solvers together on new random books.
+"""Holds the built program, the reference and solvers together on new random books, made from SEED for so many SECONDS; SEED/BOOK in place of
+SEED makes that book of the seed alone.
 
-    fresh.py SEED SECONDS [BIN]
-
-Makes books from the seed for so many seconds; SEED/BOOK in place of SEED makes that book of the seed alone. BIN is the folder of the
-programs, by default target/bin of the repository that this script stands in.
-
-Of each book: the formula's text is the reference's; tools/solve.py decides it, and one of the real solvers that are installed, in turns;
+Of each book: the formula's text is the reference's; the solver script decides it, and one of Debian's solvers that are installed, in turns;
 what they answer is accepted, and turned into a plan and back; spoiled assignments, plans and refutations get the reference's line and
 result; no book has both a plan and a refutation accepted. Where the plans are few, all are tried by the reference's rules: there is one
-that keeps them exactly where there is an accepted assignment, and otherwise there is an accepted refutation.
+that keeps them exactly where there is an accepted assignment, and otherwise there is an accepted refutation. Prints a summary and every
+difference; the files of those stay in a folder that it names.
 
-Prints a summary and every difference; the files of those stay in a folder that it names.
-Exit status: 0 none, 1 a difference, 2 wrong usage or a program is missing.
+Exit status: 0 no difference, 1 a difference, 2 wrong usage, or the program is missing.
 """
-
 import itertools
 import os
 import random
@@ -24,216 +18,30 @@ import sys
 import tempfile
 import textwrap
 import time
-from collections import Counter, defaultdict, deque, namedtuple
+from collections import Counter, defaultdict
 
-import reference as ref
-import samples
-from reference import ABSENT, GONE
+from . import reference as ref
+from .all_plans import keeping, plans_to_try
+from .counts import answer_name, line_name, listed
+from .features import features, on, parallel_tracks
+from .inputs import TooLong, encode_steps, plan_bytes, read_steps, step_frame
+from .passing_books import make_book
+from .random_inputs import (break_plan, claim_more, honest_steps, outside_plan, spoil_ending, spoil_steps, spoiled_bytes,
+                            walked_plan)
+from .repository import CABINET, PROGRAMS, TOOLS
+from .solver import SOLVERS, build_converter
 
-HERE = os.path.dirname(os.path.abspath(__file__))
-PROGRAMS = ("print_formula", "check_assignment", "check_plan", "check_refutation")
-SOLVERS = ("cadical", "minisat", "picosat", "cryptominisat5")
+COMMANDS = ("print_formula", "check_assignment", "check_plan", "check_refutation")
 # seconds for one program or solver
 LIMIT = 10
 # the most clauses given to a solver where the program prints none
 MOST_CLAUSES = 12000
-# the most plans tried for a book, and the most rows of moves for a train
-MOST_PLANS, MOST_ROWS = 3000, 300
 # spoiled inputs of each kind for a book, and enumerated plans given to check_plan
 SPOILED, SAMPLED = 4, 4
 # so many differences are enough to look into
 MOST_DIFFERENCES = 30
 
-# ---------------------------------------------------------- shapes of track
-
-
-def two_loops(rng):
-    """Stem, two tracks, stem, two tracks, stem: the two tracks of a pair share both nodes."""
-    pairs = [(0, 1), (1, 2), (1, 2), (2, 3), (3, 4), (3, 4), (4, 5)]
-    joins = [(1, 0, 1), (1, 0, 2), (2, 1, 3), (2, 2, 3), (3, 3, 4), (3, 3, 5), (4, 4, 6), (4, 5, 6)]
-    return 6, [samples.turned(rng, a, b) for a, b in pairs], joins
-
-
-def ring_with_stem(rng):
-    """A ring that a stem enters by a switch, so that trains come round to where they were."""
-    nodes, segments, joins = samples.ring(rng, rng.randint(3, 5))
-    stem = len(segments)
-    segments.append(samples.turned(rng, nodes, 0))
-    return nodes + 1, segments, joins + [(0, stem, side) for side in rng.choice(((0,), (0, stem - 1)))]
-
-
-def crossing(rng):
-    """Two lines that cross at a node, each joined to its own, now and then with one switch between them."""
-    pairs = [(1, 0), (0, 2), (3, 0), (0, 4)]
-    joins = [(0, 0, 1), (0, 2, 3)] + rng.choice(([], [(0, 0, 3)]))
-    return 5, [samples.turned(rng, a, b) for a, b in pairs], joins
-
-
-def siding(rng):
-    """A line with a dead end beside it: who waits there stays there."""
-    nodes, segments, joins = samples.row(rng, rng.randint(3, 4))
-    segments.append(samples.turned(rng, 1, nodes))
-    return nodes + 1, segments, joins + [(1, 0, len(segments) - 1)]
-
-
-def passing_loop(rng):
-    return samples.passing_loop(rng, rng.choice((4, 5, 6)))
-
-
-SHAPES = (two_loops, ring_with_stem, ring_with_stem, crossing, siding, *[passing_loop] * 8,
-          *[lambda rng: samples.ring(rng, rng.randint(2, 6))] * 4,
-          lambda rng: samples.switch(rng, rng.randint(3, 5)),
-          lambda rng: samples.row(rng, rng.randint(2, 5)),
-          lambda rng: samples.scattered(rng, rng.randint(3, 6)))
-
-
-def lay_track(rng, spec, plain):
-    """Nodes, segments, joins: a TTD for each segment, one for all, blocks of neighbours, or any. A plain one is a passing loop with
-    borders wherever they are wanted."""
-    nodes, pairs, joins = passing_loop(rng) if plain else rng.choice(SHAPES)(rng)
-    kinds = (1, 1, 2) if plain else rng.choice(((1,), (1,), (1,), (1, 2), (1, 1, 2), (0, 1), (0, 1, 2)))
-    spec.nodes = [rng.choice(kinds) for _ in range(nodes)]
-    count = min(len(pairs), rng.choice((1, 2, 3, 64, 64)))
-    ttds = rng.sample(range(64), count)
-    places = [s * count // len(pairs) for s in range(len(pairs))]
-    if rng.random() < 0.3:
-        rng.shuffle(places)
-    spec.segments = [(a, b, ttds[place]) for (a, b), place in zip(pairs, places)]
-    spec.joins = [(v, *rng.sample((x, y), 2)) for v, x, y in joins]
-    if rng.random() < 0.25:
-        spec.unbreakable = samples.random_unbreakable(rng, spec, ttds)
-
-
-# ------------------------------------------- trains that must pass each other
-
-Pace = namedtuple("Pace", "l k")
-
-
-def on(place):
-    return {x // 2 for x in place}
-
-
-def distance(track, here, there):
-    """How many segments a train at one place goes until it has one of another, alone on the track; None where it never does."""
-    waiting, found = deque([(0, tuple(here))]), {tuple(here)}
-    while waiting:
-        gone, place = waiting.popleft()
-        if on(place) & on(there):
-            return gone
-        for y in range(2 * len(track.segments)):
-            after = place[1:] + (y,)
-            if y // 2 not in on(place) and ref.follows(track, place[-1], y) and after not in found:
-                found.add(after)
-                waiting.append((gone + 1, after))
-    return None
-
-
-def facing_places(rng, track, paces, far):
-    """Two places apart from each other, mostly such that each train can come to the other's, and far from there; or None."""
-    anywhere, pairs = not far and rng.random() < 0.1, []
-    for _ in range(30):
-        here, there = (samples.random_path(rng, track, pace.l) for pace in paces)
-        if not here or not there or on(here) & on(there):
-            continue
-        ways = distance(track, here, there), distance(track, there, here)
-        if anywhere or None not in ways:
-            pairs.append((0 if None in ways else sum(ways), here, there))
-    if not pairs:
-        return None
-    return max(pairs)[1:] if far or rng.random() < 0.6 else rng.choice(pairs)[1:]
-
-
-def fitting_intervals(rng, track, paces):
-    """A number of intervals with which the formula likely fits the slice: pairs of runs are most of its words."""
-    runs = [len(ref.list_runs(track, pace)) for pace in paces]
-    words = sum(3 * (r + 1) * r // 2 + 12 * r for r in runs)
-    most = max(1, ref.LENT_WORDS // words)
-    return rng.choice((min(most, 7), max(1, min(most, 7) - rng.randrange(4)))) + (rng.random() < 0.05)
-
-
-def add_passing_trains(rng, spec, places, paces, plain):
-    """The first two trains swap their places; those behind them start where one of the two does, later, and go where it goes. In the
-    middle of the time the first two may have gone."""
-    for tr, pace in enumerate(paces):
-        figures = samples.random_lengths(rng, spec, *pace)
-        if figures is None:
-            return False
-        usual = spec.T // 2 if tr > 1 else 0
-        departure = usual if plain or rng.random() < 0.8 else rng.randrange(spec.T)
-        spec.trains.append((*figures, departure, places[tr % 2]))
-    for tr, train in enumerate(spec.trains):
-        if rng.random() < 0.15 and not plain:
-            # a call anywhere
-            spec.calls.append((tr, rng.randrange(len(spec.segments)), train[2], spec.T))
-        window = (train[2], spec.T) if plain else random_window(rng, spec.T, train[2])
-        spec.calls.append((tr, rng.choice(places[1 - tr % 2]) // 2, *window))
-    return True
-
-
-def random_window(rng, T, departure):
-    """Open to the end, narrow, or shut before departure."""
-    style = rng.random()
-    if style < 0.1:
-        return sorted(rng.choices(range(departure, T + 1), k=2))
-    if style < 0.3 and departure:
-        return sorted(rng.choices(range(departure), k=2))
-    return departure, T
-
-
-def random_paces(rng, count):
-    """Those who start at the same place are equally long. More than two are short and slow: else the formula is too long for the slice
-    before they have passed."""
-    if count > 2:
-        lengths, speeds = rng.choice(((1, 1),) * 4 + ((1, 2),)), (1, 1, 1, 1, 2)
-    else:
-        lengths, speeds = rng.choice(((1, 1), (1, 1), (1, 1), (1, 2), (2, 1), (2, 2), (3, 1))), (1, 1, 1, 2, 2, 3)
-    return [Pace(lengths[tr % 2], rng.choice(speeds)) for tr in range(count)]
-
-
-def passing_book(rng):
-    """A book with two to four trains that must pass each other. Three and four seldom can: most of those are made plain."""
-    while True:
-        spec = samples.Spec(*rng.choice(((100, 10), (250, 30), (7, 13))))
-        count = rng.choice((2, 2, 2, 3, 4))
-        plain = count > 2 and rng.random() < 0.6
-        lay_track(rng, spec, plain)
-        track = samples.track_of(spec)
-        paces = random_paces(rng, count)
-        places = facing_places(rng, track, paces[:2], plain)
-        if places is None:
-            continue
-        spec.T = fitting_intervals(rng, track, paces)
-        if add_passing_trains(rng, spec, places, paces, plain):
-            return samples.spec_bytes(spec)
-
-
-def make_book(rng):
-    style = rng.random()
-    if style < 0.08:
-        return samples.damaged_book(rng)
-    if style < 0.35:
-        return samples.random_book(rng, "tiny")
-    if style < 0.45:
-        return samples.random_book(rng, "small")
-    return passing_book(rng)
-
-
-# --------------------------------------------------- what a book has in it
-
-
-def closed_path(book, segments):
-    """Whether a path through some of these segments, three or more, comes back to its beginning."""
-    directed = [x for x in range(2 * len(book.segments)) if x // 2 in segments]
-    after = {x: [y for y in directed if y // 2 != x // 2 and ref.follows(book, x, y)] for x in directed}
-    waiting = [(x,) for x in directed]
-    for _ in range(20000):
-        if not waiting:
-            return False
-        path = waiting.pop()
-        if len(path) > 2 and path[0] in after[path[-1]]:
-            return True
-        waiting += [path + (y,) for y in after[path[-1]] if y // 2 not in on(path)]
-    return False
+# ---------------------------------------------------- what a book has in it
 
 
 def swapped(book, x, y):
@@ -242,42 +50,19 @@ def swapped(book, x, y):
             and not on(book.trains[x].place) & on(book.trains[y].place))
 
 
-def track_features(book):
-    every, ttd = range(len(book.segments)), [t for _, _, t in book.segments]
-    ends = [set(segment[:2]) for segment in book.segments]
-    parallel = [(x, y) for x, y in itertools.combinations(every, 2) if ends[x] == ends[y]]
-    ahead = [sum(ref.follows(book, x, y) and x // 2 != y // 2 for y in range(2 * len(ttd))) for x in range(2 * len(ttd))]
-    there = [{ttd[s] for s in ref.segments_at(book, node)} for node in range(len(book.nodes))]
-    return {
-        "ring": closed_path(book, set(every)),
-        "ring in one TTD": any(closed_path(book, {s for s in every if ttd[s] == t}) for t in set(ttd)),
-        "switch": max(ahead) > 1,
-        "parallel tracks": bool(parallel),
-        "parallel tracks of one TTD": any(ttd[x] == ttd[y] for x, y in parallel),
-        "several TTDs at a node": any(len(some) > 1 for some in there),
-        "unbreakable TTD": bool(book.unbreakable),
+def all_features(book):
+    """The names of what occurs in the book."""
+    ttd, trains = [t for _, _, t in book.segments], len(book.trains)
+    there = {
+        **features(book),
+        "tracks of one TTD that share both nodes": any(ttd[x] == ttd[y] for x, y in parallel_tracks(book)),
         **{f"node of kind {kind}": kind in book.nodes for kind in (0, 1, 2)},
+        "two trains": trains == 2,
+        "three trains": trains == 3,
+        "four trains or more": trains > 3,
+        "trains that must pass each other": any(swapped(book, x, y) for x, y in itertools.combinations(range(trains), 2)),
     }
-
-
-def train_features(book):
-    trains = book.trains
-    pairs = itertools.combinations(range(len(trains)), 2)
-    return {
-        "l above 1": any(t.l > 1 for t in trains),
-        "k above 1": any(t.k > 1 for t in trains),
-        "window shut before departure": any(last < t.departure for t in trains for _, _, last in t.calls),
-        "late departure": any(t.departure for t in trains),
-        "two trains": len(trains) == 2,
-        "three trains": len(trains) == 3,
-        "four trains or more": len(trains) > 3,
-        "trains that must pass each other": any(swapped(book, x, y) for x, y in pairs),
-    }
-
-
-def features(book):
-    """The names of what occurs in the book; looked up in the book and not in how it was made."""
-    return [name for name, there in {**track_features(book), **train_features(book)}.items() if there]
+    return [name for name, has in there.items() if has]
 
 
 # ------------------------------------------------------------ spoiled inputs
@@ -286,36 +71,27 @@ def features(book):
 def spoiled_plan(rng, book, good):
     """A good plan, or trains that go anywhere, with up to two things wrong."""
     walked = good is None or rng.random() < 0.4
-    borders, moves = samples.walked_plan(rng, book) if walked else ref.read_plan(book, good)
+    borders, moves = walked_plan(rng, book) if walked else ref.read_plan(book, good)
     for _ in range(rng.choice((0, 1, 1, 2))):
-        samples.break_plan(rng, book, borders, moves)
+        break_plan(rng, book, borders, moves)
     if rng.random() < 0.1:
-        samples.outside_plan(rng, book, borders, moves)
-    data = samples.plan_bytes(borders, moves)
-    return samples.spoiled_bytes(rng, data, (0, 1, 2, 255)) if rng.random() < 0.15 else data
+        outside_plan(rng, book, borders, moves)
+    data = plan_bytes(borders, moves)
+    return spoiled_bytes(rng, data, (0, 1, 2, 255)) if rng.random() < 0.15 else data
 
 
 def spoiled_assignment(rng, book, good):
     """The same of an assignment: surplus claims, a variable changed, a wrong byte or length."""
     if good is None or rng.random() < 0.4:
-        borders, moves = samples.walked_plan(rng, book)
+        borders, moves = walked_plan(rng, book)
         good = ref.write_assignment(book, borders, moves)
     style = rng.random()
     if style < 0.3:
-        return samples.claim_more(rng, book, good)
+        return claim_more(rng, book, good)
     if style < 0.7:
         at = rng.randrange(len(good))
         return good[:at] + bytes([1 - good[at]]) + good[at + 1:]
-    return samples.spoiled_bytes(rng, good, (0, 1, 2, 255)) if style < 0.9 else good
-
-
-def read_steps(data):
-    """The steps of a refutation as literals and hints."""
-    at, steps = 0, []
-    while at < len(data):
-        step, at = ref.read_step(data, at, len(steps) + 1)
-        steps.append(tuple(step))
-    return steps
+    return spoiled_bytes(rng, good, (0, 1, 2, 255)) if style < 0.9 else good
 
 
 def fits_slices(formula, steps, data):
@@ -330,70 +106,12 @@ def spoiled_refutation(rng, formula, steps):
     """A solver's steps, or honest ones that need not end, with one step or the ending wrong."""
     variables, clauses = formula
     if not steps or rng.random() < 0.3:
-        steps = samples.honest_steps(rng, variables, clauses, 3)
+        steps = honest_steps(rng, variables, clauses, 3)
     if not steps:
-        return samples.step_frame([], [rng.randint(1, len(clauses))])
+        return step_frame([], [rng.randint(1, len(clauses))])
     if rng.random() < 0.7:
-        return samples.spoil_steps(rng, variables, clauses, steps)
-    return samples.spoil_ending(rng, samples.encode_steps(steps), steps)
-
-
-# ---------------------------------------------------------------- all plans
-
-
-def product_of_choices(book):
-    """How many plans there are, by document 01's count: every byte 0 or 1, every run, absent or gone."""
-    total = 2 ** len(book.nodes)
-    for runs in book.runs:
-        total *= (len(runs) + 2) ** book.T
-    return total
-
-
-def one_train(book, tr, intervals):
-    """The book with that train alone and so many intervals, for the rules that look at one train."""
-    alone = ref.Book()
-    alone.T, alone.nodes, alone.segments = intervals, book.nodes, book.segments
-    alone.trains, alone.runs = [book.trains[tr]], [book.runs[tr]]
-    return alone
-
-
-def rows_of(book, tr):
-    """Every row of moves of a train that keeps rules 2 to 5, or None where they are many. A row that breaks one of 2 to 4 early is not
-    gone on with, since what follows does not mend it."""
-    departure = book.trains[tr].departure
-    values = [*range(len(book.runs[tr])), ABSENT, GONE]
-    rows = [[ABSENT] * departure]
-    for intervals in range(departure + 1, book.T + 1):
-        alone = one_train(book, tr, intervals)
-        longer = ([*row, move] for row in rows for move in values)
-        rules = ref.keeps_rule_2, ref.keeps_rule_3, ref.keeps_rule_4
-        rows = [row for row in longer if all(rule(alone, None, [row]) for rule in rules)]
-        if len(rows) > MOST_ROWS:
-            return None
-    return [row for row in rows if ref.keeps_rule_5(one_train(book, tr, book.T), None, [row])]
-
-
-def plans_by_rows(book):
-    """All plans whose borders respect their kinds and whose trains, each by itself, keep the rules; None where they are many."""
-    total, rows = 2 ** book.nodes.count(1), []
-    for tr in range(len(book.trains)):
-        some = rows_of(book, tr) if total <= MOST_PLANS else None
-        if some is None:
-            return None
-        rows.append(some)
-        total *= len(some)
-    if total > MOST_PLANS:
-        return None
-    borders = itertools.product(*[((0,), (0, 1), (1,))[kind] for kind in book.nodes])
-    return [(list(b), list(m)) for b in borders for m in itertools.product(*rows)]
-
-
-def plans_to_try(book):
-    """How the plans were listed, and the list; None where they are too many."""
-    if product_of_choices(book) <= MOST_PLANS:
-        return "every choice", [samples.split_plan(book, plan) for plan in samples.all_plans(book, MOST_PLANS)]
-    plans = plans_by_rows(book)
-    return None if plans is None else ("rows", plans)
+        return spoil_steps(rng, variables, clauses, steps)
+    return spoil_ending(rng, encode_steps(steps), steps)
 
 
 # ------------------------------------------------------------------- one book
@@ -437,7 +155,7 @@ class Trial:
 
     def run(self, program, *names, stdin=b""):
         """The bytes that a program printed; anything else that it does is a difference."""
-        words = [os.path.join(self.session.programs, program), *map(self.path, names)]
+        words = [os.path.join(self.session.folder, CABINET), program, *map(self.path, names)]
         try:
             done = subprocess.run(words, input=stdin, capture_output=True, timeout=LIMIT, check=False)
         except subprocess.TimeoutExpired:
@@ -460,7 +178,7 @@ class Trial:
         if (line, result) != expected:
             told = f"{program}: printed {line!r} and result {shown(result)}, the reference has {expected[0]!r} and {shown(expected[1])}"
             self.differ(told, second=second, result=result or b"", expected=expected[1] or b"")
-        self.count[program][line.split()[0].decode() if line.split() else "nothing"] += 1
+        self.count[program][line_name(line)] += 1
         if line == b"accepted\n":
             self.note_accepted(program, second)
         return line, result
@@ -491,7 +209,7 @@ class Trial:
         if text != expected:
             self.differ("print_formula: another text than the reference's", text=text, expected=expected)
         answer = ref.entry_read_book(self.data)
-        self.count["books"][samples.answer_name(answer)] += 1
+        self.count["books"][answer_name(answer)] += 1
         if answer[0] != "accepted":
             return False
         self.book = ref.read_book(self.data)
@@ -527,12 +245,11 @@ class Trial:
 
     def solve(self):
         """Both solvers' decisions and what they show for them."""
-        self.decide("solve.py", [os.path.join(HERE, "solve.py"), self.path("formula"), self.path("answer")])
+        self.decide("solve.py", [os.path.join(TOOLS, "solve.py"), self.path("formula"), self.path("answer")])
         real = self.session.solvers
         if real:
             name = real[self.number % len(real)]
-            script = os.path.join(HERE, "with_solver.py")
-            self.decide(name, [script, name, self.path("formula"), self.path("answer"), self.path("drat")])
+            self.decide(name, [TOOLS, "solve", self.path("formula"), self.path("answer"), "--with", name, "--drat", self.path("drat")])
         if len(set(self.decisions.values())) > 1:
             self.differ(f"solvers decide otherwise: {self.decisions}", formula=self.read("formula"))
 
@@ -541,7 +258,7 @@ class Trial:
         said = self.ask(name, words)
         if said is None:
             return
-        self.count["solvers"][f"{name}, {said}"] += 1
+        self.count["solvers"][f"{name} {said}"] += 1
         self.decisions[name] = said == "satisfiable"
         if said == "satisfiable":
             self.satisfied(name, self.read("answer"))
@@ -572,7 +289,7 @@ class Trial:
             self.check("check_plan", spoiled_plan(self.rng, self.book, self.plan))
             try:
                 self.check("check_refutation", spoiled_refutation(self.rng, self.formula, self.steps))
-            except samples.TooLong:
+            except TooLong:
                 pass            # longer than a frame holds
 
     def try_all_plans(self):
@@ -581,14 +298,14 @@ class Trial:
         if listed is None:
             return
         how, plans = listed
-        kept = [plan for plan in plans if ref.broken_rule(self.book, *plan) == 0]
+        kept = keeping(self.book, plans)
         self.count["enumerated"].update({f"books by {how}": 1, f"plans by {how}": len(plans), "plans that keep the rules": len(kept)})
         self.count["enumerated"]["books with such a plan" if kept else "books without"] += 1
         self.hold_together(bool(kept))
         for plan in self.rng.sample(kept, min(SAMPLED, len(kept))):
-            self.both_ways(samples.plan_bytes(*plan), "enumerated plan")
+            self.both_ways(plan_bytes(*plan), "enumerated plan")
         for plan in self.rng.sample(plans, min(SAMPLED, len(plans))):
-            self.check("check_plan", samples.plan_bytes(*plan))
+            self.check("check_plan", plan_bytes(*plan))
         self.count["enumerated"]["plans given to check_plan"] += min(SAMPLED, len(kept)) + min(SAMPLED, len(plans))
 
     def hold_together(self, some):
@@ -605,18 +322,18 @@ class Trial:
         """Counts what the book has in it."""
         some = next(iter(self.decisions.values()), None)
         self.count["decided"][{True: "satisfiable", False: "unsatisfiable", None: "given up"}[some]] += 1
-        for name in features(self.book):
+        for name in all_features(self.book):
             self.count["features"][name] += 1
             self.count["features with a plan"][name] += some is True
 
     def all(self):
         if not self.read_book():
-            for program in PROGRAMS[1:]:
+            for program in COMMANDS[1:]:
                 self.check(program, self.rng.randbytes(self.rng.randrange(40)))
             return
         if not self.keep_formula():
             self.count["decided"]["too large for a solver"] += 1
-            self.check("check_plan", samples.plan_bytes(*samples.walked_plan(self.rng, self.book)))
+            self.check("check_plan", plan_bytes(*walked_plan(self.rng, self.book)))
             return
         self.solve()
         self.spoil()
@@ -632,23 +349,22 @@ def shown(result):
 
 
 class Session:
-    """A seed, where the programs and files are, and the counts. The programs are copied, so that a new build does not exchange them."""
+    """A seed, where the files are, and the counts. The program is copied there, so that a new build does not exchange it."""
 
-    def __init__(self, seed, programs, folder):
-        self.seed, self.programs, self.folder = seed, folder, folder
+    def __init__(self, seed, program, folder):
+        self.seed, self.folder = seed, folder
         self.count, self.differences = defaultdict(Counter), 0
-        for name in PROGRAMS:
-            shutil.copy(os.path.join(programs, name), folder)
+        shutil.copy(program, os.path.join(folder, CABINET))
         self.solvers = self.installed()
 
     def installed(self):
         """The real solvers that can be used. A proof needs the converter, which is built here; minisat writes none."""
-        drat = os.path.join(self.folder, "drat")
-        words = ["rustc", "-O", "--edition", "2021", os.path.join(HERE, "drat.rs"), "-o", drat]
-        if shutil.which("rustc"):
-            subprocess.run(words, check=True, capture_output=True)
-        usable = SOLVERS if os.path.exists(drat) else ("minisat",)
-        return [name for name in usable if shutil.which(name)]
+        there = [name for name in SOLVERS if shutil.which(name)]
+        if not shutil.which("rustc"):
+            return [name for name in there if name == "minisat"]
+        if there:
+            build_converter(os.path.join(self.folder, "drat"))
+        return there
 
     def differ(self, number, what, files):
         """Prints a difference and keeps its files."""
@@ -669,12 +385,6 @@ class Session:
             os.rmdir(self.folder)
 
 
-def listed(counter):
-    """Numbers by size, then names."""
-    order = sorted(counter, key=lambda key: (not key.isdigit(), int(key) if key.isdigit() else 0, key))
-    return "; ".join(f"{key} {counter[key]:,}" for key in order) or "none"
-
-
 def say(text):
     print(textwrap.fill(text, 130, subsequent_indent="    "))
 
@@ -683,7 +393,7 @@ def summary(session, seconds):
     count = session.count
     books, accepted = sum(count["books"].values()), count["books"].pop("accepted", 0)
     say(f"seed {session.seed}, {seconds:.0f} s: {books} books, {accepted} accepted; refused by {listed(count['books'])}")
-    for name in ("formula", "decided", "solvers", "refutations of solvers", "enumerated", *PROGRAMS[1:]):
+    for name in ("formula", "decided", "solvers", "refutations of solvers", "enumerated", *COMMANDS[1:]):
         say(f"{name}: {listed(count[name])}")
     missing = [name for name in SOLVERS if name not in session.solvers]
     say(f"real solvers: {', '.join(session.solvers) or 'none'}; not used: {', '.join(missing) or 'none'}")
@@ -701,17 +411,21 @@ def numbers(only, until):
         yield number
 
 
-def main(arguments):
-    beside = os.path.join(HERE, "..", "target", "bin")
-    programs = os.path.abspath((*arguments, beside)[2] if len(arguments) in (2, 3) else beside)
-    missing = [name for name in PROGRAMS if not os.access(os.path.join(programs, name), os.X_OK)]
-    if len(arguments) not in (2, 3) or missing:
-        print(f"usage: fresh.py SEED[/BOOK] SECONDS [BIN]; not in {programs}: {', '.join(missing) or 'nothing'}", file=sys.stderr)
+def arguments(parser):
+    parser.add_argument("seed", metavar="SEED[/BOOK]", help="from which the books are made; with a book's number that book alone")
+    parser.add_argument("seconds", metavar="SECONDS", type=float, help="for how long")
+    parser.add_argument("--bin", metavar="DIR", default=PROGRAMS, help="the folder of the program, by default target/bin")
+
+
+def run(options):
+    program = os.path.abspath(os.path.join(options.bin, CABINET))
+    if not os.access(program, os.X_OK):
+        print(f"tools fresh: no program {program}: rt check {CABINET} builds it", file=sys.stderr)
         return 2
-    seed, _, only = arguments[0].partition("/")
-    session = Session(seed, programs, tempfile.mkdtemp(prefix="fresh-"))
+    seed, _, only = options.seed.partition("/")
+    session = Session(seed, program, tempfile.mkdtemp(prefix="fresh-"))
     start = time.monotonic()
-    for number in numbers(only, start + float(arguments[1])):
+    for number in numbers(only, start + options.seconds):
         Trial(session, number).all()
         if session.differences >= MOST_DIFFERENCES:
             print(f"stopped after book {number}, since there are many differences")
@@ -719,7 +433,3 @@ def main(arguments):
     summary(session, time.monotonic() - start)
     session.clear()
     return 1 if session.differences else 0
-
-
-if __name__ == "__main__":
-    sys.exit(main(sys.argv[1:]))

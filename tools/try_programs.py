@@ -1,15 +1,9 @@
-#!/usr/bin/env python3
-"""Tries the built programs as a user would: names, files, lengths, outputs, and the verdicts of document 01's examples.
+"""Tries the built program as a user would: commands, names, files, lengths, outputs, and the verdicts of document 01's examples; and the
+scripts of bin/, which call it. Prints each expectation that fails, and then how many were tried. Expected lines and bytes are worked out by
+hand, but for a long text and a long assignment, which are the reference's.
 
-    try_programs.py [BIN]
-
-BIN is the folder of the programs, by default target/bin of the repository that this script stands in. Prints each expectation that
-fails, and then how many were tried. Expected lines and bytes are worked out by hand, but for a long text and a long assignment,
-which are the reference's.
-
-Exit status: 0 all held, 1 some failed, 2 a program is missing.
+Exit status: 0 all held, 1 some failed, 2 wrong usage, or the program is missing.
 """
-
 import os
 import shutil
 import subprocess
@@ -18,22 +12,22 @@ import tempfile
 import time
 from collections import namedtuple
 
-import reference
-import samples
+from . import reference
+from .inputs import encode_steps, step_frame
+from .known import (ASSIGNMENT_L, ASSIGNMENT_PADDED, BOOK_L, FORMULA_L, PLAN_L, PLAN_PADDED, REFUTATION_M, book_m, padded,
+                    standing)
+from .repository import CABINET, PROGRAMS, ROOT, write_bytes
 
-PROGRAMS = ("print_formula", "check_assignment", "check_plan", "check_refutation")
+COMMANDS = ("print_formula", "check_assignment", "check_plan", "check_refutation")
 MOST = reference.LENT_BYTES
 # seconds for one try
 LIMIT = 10
 # the user "nobody", where the script itself may read everything
 NOBODY = 65534
 
-BOOK_L, BOOK_M, BOOK_M_SHUT = samples.BOOK_L, samples.book_m(0, 1), samples.book_m(0, 0)
-# of book L: no borders, run 0 and its claim
-ASSIGNMENT_L, PLAN_L = bytes.fromhex("000001000001"), bytes(4)
-REFUTATION_M = samples.step_frame([], [16, 17, 19])
+BOOK_M, BOOK_M_SHUT = book_m(0, 1), book_m(0, 0)
 
-# A program that checks: a book and an input that it accepts, the result, and two inputs that it refuses, with their lines.
+# A command that checks: a book and an input that it accepts, the result, and two inputs that it refuses, with their lines.
 Check = namedtuple("Check", "program book good result bad bad_line short short_line")
 CHECKS = (
     # all zeros: clause 3, "3 4 5", is the first that is false
@@ -41,7 +35,7 @@ CHECKS = (
     # run 1 begins elsewhere: rule 2
     Check("check_plan", BOOK_L, PLAN_L, ASSIGNMENT_L, bytes([0, 0, 1, 0]), b"16 2\n", PLAN_L[:-1], b"15 0\n"),
     # document 01 gives this order of hints
-    Check("check_refutation", BOOK_M, REFUTATION_M, None, samples.step_frame([], [19, 16, 17]), b"20 1\n", REFUTATION_M[:-1], b"17 1\n"),
+    Check("check_refutation", BOOK_M, REFUTATION_M, None, step_frame([], [19, 16, 17]), b"20 1\n", REFUTATION_M[:-1], b"17 1\n"),
 )
 WITH_RESULT = [check for check in CHECKS if check.result is not None]
 
@@ -51,10 +45,10 @@ Answer = namedtuple("Answer", "out err status")
 
 
 class Tries:
-    """Runs programs in a folder of its own, and counts what was expected and what failed."""
+    """Runs commands in a folder of its own, and counts what was expected and what failed."""
 
-    def __init__(self, programs, folder):
-        self.programs, self.folder = programs, folder
+    def __init__(self, program, folder):
+        self.program, self.folder = program, folder
         self.tried, self.failed, self.made = 0, 0, 0
         self.left_out = []
 
@@ -74,15 +68,18 @@ class Tries:
     def file(self, data):
         """A new file with these bytes; its name."""
         name = self.unused()
-        write(name, data)
+        write_bytes(name, data)
         return name
 
-    def run(self, program, *names, stdin=b"", **how):
+    def run(self, command, *names, stdin=b"", **how):
+        return self.run_words((command, *names), stdin, **how)
+
+    def run_words(self, words, stdin=b"", program=None, **how):
         """What the program printed on each output, and its status; status None where it did not end in time."""
         how = {"stdout": subprocess.PIPE, "stderr": subprocess.PIPE, "cwd": self.folder, **how}
         how["stdin" if isinstance(stdin, int) else "input"] = stdin
         try:
-            done = subprocess.run([os.path.join(self.programs, program), *names], timeout=LIMIT, check=False, **how)
+            done = subprocess.run([program or self.program, *words], timeout=LIMIT, check=False, **how)
         except subprocess.TimeoutExpired:
             return Answer(b"", b"", None)
         return Answer(done.stdout or b"", done.stderr or b"", done.returncode)
@@ -111,11 +108,6 @@ def shown(answer):
     return f"printed {answer.out[:100]!r}, on standard error {answer.err[:200]!r}, status {answer.status}"
 
 
-def write(name, data):
-    with open(name, "wb") as file:
-        file.write(data)
-
-
 def read(name):
     try:
         with open(name, "rb") as file:
@@ -133,7 +125,7 @@ def stamp(name):
 
 
 def try_examples(t):
-    t.verdict("print_formula, book L", samples.FORMULA_L, t.run("print_formula", stdin=BOOK_L))
+    t.verdict("print_formula, book L", FORMULA_L, t.run("print_formula", stdin=BOOK_L))
     for book, clause, what in ((BOOK_M, b"6 7 0", "window 0 to 1"), (BOOK_M_SHUT, b"0", "window 0 to 0")):
         answer = t.run("print_formula", stdin=book)
         lines = answer.out.split(b"\n")
@@ -142,7 +134,7 @@ def try_examples(t):
         t.expect(f"print_formula, book M, {what}: ends with a line end", answer.out.endswith(b" 0\n"), answer)
     for book, hints, line in (
             (BOOK_M, [16, 17, 19], ACCEPTED), (BOOK_M, [19, 16, 17], b"20 1\n"), (BOOK_M_SHUT, [19], ACCEPTED), (BOOK_M, [19], b"20 1\n")):
-        names = t.file(book), t.file(samples.step_frame([], hints))
+        names = t.file(book), t.file(step_frame([], hints))
         t.verdict(f"check_refutation, book M, hints {hints}", line, t.run("check_refutation", *names))
 
 
@@ -197,14 +189,31 @@ def try_refused_third(t, check):
 # ---- names
 
 
+def try_usage(t, what, word, answer):
+    """Usage on standard error, with the command's word, and no verdict."""
+    t.no_verdict(what, b"usage", answer)
+    t.expect(f"{what}: {word!r} is named", word.encode() in answer.err, answer)
+
+
+def try_commands(t):
+    """No command, an unknown one, or one with a name too many: usage, and no verdict; and nothing is read as a book."""
+    for words in ((), ("",), ("check",), ("check_plans",), ("check_pla",), ("CHECK_PLAN",), ("check_plan ",), ("print_formula\n",), ("--help",)):
+        names = (t.file(BOOK_L), t.file(PLAN_L)) if words else ()
+        answer = t.run_words((*words, *names), stdin=BOOK_L)
+        t.no_verdict(f"command {words}", b"usage", answer)
+        t.expect(f"command {words}: all commands are named", all(word.encode() in answer.err for word in COMMANDS), answer)
+    for count in (1, 2, 3):
+        names = [t.file(BOOK_L) for _ in range(count)]
+        try_usage(t, f"print_formula, {count} names", "print_formula", t.run("print_formula", *names, stdin=BOOK_L))
+
+
 def try_name_counts(t):
     """Too few and too many names: a line of usage, no verdict, and no file is written."""
     for check in CHECKS:
         book, good, third = t.file(check.book), t.file(check.good), t.file(b"kept")
         names = (book, good, third, t.file(b""), t.file(b""))
         for count in (0, 1, 4, 5) if check.result is not None else (0, 1, 3, 4):
-            answer = t.run(check.program, *names[:count])
-            t.no_verdict(f"{check.program}, {count} names", b"usage: " + check.program.encode(), answer)
+            try_usage(t, f"{check.program}, {count} names", check.program, t.run(check.program, *names[:count]))
         untouched = list(map(read, names[:3])) == [check.book, check.good, b"kept"]
         t.expect(f"{check.program}, wrong numbers of names: files untouched", untouched, None)
 
@@ -291,7 +300,7 @@ def try_same_names(t):
             what = f"{check.program}, input {place + 1} is the third file too"
             t.verdict(f"{what}, refused", check.bad_line, t.run(check.program, *names, names[place]))
             t.expect(f"{what}, refused: untouched", list(map(read, names)) == [check.book, check.bad], None)
-            write(names[1], check.good)
+            write_bytes(names[1], check.good)
             t.verdict(f"{what}, accepted", ACCEPTED, t.run(check.program, *names, names[place]))
             t.expect(f"{what}, accepted: the result", read(names[place]) == check.result, read(names[place]))
 
@@ -302,7 +311,7 @@ def try_odd_names(t):
     good = t.file(check.good)
     os.symlink(t.file(check.book), t.path("link"))
     for name in ("a book", "-h", "--", b"\xff\xfe", "x" * 255, "./" * 2047 + "b"):
-        write(os.path.join(os.fsencode(t.folder), os.fsencode(name)) if len(name) < 256 else t.path("b"), check.book)
+        write_bytes(os.path.join(os.fsencode(t.folder), os.fsencode(name)) if len(name) < 256 else t.path("b"), check.book)
         t.verdict(f"{check.program}, book named {name[:20]!r}", ACCEPTED, t.run(check.program, name, good))
     t.verdict(f"{check.program}, book named by a link", ACCEPTED, t.run(check.program, "link", good))
     # such a name must not be cut: it would name another file
@@ -313,21 +322,6 @@ def try_odd_names(t):
 
 
 # ---- lengths
-
-
-def padded(call):
-    """Document 01's book M, its call on this segment, with as many Unbreakable frames as make 65,536 bytes; they change nothing else."""
-    spec = samples.Spec(100, 10, 1)
-    spec.nodes, spec.segments = [0, 0, 0], [(0, 1, 0), (1, 2, 0)]
-    spec.trains, spec.calls = [(80, 36, 0, [0])], [(0, call, 0, 1)]
-    spec.unbreakable = [0] * ((MOST - len(samples.spec_bytes(spec))) // 5)
-    data = samples.spec_bytes(spec)
-    assert len(data) == MOST
-    return data
-
-
-# Of that book with the call on segment 0: no borders, run 0, and the claims of both segments, which are one section.
-ASSIGNMENT_PADDED, PLAN_PADDED = bytes.fromhex("00000001000000000101"), bytes(5)
 
 
 def long_books(good, line):
@@ -362,19 +356,6 @@ def try_second_lengths(t):
         t.verdict(f"{check.program}, both of 65,537 bytes", TOO_LONG, t.run(check.program, both, both))
 
 
-def standing(nodes):
-    """Eight trains that stand still for 31 intervals on a row of 63 segments, 200 runs each: nodes + 65,472 variables, and the plan."""
-    spec = samples.Spec(100, 10, 31)
-    spec.nodes = [1] * nodes
-    spec.segments = [(s, s + 1, s) for s in range(63)]
-    spec.joins = [(s + 1, s, s + 1) for s in range(37)]
-    for train in range(8):
-        spec.trains.append((100, 36, 0, [2 * train]))
-        spec.calls.append((train, train, 0, 31))
-    moves = [[2 * train] * 31 for train in range(8)]
-    return samples.spec_bytes(spec), samples.plan_bytes([0] * nodes, moves), moves
-
-
 def try_full_output(t):
     """An assignment of exactly 65,536 bytes, which fills the slice, written and read; with one node more it is 12."""
     data, plan, moves = standing(64)
@@ -396,7 +377,7 @@ def try_full_output(t):
 def try_full_refutation(t):
     """A refutation of exactly 65,536 bytes, and the same with a byte behind it."""
     steps = [([6], [19, 17])] * 3 + [([-5], [15])] * 4676
-    data = samples.encode_steps(steps) + REFUTATION_M
+    data = encode_steps(steps) + REFUTATION_M
     assert len(data) == MOST
     book = t.file(BOOK_M)
     t.verdict("check_refutation, 65,536 bytes", ACCEPTED, t.run("check_refutation", book, t.file(data)))
@@ -464,7 +445,7 @@ def closed_outputs(t, program, names, stdin):
 
 def in_pieces(t, program, names, data, size):
     """Feeds standard input in pieces with pauses between them, as a slow pipe does."""
-    words = [os.path.join(t.programs, program), *names]
+    words = [t.program, program, *names]
     with subprocess.Popen(words, stdin=subprocess.PIPE, stdout=subprocess.PIPE, stderr=subprocess.PIPE, bufsize=0) as process:
         try:
             for at in range(0, len(data), size):
@@ -482,7 +463,7 @@ def in_pieces(t, program, names, data, size):
 
 def try_pipes(t):
     """Input from a pipe comes in pieces; input without an end is too long."""
-    t.verdict("print_formula, a byte at a time", samples.FORMULA_L, in_pieces(t, "print_formula", (), BOOK_L, 1))
+    t.verdict("print_formula, a byte at a time", FORMULA_L, in_pieces(t, "print_formula", (), BOOK_L, 1))
     long_text = padded(0)
     text = reference.print_formula(long_text)
     t.verdict("print_formula, 65,536 bytes in pieces", text, in_pieces(t, "print_formula", (), long_text, 1000))
@@ -499,41 +480,73 @@ def try_pipes(t):
         t.verdict("print_formula, a book without end", TOO_LONG, t.run("print_formula", stdin=zeros.fileno()))
 
 
+# ---- the scripts
+
+
+def copied_scripts(t):
+    """The scripts of bin/ with the program where they look for it, in a folder of their own; None where there are none."""
+    source, copy = os.path.join(ROOT, "bin"), t.path("repository")
+    if not all(os.access(os.path.join(source, word), os.X_OK) for word in COMMANDS):
+        return None
+    shutil.copytree(source, os.path.join(copy, "bin"), symlinks=True)
+    os.makedirs(os.path.join(copy, "target", "bin"))
+    shutil.copy(t.program, os.path.join(copy, "target", "bin", CABINET))
+    return os.path.join(copy, "bin")
+
+
+def try_scripts(t):
+    """Each script of bin/ is its command: by its path from any folder, and through a link."""
+    scripts = copied_scripts(t)
+    if scripts is None:
+        t.left_out.append("the scripts (bin/ has not all of them)")
+        return
+    formula = os.path.join(scripts, "print_formula")
+    t.verdict("bin/print_formula", FORMULA_L, t.run_words((), BOOK_L, formula))
+    t.no_verdict("bin/print_formula, a name", b"usage", t.run_words((t.file(BOOK_L),), BOOK_L, formula))
+    for check in CHECKS:
+        script = os.path.join(scripts, check.program)
+        names, third = (t.file(check.book), t.file(check.good)), t.unused()
+        t.verdict(f"bin/{check.program}", ACCEPTED, t.run_words(names, program=script))
+        t.verdict(f"bin/{check.program}, refused", check.bad_line, t.run_words((names[0], t.file(check.bad)), program=script))
+        t.no_verdict(f"bin/{check.program}, one name", b"usage", t.run_words(names[:1], program=script))
+        odd = t.path("a name with blanks")
+        write_bytes(odd, check.good)
+        t.verdict(f"bin/{check.program}, a name with blanks", ACCEPTED, t.run_words((names[0], odd), program=script))
+        if check.result is not None:
+            t.verdict(f"bin/{check.program}, three names", ACCEPTED, t.run_words((*names, third), program=script))
+            t.expect(f"bin/{check.program}, three names: the result", read(third) == check.result, read(third))
+
+
 # ---- all of it
 
 
 GROUPS = (
-    try_examples, try_results, try_name_counts, try_unreadable, try_unreadable_standard_input, try_without_permission, try_unwritable_third,
-    try_same_names, try_odd_names, try_book_lengths, try_second_lengths, try_full_output, try_full_refutation, try_empty, try_closed_output,
-    try_pipes)
+    try_examples, try_results, try_commands, try_name_counts, try_unreadable, try_unreadable_standard_input, try_without_permission,
+    try_unwritable_third, try_same_names, try_odd_names, try_book_lengths, try_second_lengths, try_full_output, try_full_refutation, try_empty,
+    try_closed_output, try_pipes, try_scripts)
 
 
-def copied(programs, folder):
-    """The programs in the script's own folder, where others may run them, and where a new build does not exchange them."""
-    copy = os.path.join(folder, "bin")
-    os.mkdir(copy)
-    for name in PROGRAMS:
-        shutil.copy(os.path.join(programs, name), copy)
+def copied(program, folder):
+    """The program in a folder of the trials' own, where others may run it, and where a new build does not exchange it."""
+    os.mkdir(os.path.join(folder, "bin"))
     os.chmod(folder, 0o755)
-    return copy
+    return shutil.copy(program, os.path.join(folder, "bin", CABINET))
 
 
-def main(arguments):
-    beside = os.path.join(os.path.dirname(os.path.abspath(__file__)), "..", "target", "bin")
-    programs = os.path.abspath(arguments[0] if arguments else beside)
-    missing = [name for name in PROGRAMS if not os.access(os.path.join(programs, name), os.X_OK)]
-    if missing or len(arguments) > 1:
-        print(f"usage: try_programs.py [BIN]; not in {programs}: {', '.join(missing) or 'nothing'}", file=sys.stderr)
+def arguments(parser):
+    parser.add_argument("--bin", metavar="DIR", default=PROGRAMS, help="the folder of the program, by default target/bin")
+
+
+def run(options):
+    program = os.path.abspath(os.path.join(options.bin, CABINET))
+    if not os.access(program, os.X_OK):
+        print(f"tools try: no program {program}: rt check {CABINET} builds it", file=sys.stderr)
         return 2
     with tempfile.TemporaryDirectory() as folder:
-        t = Tries(copied(programs, folder), folder)
+        t = Tries(copied(program, folder), folder)
         for group in GROUPS:
             group(t)
     for what in t.left_out:
         print(f"not tried: {what}")
     print(f"{t.tried} expectations, {t.failed} failed")
     return 1 if t.failed else 0
-
-
-if __name__ == "__main__":
-    sys.exit(main(sys.argv[1:]))

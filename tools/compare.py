@@ -1,14 +1,11 @@
-#!/usr/bin/env python3
-"""Hold the definitions of crates/spec, evaluated by the checker, against the reference on random inputs.
+"""Holds the definitions of crates/spec, evaluated by the checker, against the reference: BOOKS random and damaged books from SEED, with
+assignments, plans and refutations for those that pass. Both sides are asked the same questions, and it prints how many answers of each
+kind agreed, or which did not. A question's answer is a row of numbers: 0 and the result, or the refusal's number and detail. The questions
+become a table of a small crate beside a copy of crates/spec, and the checker (`rt dev`) decides it; a table that it refuses is halved until
+the question is found.
 
-    compare_spec.py SEED BOOKS
-
-makes BOOKS random and damaged books from SEED, with assignments, plans and refutations for those that pass, asks both
-sides the same questions and prints how many answers of each kind agreed, or which did not.  A question's answer is a row of
-numbers: 0 and the result, or the refusal's number and detail.  The questions become a table of a small crate beside a copy
-of crates/spec, and the checker decides it; a table that it refuses is halved until the question is found.
+Exit status: 0 none differs, 1 some differ, or the checker refused a table's form, 2 wrong usage.
 """
-
 import os
 import random
 import re
@@ -18,10 +15,12 @@ import sys
 import tempfile
 from collections import Counter
 
-import reference
-import samples
+from . import reference
+from .crates import Listed, below
+from .random_books import damaged_book, random_book
+from .random_inputs import random_assignments, random_plans, random_refutations
+from .repository import ROOT, read_text, write_text
 
-ROOT = os.path.dirname(os.path.dirname(os.path.abspath(__file__)))
 # the most characters of questions in one table: a declaration has a limit of steps
 TABLE_SIZE = 60000
 
@@ -80,8 +79,8 @@ HELPERS = "answered code rows lists grouped words textOf decoding encoding refut
 def names_of_specs(specs):
     """The modules of crates/spec with the names that a table needs to bring in and to unfold."""
     bring, unfold = [], []
-    for module in re.findall(r"pub mod (\w+)", open(os.path.join(specs, "Lib.antt")).read()):
-        text = open(os.path.join(specs, module + ".antt")).read()
+    for module in re.findall(r"pub mod (\w+)", read_text(os.path.join(specs, "Lib.antt"))):
+        text = read_text(os.path.join(specs, module + ".antt"))
         functions = re.findall(r"^ *unfoldable pub (\S+)", text, re.M)
         types = re.findall(r"^pub (?:data|record) (\S+)", text, re.M) + re.findall(r"^abbrev pub (Bytes)", text, re.M)
         makers = ["accepted", "refused"] if module == "Lists" else []
@@ -152,14 +151,14 @@ def input_questions(rng, data, book, each):
     """Assignments, plans and refutations for a book that passes, with room enough or one entry short."""
     variables, clauses = reference.formula(book)
     plan_length = reference.plan_length(book)
-    for s in list(samples.random_assignments(rng, book, each)):
+    for s in list(random_assignments(rng, book, each)):
         n = plan_length - (rng.random() < 0.1)
         yield "assignment", "decoding %s %s %d" % (row(data), row(s), n), answer_of(reference.entry_check_assignment(data, s, n))
-    for s in list(samples.random_plans(rng, book, each)):
+    for s in list(random_plans(rng, book, each)):
         n = variables - (rng.random() < 0.1)
         yield "plan", "encoding %s %s %d" % (row(data), row(s), n), answer_of(reference.entry_check_plan(data, s, n))
     words = reference.word_count(clauses)
-    for s in list(samples.random_refutations(rng, book, each)):
+    for s in list(random_refutations(rng, book, each)):
         lent = [words + 400, len(clauses) + 60, variables, variables]
         if rng.random() < 0.3:
             which = rng.randrange(4)
@@ -175,7 +174,7 @@ def explodes(data):
 
 def questions(rng, books):
     for n in range(books):
-        data = samples.random_book(rng, "tiny") if n % 4 == 0 else samples.damaged_book(rng)
+        data = random_book(rng, "tiny") if n % 4 == 0 else damaged_book(rng)
         if len(data) > 900 or explodes(data):
             continue
         yield from book_questions(rng, data)
@@ -213,12 +212,10 @@ def check_table(scratch, names, table):
     """What the checker prints of one table, or nothing where both sides agree on all of it."""
     folder = os.path.join(scratch, "crates", "probe")
     shutil.rmtree(folder, ignore_errors=True)
-    os.makedirs(os.path.join(folder, "src"))
-    os.makedirs(os.path.join(folder, "specs"))
-    open(os.path.join(folder, "src", "lib.rt"), "w").write("// Questions only.\n")
-    open(os.path.join(folder, "specs", "Lib.antt"), "w").write("pub mod Questions\n")
-    open(os.path.join(folder, "specs", "Questions.antt"), "w").write(module_text(table, names))
-    done = subprocess.run(["rt", "dev", "probe"], cwd=scratch, capture_output=True, text=True)
+    write_text(os.path.join(folder, "src", "lib.rt"), "// Questions only.\n")
+    write_text(os.path.join(folder, "specs", "Lib.antt"), "pub mod Questions\n")
+    write_text(os.path.join(folder, "specs", "Questions.antt"), module_text(table, names))
+    done = subprocess.run(["rt", "dev", "probe"], cwd=scratch, capture_output=True, text=True, check=False)
     return "" if done.returncode == 0 else done.stdout + done.stderr
 
 
@@ -238,29 +235,40 @@ def run_table(scratch, names, table):
     sys.exit("the checker refused the table's form:\n" + text)
 
 
+def lay_out(scratch):
+    """Copies crates/spec and what it rests on, with a crate for the questions above them."""
+    listed = Listed(ROOT)
+    needed = [*below(listed, "spec"), "spec"]
+    lines = [f"{name}: {' '.join(listed.entries[name])}" for name in listed.entries if name in needed]
+    for name in needed:
+        shutil.copytree(os.path.join(ROOT, "crates", name), os.path.join(scratch, "crates", name))
+    write_text(os.path.join(scratch, "crates.txt"), "\n".join(lines) + f"\nprobe: {' '.join(needed)}\n")
+
+
 def run_tables(asked):
-    """Lay the crates out in a scratch folder, check them, and return what differs and what was left undecided."""
-    scratch = tempfile.mkdtemp(prefix="compare")
-    for crate in ("model", "spec"):
-        shutil.copytree(os.path.join(ROOT, "crates", crate), os.path.join(scratch, "crates", crate))
-    open(os.path.join(scratch, "crates.txt"), "w").write("model:\nspec: model\nprobe: model spec\n")
-    names = names_of_specs(os.path.join(scratch, "crates", "spec", "specs"))
+    """Asks the checker all tables; answers what differs and what was left undecided."""
     wrong, undecided = [], []
-    for table in tables(asked):
-        result = run_table(scratch, names, table)
-        wrong += result[0]
-        undecided += result[1]
-    shutil.rmtree(scratch)
+    with tempfile.TemporaryDirectory(prefix="compare") as scratch:
+        lay_out(scratch)
+        names = names_of_specs(os.path.join(scratch, "crates", "spec", "specs"))
+        for table in tables(asked):
+            result = run_table(scratch, names, table)
+            wrong += result[0]
+            undecided += result[1]
     return wrong, undecided
 
 
-def main(arguments):
-    seed, books = int(arguments[0]), int(arguments[1])
-    asked = list(questions(random.Random(seed), books))
+def arguments(parser):
+    parser.add_argument("seed", metavar="SEED", type=int, help="a number from which all books are made")
+    parser.add_argument("books", metavar="BOOKS", type=int, help="how many books; 40 take some minutes")
+
+
+def run(options):
+    asked = list(questions(random.Random(options.seed), options.books))
     wrong, undecided = run_tables(asked)
     kinds = Counter(kind for kind, _, _ in asked)
     answers = Counter(answer[0] for _, _, answer in asked)
-    print("seed %d, %d books: %d questions" % (seed, books, len(asked)))
+    print("seed %d, %d books: %d questions" % (options.seed, options.books, len(asked)))
     print("  by kind:", ", ".join("%s %d" % kv for kv in sorted(kinds.items())))
     print("  by answer (0 is accepted):", ", ".join("%d: %d" % kv for kv in sorted(answers.items())))
     for kind, question, answer in wrong:
@@ -269,7 +277,3 @@ def main(arguments):
         print("  undecided %s of %d characters, reference: %s" % (kind, len(question), answer[:2]))
     print("  %d differ, %d undecided" % (len(wrong), len(undecided)))
     return 1 if wrong else 0
-
-
-if __name__ == "__main__":
-    sys.exit(main(sys.argv[1:]))

@@ -1,63 +1,24 @@
-#!/usr/bin/env python3
-"""Has a solver of Debian decide a formula and shows it: an assignment, or a refutation in document 01's frames of kind 20.
+"""Decides a formula in DIMACS CNF and shows it: prints "satisfiable" and writes an assignment, one byte 0 or 1 a variable, or prints
+"unsatisfiable" and writes a refutation in document 01's frames of kind 20. By default the solver script tools/solve.py decides, which knows
+nothing but the DIMACS text and the step rule; --with has one of Debian's solvers do it. The hints of its proof are found by tools/drat.rs,
+which is built beside its source where rustc is there. minisat writes no proof: then "unsatisfiable, without a proof" is printed, and nothing
+is written.
 
-    with_solver.py SOLVER FORMULA OUT [DRAT]
-
-SOLVER is cadical, minisat, picosat or cryptominisat5; FORMULA is DIMACS text; DRAT is the converter of proofs, by default "drat"
-beside this script. Prints "satisfiable" and writes one byte 0 or 1 a variable to OUT, or prints "unsatisfiable" and writes the
-refutation there. minisat writes no proof: then it prints "unsatisfiable, without a proof" and writes nothing.
-
-Exit status: 0 answered, 1 the converter refuses the proof, 2 a file or its text is wrong, or the solver gives no answer.
+Exit status: 0 answered; 1 a step is longer than a frame holds, or the converter refuses the proof; 2 a file or its text is wrong, the solver
+gives no answer, or wrong usage.
 """
-
 import os
-import re
 import subprocess
 import sys
 import tempfile
 
+from . import solve
+from .repository import TOOLS, read_text
+from .solve import Failure
+
+SOLVERS = ("cadical", "minisat", "picosat", "cryptominisat5")
 SATISFIABLE = 10
 UNSATISFIABLE = 20
-VARIABLES_MOST = 2**31 - 1
-
-
-class Failure(Exception):
-    """Ends the program: the exit status, and a message."""
-
-
-# ---- the formula
-
-
-def read_text(name):
-    try:
-        with open(name, encoding="ascii") as file:
-            return file.read()
-    except OSError as error:
-        raise Failure(2, str(error)) from None
-    except UnicodeDecodeError:
-        raise Failure(2, f"not ASCII text: {name}") from None
-
-
-def variables_of(name):
-    """The number of variables. The text is checked here, since solvers differ in what they let pass."""
-    lines = [line for line in read_text(name).split("\n") if line.strip() and not line.startswith("c")]
-    header = re.fullmatch(r"p\s+cnf\s+([0-9]+)\s+([0-9]+)\s*", lines[0] if lines else "")
-    if not header:
-        raise Failure(2, "the formula does not begin with a line: p cnf VARIABLES CLAUSES")
-    variables, count = int(header[1]), int(header[2])
-    if variables > VARIABLES_MOST:
-        raise Failure(2, f"more variables than a literal can name: {variables}")
-    words = " ".join(lines[1:]).split()
-    for word in words:
-        if not re.fullmatch("-?[0-9]+", word) or abs(int(word)) > variables:
-            raise Failure(2, f"no literal of this formula: {word}")
-    if words and int(words[-1]) != 0:
-        raise Failure(2, "the last clause is not closed by 0")
-    closed = sum(int(word) == 0 for word in words)
-    if closed != count:
-        raise Failure(2, f"the header says {count} clauses, the file has {closed}")
-    return variables
-
 
 # ---- the solvers
 
@@ -73,7 +34,7 @@ def command(solver, formula, extra):
     }[solver]
 
 
-def run(words):
+def start(words):
     try:
         return subprocess.run(words, stdin=subprocess.DEVNULL, capture_output=True, text=True, check=False)
     except OSError as error:
@@ -82,7 +43,7 @@ def run(words):
 
 def ask(solver, formula, extra):
     """Whether the formula is satisfiable, and what the solver printed."""
-    result = run(command(solver, formula, extra))
+    result = start(command(solver, formula, extra))
     if result.returncode not in (SATISFIABLE, UNSATISFIABLE):
         said = (result.stderr or result.stdout).strip()
         raise Failure(2, f"{solver} gives no answer (status {result.returncode}): {said}")
@@ -132,7 +93,7 @@ def plain_proof(solver, proof):
 
 
 def convert(drat, formula, proof, out):
-    result = run([drat, formula, proof, out])
+    result = start([drat, formula, proof, out])
     if result.returncode != 0:
         raise Failure(2 if result.returncode == 2 else 1, result.stderr.strip() or f"{drat}: status {result.returncode}")
 
@@ -149,7 +110,8 @@ def write(name, data):
 
 
 def answer(solver, formula, out, drat):
-    variables = variables_of(formula)
+    # the text is checked here, since solvers differ in what they let pass
+    variables, _ = solve.read_formula(formula)
     with tempfile.TemporaryDirectory() as directory:
         extra = os.path.join(directory, "extra")
         satisfiable, printed = ask(solver, formula, extra)
@@ -162,20 +124,34 @@ def answer(solver, formula, out, drat):
         return "unsatisfiable"
 
 
-def main(names):
-    beside = os.path.join(os.path.dirname(os.path.abspath(__file__)), "drat")
+def build_converter(drat):
+    """Builds the converter of proofs, unless it is there and no older than its source."""
+    source = os.path.join(TOOLS, "drat.rs")
+    if os.path.exists(drat) and os.path.getmtime(drat) >= os.path.getmtime(source):
+        return
+    result = start(["rustc", "-O", "--edition", "2021", source, "-o", drat])
+    if result.returncode:
+        raise Failure(2, result.stderr.strip())
+
+
+def arguments(parser):
+    parser.add_argument("formula", metavar="FORMULA", help="a file of DIMACS text")
+    parser.add_argument("out", metavar="OUT", help="the file for the assignment or the refutation")
+    parser.add_argument("--with", dest="solver", choices=SOLVERS, help="one of Debian's solvers in place of the script")
+    parser.add_argument("--drat", metavar="PROGRAM", help="the converter of proofs, already built; by default tools/drat, from tools/drat.rs")
+
+
+def run(options):
+    if options.solver is None:
+        return solve.main([options.formula, options.out])
+    drat = options.drat or os.path.join(TOOLS, "drat")
     try:
-        if len(names) not in (3, 4) or names[0] not in ("cadical", "minisat", "picosat", "cryptominisat5"):
-            raise Failure(2, "usage: with_solver.py cadical|minisat|picosat|cryptominisat5 FORMULA OUT [DRAT]")
-        solver, formula, out, drat = (*names, beside)[:4]
+        if options.solver != "minisat" and not options.drat:
+            build_converter(drat)
         # whole paths, so that no name is taken for an option
-        print(answer(solver, os.path.abspath(formula), out, drat))
+        print(answer(options.solver, os.path.abspath(options.formula), options.out, drat))
     except Failure as failure:
         status, text = failure.args
-        print(f"with_solver.py: {text}", file=sys.stderr)
+        print(f"tools solve: {text}", file=sys.stderr)
         return status
     return 0
-
-
-if __name__ == "__main__":
-    sys.exit(main(sys.argv[1:]))

@@ -1,59 +1,33 @@
-#!/usr/bin/env python3
-"""Make the cases of crates/refutation_cases: books with refutations good, damaged and hostile, with the reference's verdicts.
-
-    refutation_cases.py SEED [BOOKS]
-
-The file stdin is the cases, nothing between them or behind. A case is six numbers of four bytes, little-endian: the length of the book, the length of the refutation, and how many words, clauses, values and
-trail entries are lent; then the book's bytes and the refutation's. Neither input has more than 65,536 bytes, and no slice more entries
-than the programs lend: 16,384 words, 8,192 clauses, 65,536 values, 8,192 of a trail. The file stdout has a line a case: accepted, or
-the refusal's number, a blank and its detail.
-
-Book M with each rule on steps met and missed, slices just long enough and one too short at every step, damaged books, refutations
-with thousands of steps; then random books, most without a plan, with refutations of several steps, and the same spoiled. Where
-the answer was found by hand, it stands with the case, and the reference has to give it.
-"""
+"""Refutations: book M with each rule on steps met and missed, slices just long enough and one too short at every step, damaged books,
+refutations with thousands of steps; then random books, most without a plan, with refutations of several steps, and the same spoiled.
+Where the answer was found by hand, it stands with the case, and the reference has to give it."""
 import collections
 import itertools
-import random
 import struct
-import sys
 
-import cases
-import check_cases
-import formula_cases
-import reference
-import samples
-from reference import word_count
-from samples import encode_steps, step_frame
+from .. import reference
+from ..books import Spec, encode, spec_bytes
+from ..inputs import TooLong, encode_steps, step_frame
+from ..known import BOOK_L, LIMITS, RINGS, SMALL_RINGS, book_m, great_ring, ring
+from ..random_books import random_book, refused_books
+from ..random_inputs import honest_steps, spoil_ending, spoil_steps
+from ..reference import word_count
+from ..small_solver import Solver, refutation_steps
+from .records import ACCEPTED, LENT, Record, lending
 
-# the most that all cases may have together
-MOST_BYTES = 600000
-# the most that a random refutation may have, and how many spoiled ones stand behind it
+NAME, SEED, COUNT = "refutations.cases", 11, 1946
+# random books are made as long as there is room; the most that a random refutation may have, and how many spoiled ones stand behind it
 MOST_FILE, EACH = 400, 2
-FULL = (reference.LENT_WORDS, reference.LENT_CLAUSES, reference.LENT_VALUES, reference.LENT_TRAIL)
+FULL = LENT["N"]
 WORDS, CLAUSES, VALUES, TRAIL = range(4)
-ACCEPTED = "accepted"
 LEAST = -2 ** 31
 # how often an answer has to occur
 OFTEN = {**{str(n): 3 for n in range(1, 12)}, **{key: 120 for key in (ACCEPTED, "12", "17", "18", "19", "20", "21")}}
 
 
-class Case:
-    """A book, a refutation and what is lent; and the answer that is known beforehand, or None."""
-
-    def __init__(self, said, book, refutation, lent=FULL):
-        self.said, self.book, self.refutation, self.lent = said, book, refutation, tuple(lent)
-        assert max(len(book), len(refutation)) <= reference.LENT_BYTES
-        assert all(0 <= n <= most for n, most in zip(lent, FULL))
-
-    def record(self):
-        lengths = (len(self.book), len(self.refutation)) + self.lent
-        return struct.pack("<6I", *lengths) + self.book + self.refutation
-
-    def answer(self):
-        line = reference.verdict_line(reference.entry_check_refutation(self.book, self.refutation, *self.lent))
-        assert self.said in (None, line.decode().strip()), (self.said, line, self.refutation.hex(), self.lent)
-        return line
+def case(said, book, refutation, lent=FULL):
+    """A book, a refutation and what is lent; `said` is the answer that is known beforehand, or None."""
+    return Record("N", book, refutation, lending("N", *lent), said)
 
 
 def needed(variables, clauses, steps):
@@ -69,7 +43,7 @@ def less(lent, which, by=1):
 
 # ---------------------------------------------------------------- book M
 
-WIDE, SHUT = samples.book_m(0, 1), samples.book_m(0, 0)
+WIDE, SHUT = book_m(0, 1), book_m(0, 0)
 # 10 variables; clauses 1 to 3 are -1, -2, -3; 4 is 4 5 6 7 8; 5 to 14 its pairs, among them 6: -4 -6, 12: -6 -7, 13: -6 -8; 15 to 18
 # are -5, -6, -7, -8; 19 is 6 7, empty where the window is shut; 20 is -4 9; 22 is -6 10; 24 is -9 2 10
 VARIABLES, FORMULA = reference.formula(reference.read_book(WIDE))
@@ -81,25 +55,25 @@ EXACT = needed(VARIABLES, FORMULA, GOOD)
 
 def wide(said, *steps):
     """Book M with its window open and these steps, each a pair or bytes."""
-    return Case(said, WIDE, b"".join(step if isinstance(step, bytes) else step_frame(*step) for step in steps))
+    return case(said, WIDE, b"".join(step if isinstance(step, bytes) else step_frame(*step) for step in steps))
 
 
 def document_cases():
     for lent in (FULL, (74, 26, 10, 10)):
-        yield Case(ACCEPTED, WIDE, step_frame([], [16, 17, 19]), lent)
-        yield Case("20 1", WIDE, step_frame([], [19, 16, 17]), lent)
-        yield Case(ACCEPTED, SHUT, step_frame([], [19]), lent)
-        yield Case(ACCEPTED, SHUT, step_frame([], [16, 17, 19]), lent)
-        yield Case("20 1", SHUT, step_frame([], [19, 16, 17]), lent)
+        yield case(ACCEPTED, WIDE, step_frame([], [16, 17, 19]), lent)
+        yield case("20 1", WIDE, step_frame([], [19, 16, 17]), lent)
+        yield case(ACCEPTED, SHUT, step_frame([], [19]), lent)
+        yield case(ACCEPTED, SHUT, step_frame([], [16, 17, 19]), lent)
+        yield case("20 1", SHUT, step_frame([], [19, 16, 17]), lent)
     # the empty clause proves any step, but only as the last hint
-    yield Case(ACCEPTED, SHUT, encode_steps([([1, -10], [19]), ([], [19])]))
-    yield Case(ACCEPTED, SHUT, encode_steps([([1], [19]), ([], [26, 1])]))
-    yield Case("20 2", SHUT, encode_steps([([1], [19]), ([], [26])]))
-    yield Case("20 1", SHUT, encode_steps([([1], [19, 19]), ([], [19])]))
+    yield case(ACCEPTED, SHUT, encode_steps([([1, -10], [19]), ([], [19])]))
+    yield case(ACCEPTED, SHUT, encode_steps([([1], [19]), ([], [26, 1])]))
+    yield case("20 2", SHUT, encode_steps([([1], [19]), ([], [26])]))
+    yield case("20 1", SHUT, encode_steps([([1], [19, 19]), ([], [19])]))
     # book L has a plan, so that no empty step can pass
-    yield Case("21 0", samples.BOOK_L, b"")
-    yield Case("21 0", samples.BOOK_L, step_frame([-4], [7]))
-    yield Case("20 2", samples.BOOK_L, encode_steps([([-4], [7]), ([], [11, 8, 3, 9])]))
+    yield case("21 0", BOOK_L, b"")
+    yield case("21 0", BOOK_L, step_frame([-4], [7]))
+    yield case("20 2", BOOK_L, encode_steps([([-4], [7]), ([], [11, 8, 3, 9])]))
 
 
 def cut_cases():
@@ -108,10 +82,10 @@ def cut_cases():
     ends = [len(encode_steps(GOOD[:n])) for n in range(len(GOOD) + 1)]
     for at in range(len(data)):
         step = sum(end <= at for end in ends)
-        yield Case("21 0" if at in ends else "17 %d" % step, WIDE, data[:at])
-    yield Case(ACCEPTED, WIDE, data)
+        yield case("21 0" if at in ends else "17 %d" % step, WIDE, data[:at])
+    yield case(ACCEPTED, WIDE, data)
     for at in range(len(data)):
-        yield Case(None, WIDE, data[:at] + bytes(len(data) - at))
+        yield case(None, WIDE, data[:at] + bytes(len(data) - at))
 
 
 def damaged_frames(literals, hints):
@@ -227,7 +201,7 @@ def ending_cases():
     one = step_frame(*END)
     for start in (good, one):
         for tail in (b"\0", b"\xff", bytes(2), bytes(3), bytes(4), b"\2\0\x14\0", b"\2\0\x14\0\0\0", one, step_frame([-6], [16]),
-                     step_frame([], []), step_frame([0], [0]), samples.BOOK_L):
+                     step_frame([], []), step_frame([0], [0]), BOOK_L):
             yield wide("21 0", start, tail)
     yield wide("21 0", *GOOD[:1])
     yield wide("21 0", *GOOD[:3])
@@ -266,12 +240,12 @@ def order_cases():
     # the book, then 12 of the formula, then the refutation
     for second in (b"", b"\0", step_frame([0], [0]), encode_steps(GOOD)):
         for which in range(4):
-            yield Case("12 0", WIDE, second, less(needed(VARIABLES, FORMULA, []), which))
-        yield Case("1 0", WIDE[:-1], second, (0, 0, 0, 0))
-        yield Case("10 0", samples.encode([[1, struct.pack("<HHB", 100, 10, 1)], [8, b""]]), second, (0, 0, 0, 0))
+            yield case("12 0", WIDE, second, less(needed(VARIABLES, FORMULA, []), which))
+        yield case("1 0", WIDE[:-1], second, (0, 0, 0, 0))
+        yield case("10 0", encode([[1, struct.pack("<HHB", 100, 10, 1)], [8, b""]]), second, (0, 0, 0, 0))
     # each in the other's place
-    yield Case("2 0", encode_steps(GOOD), WIDE)
-    yield Case("17 1", WIDE, WIDE)
+    yield case("2 0", encode_steps(GOOD), WIDE)
+    yield case("17 1", WIDE, WIDE)
     # in a step 12 comes behind 17, 18 and 19, and ahead of 20 and 21
     for at in range(len(GOOD)):
         upto = needed(VARIABLES, FORMULA, GOOD[:at + 1])
@@ -279,21 +253,21 @@ def order_cases():
         own = len(FORMULA) + at + 1
         for short in (less(upto, WORDS), less(upto, CLAUSES)):
             before = encode_steps(GOOD[:at])
-            yield Case("12 0", WIDE, before + step_frame(literals, hints), short)
-            yield Case("12 0", WIDE, before + step_frame(literals, hints) + b"\0", short)
-            yield Case("12 0", WIDE, before + step_frame(literals, []), short)
-            yield Case("12 0", WIDE, before + step_frame(literals, hints[::-1]), short)
-            yield Case("19 %d" % (at + 1), WIDE, before + step_frame(literals, hints + [own]), short)
-            yield Case("19 %d" % (at + 1), WIDE, before + step_frame(literals, [0] + hints), short)
-            yield Case("18 %d" % (at + 1), WIDE, before + step_frame(literals + [11], hints), short)
-            yield Case("18 %d" % (at + 1), WIDE, before + step_frame([0] + literals, [0]), short)
-            yield Case("17 %d" % (at + 1), WIDE, before + step_frame(literals, hints)[:-1], short)
-            yield Case("17 %d" % (at + 1), WIDE, before + step_frame(literals, hints, kind=8), short)
-            yield Case("21 0", WIDE, before, short)
+            yield case("12 0", WIDE, before + step_frame(literals, hints), short)
+            yield case("12 0", WIDE, before + step_frame(literals, hints) + b"\0", short)
+            yield case("12 0", WIDE, before + step_frame(literals, []), short)
+            yield case("12 0", WIDE, before + step_frame(literals, hints[::-1]), short)
+            yield case("19 %d" % (at + 1), WIDE, before + step_frame(literals, hints + [own]), short)
+            yield case("19 %d" % (at + 1), WIDE, before + step_frame(literals, [0] + hints), short)
+            yield case("18 %d" % (at + 1), WIDE, before + step_frame(literals + [11], hints), short)
+            yield case("18 %d" % (at + 1), WIDE, before + step_frame([0] + literals, [0]), short)
+            yield case("17 %d" % (at + 1), WIDE, before + step_frame(literals, hints)[:-1], short)
+            yield case("17 %d" % (at + 1), WIDE, before + step_frame(literals, hints, kind=8), short)
+            yield case("21 0", WIDE, before, short)
         # what fits is tried
-        yield Case("20 %d" % (at + 1), WIDE, encode_steps(GOOD[:at]) + step_frame(literals, hints[::-1] + hints), upto)
+        yield case("20 %d" % (at + 1), WIDE, encode_steps(GOOD[:at]) + step_frame(literals, hints[::-1] + hints), upto)
         if at:
-            yield Case("20 %d" % at, WIDE, encode_steps(GOOD[:at - 1]) + step_frame(GOOD[at - 1][0], []) + step_frame(literals, hints),
+            yield case("20 %d" % at, WIDE, encode_steps(GOOD[:at - 1]) + step_frame(GOOD[at - 1][0], []) + step_frame(literals, hints),
                        less(upto, WORDS))
 
 
@@ -301,30 +275,30 @@ def slice_cases():
     """Every length of words and clauses from one too few for the formula to one too many for the whole, and the values and trail."""
     data = encode_steps(GOOD)
     for words in range(word_count(FORMULA) - 1, EXACT[WORDS] + 2):
-        yield Case(ACCEPTED if words >= EXACT[WORDS] else "12 0", WIDE, data, (words,) + EXACT[1:])
+        yield case(ACCEPTED if words >= EXACT[WORDS] else "12 0", WIDE, data, (words,) + EXACT[1:])
     for count in range(len(FORMULA) - 1, EXACT[CLAUSES] + 2):
-        yield Case(ACCEPTED if count >= EXACT[CLAUSES] else "12 0", WIDE, data, (EXACT[0], count) + EXACT[2:])
+        yield case(ACCEPTED if count >= EXACT[CLAUSES] else "12 0", WIDE, data, (EXACT[0], count) + EXACT[2:])
     for n in (0, 1, VARIABLES - 1, VARIABLES, VARIABLES + 1):
         said = ACCEPTED if n >= VARIABLES else "12 0"
-        yield Case(said, WIDE, data, EXACT[:2] + (n, VARIABLES))
-        yield Case(said, WIDE, data, EXACT[:2] + (VARIABLES, n))
-        yield Case(said, WIDE, data, EXACT[:2] + (n, n))
+        yield case(said, WIDE, data, EXACT[:2] + (n, VARIABLES))
+        yield case(said, WIDE, data, EXACT[:2] + (VARIABLES, n))
+        yield case(said, WIDE, data, EXACT[:2] + (n, n))
     for which in range(4):
-        yield Case("12 0", WIDE, data, less(FULL, which, FULL[which]))
-        yield Case(ACCEPTED, WIDE, data, tuple(FULL[at] if at == which else n for at, n in enumerate(EXACT)))
-    yield Case("12 0", WIDE, data, (0, 0, 0, 0))
+        yield case("12 0", WIDE, data, less(FULL, which, FULL[which]))
+        yield case(ACCEPTED, WIDE, data, tuple(FULL[at] if at == which else n for at, n in enumerate(EXACT)))
+    yield case("12 0", WIDE, data, (0, 0, 0, 0))
     # a trail of just the variables, all of them set: by the step, and the last by a hint
     for literals, hints in (([-1, -2, -3, -4, -5, -6, -7, -8, -9, -10], [16]), ([1, -2, 3, 4, 5, 6, 8, 9, 10], [19, 17])):
         steps = [(literals, hints), END]
         exact = needed(VARIABLES, FORMULA, steps)
-        yield Case(ACCEPTED, WIDE, encode_steps(steps), exact)
+        yield case(ACCEPTED, WIDE, encode_steps(steps), exact)
         for which in range(4):
-            yield Case("12 0", WIDE, encode_steps(steps), less(exact, which))
+            yield case("12 0", WIDE, encode_steps(steps), less(exact, which))
     # a proved step that the file ends with, where nothing more would fit
-    yield Case("21 0", WIDE, encode_steps(GOOD[:3]), needed(VARIABLES, FORMULA, GOOD[:3]))
-    yield Case("21 0", WIDE, b"", needed(VARIABLES, FORMULA, []))
-    yield Case("21 0", WIDE, data + b"\0", EXACT)
-    yield Case("21 0", WIDE, data + step_frame(*END), EXACT)
+    yield case("21 0", WIDE, encode_steps(GOOD[:3]), needed(VARIABLES, FORMULA, GOOD[:3]))
+    yield case("21 0", WIDE, b"", needed(VARIABLES, FORMULA, []))
+    yield case("21 0", WIDE, data + b"\0", EXACT)
+    yield case("21 0", WIDE, data + step_frame(*END), EXACT)
 
 
 def kept_cases():
@@ -356,22 +330,16 @@ def kept_cases():
 
 def book_cases(rng):
     """Each refusal of the book a few times, with a refutation that is good for book M or is none, and slices long or of no length."""
-    left = {number: 5 for number in range(1, 12)}
-    while any(left.values()):
-        data = samples.damaged_book(rng)
-        found = reference.entry_read_book(data)
-        if found[0] == "accepted" or not left[found[1]]:
-            continue
-        left[found[1]] -= 1
-        yield Case("%d 0" % found[1], data, rng.choice((b"", b"\0", step_frame([], [1]), encode_steps(GOOD))),
+    for number, data in refused_books(rng, 5):
+        yield case("%d 0" % number, data, rng.choice((b"", b"\0", step_frame([], [1]), encode_steps(GOOD))),
                    rng.choice((FULL, EXACT, (0, 0, 0, 0), less(FULL, rng.randrange(4), 65536 // 8))))
     for at in range(0, len(WIDE), 3):
-        yield Case("1 0", WIDE[:at], encode_steps(GOOD), EXACT)
+        yield case("1 0", WIDE[:at], encode_steps(GOOD), EXACT)
     for at in range(len(WIDE)):
-        yield Case(None, WIDE[:at] + bytes([WIDE[at] ^ 1 << rng.randrange(3)]) + WIDE[at + 1:], encode_steps(GOOD), FULL)
-    for maker in samples.LIMITS:
+        yield case(None, WIDE[:at] + bytes([WIDE[at] ^ 1 << rng.randrange(3)]) + WIDE[at + 1:], encode_steps(GOOD), FULL)
+    for maker in LIMITS:
         for over in (0, 1):
-            yield Case(None, samples.spec_bytes(maker(over)), step_frame([], [1, 2]))
+            yield case(None, spec_bytes(maker(over)), step_frame([], [1, 2]))
 
 
 # -------------------------------------------------- many clauses and steps
@@ -379,13 +347,13 @@ def book_cases(rng):
 
 def crowd(nodes, trains=8):
     """Trains that depart in the last interval, all from one segment: many units, and a short refutation."""
-    spec = samples.Spec(100, 10, 32)
+    spec = Spec(100, 10, 32)
     spec.nodes = [0] * nodes
     spec.segments = [(0, 1, 0)]
     for train in range(trains):
         spec.trains.append((100, 36, 31, [0]))
         spec.calls.append((train, 0, 0, 32))
-    return samples.spec_bytes(spec)
+    return spec_bytes(spec)
 
 
 def formula_of(data):
@@ -394,7 +362,7 @@ def formula_of(data):
 
 def crowd_end(variables, clauses):
     """The empty step that refutes a crowd."""
-    steps = samples.refutation_steps(variables, clauses)
+    steps = refutation_steps(variables, clauses)
     assert len(steps) == 1
     return steps[0]
 
@@ -441,7 +409,7 @@ def long_cases(rng):
     variables, clauses = formula_of(data)
     steps = unit_steps(rng, variables, clauses, singles, pairs) + [crowd_end(variables, clauses)]
     assert needed(variables, clauses, steps)[WORDS] == FULL[WORDS] and len(encode_steps(steps)) == reference.LENT_BYTES
-    yield Case(ACCEPTED, data, encode_steps(steps))
+    yield case(ACCEPTED, data, encode_steps(steps))
 
 
 def hundreds_cases(rng):
@@ -451,14 +419,14 @@ def hundreds_cases(rng):
     steps = unit_steps(rng, variables, clauses, 230, 29) + [crowd_end(variables, clauses)]
     exact, good, before = needed(variables, clauses, steps), encode_steps(steps), encode_steps(steps[:259])
     middle = needed(variables, clauses, steps[:130])
-    yield Case(ACCEPTED, data, good, exact)
-    yield Case("12 0", data, good, less(exact, WORDS))
-    yield Case("12 0", data, good, less(exact, CLAUSES))
-    yield Case("12 0", data, good, (middle[WORDS] - 1,) + exact[1:])
-    yield Case("20 260", data, before + step_frame([], [1]), exact)
-    yield Case("19 260", data, before + step_frame([], [1, len(clauses) + 260]), exact)
-    yield Case("18 260", data, before + step_frame([-variables - 1], [1]), exact)
-    yield Case("17 260", data, before + step_frame([], [1])[:-1], exact)
+    yield case(ACCEPTED, data, good, exact)
+    yield case("12 0", data, good, less(exact, WORDS))
+    yield case("12 0", data, good, less(exact, CLAUSES))
+    yield case("12 0", data, good, (middle[WORDS] - 1,) + exact[1:])
+    yield case("20 260", data, before + step_frame([], [1]), exact)
+    yield case("19 260", data, before + step_frame([], [1, len(clauses) + 260]), exact)
+    yield case("18 260", data, before + step_frame([-variables - 1], [1]), exact)
+    yield case("17 260", data, before + step_frame([], [1])[:-1], exact)
 
 
 def broad_cases(rng):
@@ -468,9 +436,9 @@ def broad_cases(rng):
     end = crowd_end(variables, clauses)
     units = [number for number, clause in enumerate(clauses, 1) if len(clause) == 1]
     hints = rng.sample([h for h in units if h not in end[1]], 270)
-    yield Case(ACCEPTED, data, step_frame([], hints + end[1]))
-    yield Case("20 1", data, step_frame([], hints + hints[:1] + end[1]))
-    yield Case("20 1", data, step_frame([], hints + end[1] + hints[:1]))
+    yield case(ACCEPTED, data, step_frame([], hints + end[1]))
+    yield case("20 1", data, step_frame([], hints + hints[:1] + end[1]))
+    yield case("20 1", data, step_frame([], hints + end[1] + hints[:1]))
     # every variable, against one unit
     unit = rng.choice(units)
     v = -clauses[unit - 1][0]
@@ -478,48 +446,48 @@ def broad_cases(rng):
     literals[v - 1] = -v
     steps = [(literals, [unit]), end]
     exact = needed(variables, clauses, steps)
-    yield Case(ACCEPTED, data, encode_steps(steps), exact)
-    yield Case("12 0", data, encode_steps(steps), less(exact, WORDS))
-    yield Case("12 0", data, encode_steps(steps), less(exact, WORDS, 2))
-    yield Case("20 1", data, encode_steps([(literals[:v - 1] + literals[v:], [unit]), end]))
-    yield Case("20 1", data, encode_steps([(literals[:v - 1] + [v] + literals[v:], [unit]), end]))
-    yield Case("18 1", data, encode_steps([(literals + [-literals[-1]], [unit]), end]))
-    yield Case("18 1", data, encode_steps([(literals + [variables + 1], [unit]), end]))
+    yield case(ACCEPTED, data, encode_steps(steps), exact)
+    yield case("12 0", data, encode_steps(steps), less(exact, WORDS))
+    yield case("12 0", data, encode_steps(steps), less(exact, WORDS, 2))
+    yield case("20 1", data, encode_steps([(literals[:v - 1] + literals[v:], [unit]), end]))
+    yield case("20 1", data, encode_steps([(literals[:v - 1] + [v] + literals[v:], [unit]), end]))
+    yield case("18 1", data, encode_steps([(literals + [-literals[-1]], [unit]), end]))
+    yield case("18 1", data, encode_steps([(literals + [variables + 1], [unit]), end]))
     many = [rng.randint(1, len(clauses)) for _ in range(8192)]
-    yield Case("19 1", data, step_frame([], many + [len(clauses) + 1]))
+    yield case("19 1", data, step_frame([], many + [len(clauses) + 1]))
 
 
 def large_formulas():
     """Formulas of as many words as the programs lend, of one more, and of far more; a step then has no room, or is refused ahead of 12."""
-    for words, shape in formula_cases.RINGS:
-        data = formula_cases.ring(*shape)
+    for words, shape in RINGS:
+        data = ring(*shape)
         fits = words <= FULL[WORDS]
         count = len(formula_of(data)[1])
-        yield Case("21 0" if fits else "12 0", data, b"")
-        yield Case("12 0", data, step_frame([], [1, 2]))
-        yield Case("19 1" if fits else "12 0", data, step_frame([], [count + 1]))
-        yield Case("19 1" if fits else "12 0", data, step_frame([], [1, 0]))
-        yield Case("18 1" if fits else "12 0", data, step_frame([0], [1]))
-        yield Case("17 1" if fits else "12 0", data, b"\0")
+        yield case("21 0" if fits else "12 0", data, b"")
+        yield case("12 0", data, step_frame([], [1, 2]))
+        yield case("19 1" if fits else "12 0", data, step_frame([], [count + 1]))
+        yield case("19 1" if fits else "12 0", data, step_frame([], [1, 0]))
+        yield case("18 1" if fits else "12 0", data, step_frame([0], [1]))
+        yield case("17 1" if fits else "12 0", data, b"\0")
         if fits:
-            yield Case("21 0", data, b"", (FULL[WORDS], count) + FULL[2:])
-            yield Case("12 0", data, b"", (FULL[WORDS], count - 1) + FULL[2:])
-            yield Case("12 0", data, b"", less(FULL, WORDS))
-    yield Case("12 0", check_cases.ring(32), b"")
-    yield Case("12 0", check_cases.ring(24), step_frame([], [1]))
+            yield case("21 0", data, b"", (FULL[WORDS], count) + FULL[2:])
+            yield case("12 0", data, b"", (FULL[WORDS], count - 1) + FULL[2:])
+            yield case("12 0", data, b"", less(FULL, WORDS))
+    yield case("12 0", great_ring(32), b"")
+    yield case("12 0", great_ring(24), step_frame([], [1]))
     # each slice just long enough for the formula, and one too short
-    data = formula_cases.ring(*formula_cases.SMALL_RINGS[3])
+    data = ring(*SMALL_RINGS[3])
     variables, clauses = formula_of(data)
     exact = needed(variables, clauses, [])
-    yield Case("21 0", data, b"", exact)
+    yield case("21 0", data, b"", exact)
     for which in range(4):
-        yield Case("12 0", data, b"", less(exact, which))
+        yield case("12 0", data, b"", less(exact, which))
 
 
 # ------------------------------------------------------------ random books
 
 
-class Learner(samples.Solver):
+class Learner(Solver):
     """Decides at random, from a pool while it lasts, and keeps what each conflict teaches; the newest clauses are tried first."""
 
     def __init__(self, rng, variables, clauses, pool):
@@ -584,7 +552,7 @@ def learnt_steps(rng, variables, clauses, pool):
             found = learner.learn(learner.begin())
             while found and found[0] and len(learner.steps) < 100:
                 found = learner.learn(learner.begin())
-    except samples.TooLong:
+    except TooLong:
         return None
     if found is None or found[0]:
         return None
@@ -594,8 +562,8 @@ def learnt_steps(rng, variables, clauses, pool):
 def refuting_steps(rng, variables, clauses):
     """Of some refutations that are short enough mostly the one with the longest steps; None if there is none, or none was found."""
     try:
-        known = samples.refutation_steps(variables, clauses, 500)
-    except samples.TooLong:
+        known = refutation_steps(variables, clauses, 500)
+    except TooLong:
         return None
     if known is None:
         return None
@@ -613,9 +581,9 @@ def spoiled(rng, variables, clauses, steps):
     style = rng.random()
     at = rng.randrange(len(steps))
     if style < 0.5:
-        return samples.spoil_steps(rng, variables, clauses, steps)
+        return spoil_steps(rng, variables, clauses, steps)
     if style < 0.75:
-        return samples.spoil_ending(rng, encode_steps(steps), steps)
+        return spoil_ending(rng, encode_steps(steps), steps)
     if style < 0.83:
         # a step once more: the numbers behind it are off by one
         return encode_steps(steps[:at + 1] + steps[at:])
@@ -645,10 +613,9 @@ def random_lent(rng, variables, clauses, steps):
     return tuple(rng.choice((n, n, n + 1, rng.randint(0, n))) for n in exact)
 
 
-def random_cases(rng, books):
-    done = 0
-    while done < books:
-        data = samples.random_book(rng, "tiny" if rng.random() < 0.8 else "small")
+def random_cases(rng):
+    while True:
+        data = random_book(rng, "tiny" if rng.random() < 0.8 else "small")
         if reference.entry_read_book(data)[0] != "accepted":
             continue
         variables, clauses = formula_of(data)
@@ -659,40 +626,21 @@ def random_cases(rng, books):
         if not steps or len(steps) == 1:
             if rng.random() < 0.97:
                 continue
-            steps = steps or samples.honest_steps(rng, variables, clauses, 3)
+            steps = steps or honest_steps(rng, variables, clauses, 3)
             if not steps or len(encode_steps(steps)) > MOST_FILE:
                 continue
-        done += 1
-        yield Case(None, data, encode_steps(steps), random_lent(rng, variables, clauses, steps))
+        yield case(None, data, encode_steps(steps), random_lent(rng, variables, clauses, steps))
         for _ in range(EACH):
-            yield Case(None, data, spoiled(rng, variables, clauses, steps), random_lent(rng, variables, clauses, steps))
+            yield case(None, data, spoiled(rng, variables, clauses, steps), random_lent(rng, variables, clauses, steps))
 
 
-def groups(rng, books):
-    yield from (document_cases(), cut_cases(), frame_cases(), literal_cases(), hint_cases(), state_cases(), ending_cases(),
-                order_cases(), slice_cases(), kept_cases(), book_cases(rng), long_cases(rng), hundreds_cases(rng), broad_cases(rng),
-                large_formulas(), random_cases(rng, books))
+def all_records(rng):
+    """The made ones, then random ones for ever."""
+    for group in (document_cases(), cut_cases(), frame_cases(), literal_cases(), hint_cases(), state_cases(), ending_cases(), order_cases(),
+                  slice_cases(), kept_cases(), book_cases(rng), long_cases(rng), hundreds_cases(rng), broad_cases(rng), large_formulas(),
+                  random_cases(rng)):
+        yield from group
 
 
-def main(arguments):
-    rng = random.Random(int(arguments[0]))
-    books = int(arguments[1]) if len(arguments) > 1 else 240
-    stdin, stdout, tally, size = [], [], collections.Counter(), 0
-    for group in groups(rng, books):
-        for case in group:
-            record, line = case.record(), case.answer()
-            if size + len(record) > MOST_BYTES:
-                break
-            size += len(record)
-            stdin.append(record)
-            stdout.append(line)
-            tally[line.split()[0].decode()] += 1
-    cases.store_bytes("refutation_cases", b"".join(stdin), b"".join(stdout))
-    order = sorted(tally, key=lambda key: (not key.isdigit(), len(key), key))
-    print("%d cases, %d bytes: %s" % (len(stdin), size, ", ".join("%s %d" % (k, tally[k]) for k in order)))
-    seldom = [key for key, least in OFTEN.items() if tally[key] < least]
-    assert not seldom, "too few of " + ", ".join(seldom)
-
-
-if __name__ == "__main__":
-    main(sys.argv[1:])
+def records(rng, note):
+    return itertools.islice(all_records(rng), COUNT)

@@ -1,0 +1,44 @@
+"""What the reference, document 01 once more in plain Python, says of a book and a second input: the lines that the commands of the
+built program print, and the result in the third file, where one is named and the input is accepted.
+
+  print_formula [BOOK]                      the formula in DIMACS CNF; without a name the book comes from standard input
+  check_assignment BOOK ASSIGNMENT [PLAN]
+  check_plan BOOK PLAN [ASSIGNMENT]
+  check_refutation BOOK REFUTATION
+
+Exit status: 0 answered, accepted or refused; 2 wrong usage, or a file can't be read.
+"""
+import sys
+
+from . import reference
+from .repository import read_bytes, write_bytes
+
+# each command with the least and the most names that it takes
+COMMANDS = {"print_formula": (0, 1), "check_assignment": (2, 3), "check_plan": (2, 3), "check_refutation": (2, 2)}
+
+
+def arguments(parser):
+    parser.add_argument("command", metavar="COMMAND", choices=COMMANDS, help=", ".join(COMMANDS))
+    parser.add_argument("names", metavar="FILE", nargs="*", help="the files, as above")
+    parser.set_defaults(complain=parser.error)
+
+
+def check(command, names):
+    """The verdict's line; an accepted input's result goes to the third file."""
+    answer = reference.check_two(command, *map(read_bytes, names[:2]))
+    if len(names) == 3 and answer[0] == "accepted":
+        write_bytes(names[2], answer[1])
+    return reference.verdict_line(answer)
+
+
+def run(options):
+    least, most = COMMANDS[options.command]
+    if not least <= len(options.names) <= most:
+        options.complain(f"{options.command} takes {least} to {most} names")
+    if options.command == "print_formula":
+        said = reference.print_formula(read_bytes(options.names[0]) if options.names else sys.stdin.buffer.read())
+    else:
+        said = check(options.command, options.names)
+    sys.stdout.buffer.write(said)
+    sys.stdout.buffer.flush()
+    return 0

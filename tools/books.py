@@ -1,0 +1,59 @@
+"""Books as bytes: a book's fields before they are frames, its frames, and the frames of bytes."""
+import struct
+
+from .reference import CALL, END, HEAD, JOIN, NODE, SEGMENT, TRAIN, UNBREAKABLE, two_bytes
+
+
+class Spec:
+    """A book before it is bytes; fields may be as wrong as wished."""
+
+    def __init__(self, rs=100, rt=10, T=1):
+        self.rs, self.rt, self.T = rs, rt, T
+        self.nodes = []
+        self.segments = []      # (a, b, ttd)
+        self.joins = []         # (node, s1, s2)
+        self.trains = []        # (length, speed, departure, place)
+        self.calls = []         # (train, segment, first, last)
+        self.unbreakable = []
+
+
+def train_payload(length, speed, departure, place, n=None):
+    n = len(place) if n is None else n
+    return struct.pack("<HHBB", length, speed, departure, n) + bytes(place)
+
+
+def frames_of(spec):
+    """The book's frames as [kind, payload] pairs, in order."""
+    frames = [[HEAD, struct.pack("<HHB", spec.rs, spec.rt, spec.T)]]
+    frames += [[NODE, bytes([kind])] for kind in spec.nodes]
+    frames += [[SEGMENT, bytes(s)] for s in spec.segments]
+    frames += [[JOIN, bytes(j)] for j in spec.joins]
+    frames += [[TRAIN, train_payload(*t)] for t in spec.trains]
+    frames += [[CALL, bytes(c)] for c in spec.calls]
+    frames += [[UNBREAKABLE, bytes([t])] for t in spec.unbreakable]
+    return frames + [[END, b""]]
+
+
+def encode(frames):
+    return b"".join(struct.pack("<HH", len(payload), kind) + payload
+                    for kind, payload in frames)
+
+
+def spec_bytes(spec):
+    return encode(frames_of(spec))
+
+
+def split(data):
+    """The whole frames that bytes begin with, as [kind, payload] pairs that may be written to, and the bytes behind them."""
+    frames, at = [], 0
+    while len(data) - at >= 4 and at + 4 + two_bytes(data, at) <= len(data):
+        end = at + 4 + two_bytes(data, at)
+        frames.append([two_bytes(data, at + 2), bytearray(data[at + 4:end])])
+        at = end
+    return frames, data[at:]
+
+
+def put(frames, kind, which, payload):
+    """Replace one frame's payload, of those of that kind."""
+    at = [x for x, frame in enumerate(frames) if frame[0] == kind][which]
+    frames[at][1] = bytes(payload)

@@ -1,0 +1,68 @@
+"""The commands' own code on stored files: each check with an input that it accepts and inputs that it refuses; results that are new, that
+replace a file, that must not be written, and that are not named; inputs of 65,536 and of 65,537 bytes in either place; missing files."""
+from ..inputs import step_frame
+from ..known import (ASSIGNMENT_L, ASSIGNMENT_PADDED, BOOK_L, PLAN_L, PLAN_PADDED, REFUTATION_M, book_m, padded, standing)
+from ..reference import LENT_BYTES
+from .records import Record
+
+NAME, SEED = "programs.cases", 0
+# a name of a file that is not there; a result's name that no case may write
+MISSING, KEPT = "missing", "kept"
+
+
+def files():
+    """The stored files, by name."""
+    large_book, large_plan, _ = standing(64)
+    return {
+        KEPT: b"kept", "empty": b"", "zeros": bytes(LENT_BYTES), "long": bytes(LENT_BYTES + 1),
+        "old": b"longer than any plan of these books",
+        "book": BOOK_L, "no_plan": book_m(0, 1), "cut_book": BOOK_L[:-1], "more_book": BOOK_L + b"\0",
+        "full_book": padded(0), "full_no_plan": padded(1), "long_book": padded(0) + b"\0",
+        "assignment": ASSIGNMENT_L, "full_book_assignment": ASSIGNMENT_PADDED,
+        "zero_assignment": bytes(6), "two_assignment": b"\2" + bytes(5),
+        "plan": PLAN_L, "full_book_plan": PLAN_PADDED, "odd_plan": b"\2" + bytes(3), "far_plan": bytes([0, 0, 1, 0]),
+        "refutation": REFUTATION_M, "cut_refutation": REFUTATION_M[:-1], "wrong_kind": step_frame([], [16, 17, 19], kind=21),
+        "far_literal": step_frame([11], [16]), "far_hint": step_frame([], [100]), "unproved": step_frame([], [19, 16, 17]),
+        "unfinished": step_frame([6], [19, 17]),
+        "large_book": large_book, "large_plan": large_plan,
+    }
+
+
+def two_inputs(question, book, good, refused):
+    """An accepted input, refused ones, refused books, long and missing inputs."""
+    yield question, book, good, KEPT if question == "n" else "first_" + question
+    for second in (*refused, "empty", "zeros", "long", MISSING):
+        yield question, book, second, KEPT
+    for other in ("cut_book", "more_book", "empty", "zeros", "long_book", "long", MISSING):
+        yield question, other, good, KEPT
+    yield question, "long", "long", KEPT
+    yield question, "long", MISSING, KEPT
+    yield question, "cut_book", "long", "none"
+    yield question, MISSING, MISSING, "none"
+    # no result is named
+    yield question, book, good, ""
+    yield question, book, refused[0], ""
+
+
+def listed():
+    """The cases: question, book, second input, result."""
+    for book in ("book", "no_plan", "cut_book", "empty", "full_book", "long_book", "zeros", "long", "large_book", MISSING):
+        yield "f", book, "", ""
+    yield "f", "book", "", KEPT
+    yield from two_inputs("a", "book", "assignment", ("zero_assignment", "two_assignment", "plan"))
+    yield from two_inputs("p", "book", "plan", ("odd_plan", "far_plan", "assignment"))
+    yield from two_inputs("n", "no_plan", "refutation", ("cut_refutation", "wrong_kind", "far_literal", "far_hint", "unproved", "unfinished"))
+    yield "a", "full_book", "full_book_assignment", "new_plan"
+    yield "p", "full_book", "full_book_plan", "new_assignment"
+    yield "n", "full_no_plan", "refutation", KEPT
+    # the result fills the slice, and is the next case's input
+    yield "p", "large_book", "large_plan", "large_assignment"
+    yield "a", "large_book", "large_assignment", "old"
+    # one file in two places
+    yield "a", "book", "assignment", "assignment"
+    yield "p", "book", "assignment", "book"
+
+
+def records(rng, note):
+    for question, *names in listed():
+        yield Record(question, *(name.encode() for name in names))

@@ -1,0 +1,203 @@
+"""The records of stored cases, and the reference's answer to each.
+
+A record is one byte, the question's letter; three four-byte little-endian lengths; and three parts of these lengths, at most 65,536
+bytes each. For a capital letter the parts are a book, a second input, and four-byte little-endian numbers that say how much is lent;
+where one is missing, it is as much as the programs lend.
+
+  B  read the book: its counts                        A  check an assignment: the verdict, and an accepted one's plan
+  R  its run lists                                    P  check a plan: the verdict, and an accepted one's assignment
+  F  its formula's text                               N  check a refutation: the verdict
+  D  that text's length and checksum
+
+For a small letter the parts are the names of stored files: the book's, the second input's and the result's, which may be empty. f, a, p
+and n are print_formula and the three checks; the answer is what the command prints, and then the file that has the result's name by then.
+"""
+import struct
+from collections import namedtuple
+
+from .. import reference
+from ..reference import LENT_BYTES, LENT_CLAUSES, LENT_TRAIL, LENT_VALUES, LENT_WORDS
+
+# what the programs lend, by question
+LENT = {"F": (LENT_WORDS,), "D": (LENT_WORDS,), "A": (LENT_BYTES,), "P": (LENT_BYTES,),
+        "N": (LENT_WORDS, LENT_CLAUSES, LENT_VALUES, LENT_TRAIL)}
+COMMANDS = {"a": "check_assignment", "p": "check_plan", "n": "check_refutation"}
+NO_FILE = b"no file\n"
+ACCEPTED = "accepted"
+
+# an answer: its name, which is accepted, a refusal's number or nothing, and its bytes
+Answer = namedtuple("Answer", "name data")
+
+
+class Record:
+    """A question with its parts. `said` is the line of the answer where it was worked out beforehand, or None."""
+
+    def __init__(self, question, first, second=b"", third=b"", said=None):
+        self.question, self.parts, self.said = question, (first, second, third), said
+        assert max(map(len, self.parts)) <= LENT_BYTES
+
+    def data(self):
+        return struct.pack("<c3I", self.question.encode(), *map(len, self.parts)) + b"".join(self.parts)
+
+    def __str__(self):
+        return f"{self.question} of {', '.join(shown_part(part) for part in self.parts)}"
+
+
+def shown_part(part):
+    """A part for a person: a name, or bytes, cut where they are long."""
+    if part.isascii() and part.decode().isidentifier():
+        return part.decode()
+    return (part.hex() if len(part) <= 40 else f"{part[:40].hex()}.. of {len(part)} bytes") or "nothing"
+
+
+def split(data):
+    """The records of a file."""
+    records, at = [], 0
+    while at < len(data):
+        letter, *lengths = struct.unpack_from("<c3I", data, at)
+        at += 13
+        parts = []
+        for length in lengths:
+            parts.append(data[at:at + length])
+            at += length
+        records.append(Record(letter.decode(), *parts))
+    assert at == len(data)
+    return records
+
+
+# ------------------------------------------------------------- what is lent
+
+
+def numbers(*values):
+    return struct.pack(f"<{len(values)}I", *values)
+
+
+def lending(question, *values):
+    """The third part for so much lent; what is lent by default is left out at the end."""
+    assert all(0 <= n <= most for n, most in zip(values, LENT[question]))
+    given = list(values)
+    while given and given[-1] == LENT[question][len(given) - 1]:
+        given.pop()
+    return numbers(*given)
+
+
+def lent(record):
+    """How much a record lends of each slice."""
+    third = record.parts[2]
+    given = struct.unpack(f"<{len(third) // 4}I", third)
+    most = LENT[record.question]
+    return tuple(min(n, least) for n, least in zip(given, most)) + most[len(given):]
+
+
+# ------------------------------------------------------------------ answers
+
+
+def refusal_line(number, detail):
+    return b"%d %d\n" % (number, detail)
+
+
+def read_answer(record, files):
+    try:
+        book = reference.read_book(record.parts[0])
+    except reference.Refused as refused:
+        return Answer(str(refused.number), refusal_line(refused.number, refused.detail))
+    calls = sum(len(train.calls) for train in book.trains)
+    counts = (len(book.nodes), len(book.segments), len(book.joins), len(book.trains), calls)
+    return Answer(ACCEPTED, b"accepted %d %d %d %d %d\n" % counts)
+
+
+def first_at(places, place, start):
+    """The first number from `start` on at which the place stands, or how many places there are."""
+    return next((at for at in range(start, len(places)) if places[at] == place), len(places))
+
+
+def train_lines(number, train, runs):
+    """How many runs a train has, and each with the first run that follows it and the next that starts where it does."""
+    starts = [reference.start_place(train, run) for run in runs]
+    lines = ["train %d: %d runs" % (number, len(runs))]
+    for at, run in enumerate(runs):
+        path = "".join(f"{x} " for x in run)
+        first = first_at(starts, reference.end_place(train, run), 0)
+        lines.append("%s| %d %d" % (path, first, first_at(starts, starts[at], at + 1)))
+    return lines
+
+
+def runs_answer(record, files):
+    try:
+        book = reference.read_book(record.parts[0])
+    except reference.Refused as refused:
+        return Answer(str(refused.number), refusal_line(refused.number, refused.detail))
+    lines = []
+    for number, train in enumerate(book.trains):
+        lines += train_lines(number, train, book.runs[number])
+    return Answer(ACCEPTED, "".join(line + "\n" for line in lines).encode())
+
+
+def formula_answer(record, files):
+    found = reference.entry_write_formula(record.parts[0], *lent(record))
+    if found[0] == "accepted":
+        return Answer(ACCEPTED, reference.dimacs(reference.read_book(record.parts[0])))
+    return Answer(str(found[1]), refusal_line(*found[1:]))
+
+
+def checksum(text):
+    total = 0
+    for byte in text:
+        total = (total * 257 + byte + 1) % 1000000007
+    return total
+
+
+def digest_answer(record, files):
+    name, text = formula_answer(record, files)
+    return Answer(name, b"%d %d\n" % (len(text), checksum(text)))
+
+
+def verdict_answer(found):
+    """The verdict's line and, where it is accepted and has one, the result on a line."""
+    line = reference.verdict_line(found)
+    result = b"".join(found[1:]) + b"\n" if found[0] == "accepted" and len(found) > 1 else b""
+    return Answer(line.split()[0].decode(), line + result)
+
+
+def assignment_answer(record, files):
+    return verdict_answer(reference.entry_check_assignment(*record.parts[:2], *lent(record)))
+
+
+def plan_answer(record, files):
+    return verdict_answer(reference.entry_check_plan(*record.parts[:2], *lent(record)))
+
+
+def refutation_answer(record, files):
+    return verdict_answer(reference.entry_check_refutation(*record.parts[:2], *lent(record)))
+
+
+def command_says(question, book, second, result, files):
+    """What a command prints; an accepted input's result is stored under its name, where it has one."""
+    if book not in files or question != "f" and second not in files:
+        return b""
+    if question == "f":
+        return reference.print_formula(files[book])
+    found = reference.check_two(COMMANDS[question], files[book], files[second])
+    if found[0] == "accepted" and len(found) > 1 and result:
+        files[result] = found[1]
+    return reference.verdict_line(found)
+
+
+def command_answer(record, files):
+    """The answer of a command on files; a file that a result's name has by then is shown."""
+    names = [part.decode() for part in record.parts]
+    said = command_says(record.question, *names, files)
+    name = "nothing" if not said else ACCEPTED if said.startswith(b"p") else said.split()[0].decode()
+    return Answer(name, said + (files[names[2]] + b"\n" if names[2] in files else NO_FILE))
+
+
+ANSWERS = {"B": read_answer, "R": runs_answer, "F": formula_answer, "D": digest_answer, "A": assignment_answer, "P": plan_answer,
+           "N": refutation_answer, "f": command_answer, "a": command_answer, "p": command_answer, "n": command_answer}
+
+
+def answer(record, files):
+    """The reference's answer to a record; `files` has the stored files by name, and is changed where one is written."""
+    found = ANSWERS[record.question](record, files)
+    line = found.data.split(b"\n")[0].decode("latin1")
+    assert record.said in (None, line), f"{record}: {record.said} was worked out, and the reference says {line}"
+    return found

@@ -1,0 +1,219 @@
+"""Books that are known by name: document 01's, rows, stars and rings, books on each limit, and books as long as a slice; with the
+inputs of some that were worked out by hand."""
+from . import reference as ref
+from .books import Spec, spec_bytes
+from .inputs import plan_bytes, step_frame
+
+# -------------------------------------------------------- document 01's books
+
+BOOK_L = bytes.fromhex(
+    "050001006400 0a0001 0100020000 0100020000 03000300000100"
+    "07000500500024 00000100 0400060000000001 00000800")
+
+FORMULA_L = b"""p cnf 6 10
+-1 0
+-2 0
+3 4 5 0
+-3 -4 0
+-3 -5 0
+-4 -5 0
+-4 0
+-5 0
+-3 6 0
+-4 6 0
+"""
+
+
+# of book L: no borders, run 0 and its claim
+ASSIGNMENT_L, PLAN_L = bytes.fromhex("000001000001"), bytes(4)
+
+
+def book_m(first, last):
+    """Text: "L with a third node of kind 0, the unjoined segment 1 (nodes 1, 2) in
+    TTD 0 and the call on segment 1"."""
+    spec = Spec(100, 10, 1)
+    spec.nodes = [0, 0, 0]
+    spec.segments = [(0, 1, 0), (1, 2, 0)]
+    spec.trains = [(80, 36, 0, [0])]
+    spec.calls = [(0, 1, first, last)]
+    return spec_bytes(spec)
+
+
+# the empty step that document 01 gives for book M with its window open
+REFUTATION_M = step_frame([], [16, 17, 19])
+
+
+def row_spec(count, joined=True, length=100, speed=36):
+    spec = Spec()
+    spec.nodes = [0] * (count + 1)
+    spec.segments = [(s, s + 1, 0) for s in range(count)]
+    if joined:
+        spec.joins = [(s + 1, s, s + 1) for s in range(count - 1)]
+    l = ref.rounded_up(length, 100)
+    add_train(spec, [2 * s for s in range(l)], length=length, speed=speed)
+    return spec
+
+
+# ------------------------------------------------- books that touch a limit
+
+
+def star(count, T=1):
+    """A spec of count segments that all touch node 0, unjoined."""
+    spec = Spec(T=T)
+    spec.nodes = [0] * (count + 1)
+    spec.segments = [(0, s + 1, s % 64) for s in range(count)]
+    return spec
+
+
+def add_train(spec, place, calls=1, length=None, speed=36):
+    spec.trains.append((length or 100 * len(place), speed, 0, place))
+    call = (len(spec.trains) - 1, place[0] // 2, 0, spec.T)
+    spec.calls += [call] * calls
+
+
+def limit_nodes(over):
+    spec = star(3)
+    spec.nodes = [1] * (96 + over)
+    add_train(spec, [0])
+    return spec
+
+
+def limit_segments(over):
+    spec = star(64)
+    spec.segments += [(0, 1, 7)] * over
+    add_train(spec, [0])
+    return spec
+
+
+def limit_joins(over):
+    """128 joins at one node give 256 runs of two segments, and no longer."""
+    spec = star(17)
+    pairs = [(0, x, y) for x in range(17) for y in range(x + 1, 17)]
+    spec.joins = pairs[:128 + over]
+    add_train(spec, [1, 2])
+    return spec
+
+
+def limit_trains(over):
+    spec = star(9 + over)
+    for s in range(8 + over):
+        add_train(spec, [2 * s])
+    return spec
+
+
+def limit_calls(over):
+    spec = star(2)
+    add_train(spec, [0])
+    add_train(spec, [2], calls=4 + over)
+    return spec
+
+
+def limit_runs(over):
+    """A ring of 64 gives 128 + 128 runs; one more join gives two more."""
+    spec = Spec()
+    spec.nodes = [0] * 65
+    spec.segments = [(s, (s + 1) % 64, s) for s in range(64)]
+    spec.joins = [((s + 1) % 64, s, (s + 1) % 64) for s in range(64)]
+    if over:
+        spec.segments[63] = (63, 1, 63)
+        spec.joins[63] = (1, 63, 1)
+        spec.joins.append((1, 63, 0))
+    add_train(spec, [0])
+    return spec
+
+
+def explosion(over):
+    """Parallel tracks, all joined at both nodes: runs without number."""
+    spec = Spec()
+    spec.nodes = [1, 1]
+    tracks = 10 + over
+    spec.segments = [(0, 1, 0)] * tracks
+    spec.joins = [(v, x, y) for v in (0, 1) for x in range(tracks)
+                  for y in range(x + 1, tracks)]
+    add_train(spec, [0, 3, 4, 7], speed=323)
+    return spec
+
+
+LIMITS = (limit_nodes, limit_segments, limit_joins, limit_trains, limit_calls,
+          limit_runs, explosion)
+
+
+# ------------------------------------------------------------------- rings
+
+# the words of a ring's formula, then the ring: nodes, intervals, spare nodes, TTDs, and l and k of each train
+RINGS = (
+    (16384, (7, 4, 14, 1, ((1, 1), (1, 2)))),
+    (16384, (6, 4, 6, 3, ((2, 1), (1, 1), (1, 2)))),
+    (16385, (7, 2, 4, 3, ((1, 3), (1, 1), (1, 2)))),
+    (16385, (6, 3, 37, 1, ((1, 2), (1, 3)))),
+    (33226, (6, 4, 0, 1, ((2, 3), (1, 2), (1, 2)))),
+)
+# smaller ones
+SMALL_RINGS = (
+    (3, 2, 0, 1, ((1, 1), (1, 1), (1, 1))),
+    (3, 3, 0, 2, ((2, 1), (1, 2))),
+    (4, 2, 1, 1, ((1, 2), (2, 1), (1, 1))),
+    (4, 4, 2, 3, ((2, 2), (1, 1))),
+    (5, 3, 0, 2, ((3, 2), (2, 1))),
+)
+
+
+def ring(nodes, intervals, spare, ttds, trains):
+    """Nodes of kinds 0, 1 and 2 in turn, and spare ones of kind 0, two words each.
+
+    Each train stands ahead of the one before it, and all but the first depart late.
+    """
+    spec = Spec(100, 10, intervals)
+    spec.nodes = [v % 3 for v in range(nodes)] + [0] * spare
+    spec.segments = [(s, (s + 1) % nodes, s * ttds // nodes) for s in range(nodes)]
+    spec.joins = [((s + 1) % nodes, s, (s + 1) % nodes) for s in range(nodes)]
+    at = 0
+    for train, (l, k) in enumerate(trains):
+        place = [2 * ((at + s) % nodes) for s in range(l)]
+        spec.trains.append((100 * l, 36 * k, min(train, 1), place))
+        spec.calls.append((train, (train + nodes // 2) % nodes, 0, intervals))
+        at += l
+    return spec_bytes(spec)
+
+
+def great_ring(intervals):
+    """A ring of 64 segments, each a TTD of its own, and 8 trains that stand where their call is; 256 runs a train."""
+    spec = Spec(100, 10, intervals)
+    spec.nodes = [1] * 64
+    spec.segments = [(s, (s + 1) % 64, s) for s in range(64)]
+    spec.joins = [((s + 1) % 64, s, (s + 1) % 64) for s in range(64)]
+    for train in range(8):
+        spec.trains.append((100, 36, train % 3, [2 * train]))
+        spec.calls.append((train, train, 0, intervals))
+    return spec_bytes(spec)
+
+
+# ------------------------------------------------- inputs as long as a slice
+
+
+def padded(call):
+    """Document 01's book M, its call on this segment, with as many Unbreakable frames as make 65,536 bytes; they change nothing else."""
+    spec = Spec(100, 10, 1)
+    spec.nodes, spec.segments = [0, 0, 0], [(0, 1, 0), (1, 2, 0)]
+    spec.trains, spec.calls = [(80, 36, 0, [0])], [(0, call, 0, 1)]
+    spec.unbreakable = [0] * ((ref.LENT_BYTES - len(spec_bytes(spec))) // 5)
+    data = spec_bytes(spec)
+    assert len(data) == ref.LENT_BYTES
+    return data
+
+
+# Of that book with the call on segment 0: no borders, run 0, and the claims of both segments, which are one section.
+ASSIGNMENT_PADDED, PLAN_PADDED = bytes.fromhex("00000001000000000101"), bytes(5)
+
+
+def standing(nodes):
+    """Eight trains that stand still for 31 intervals on a row of 63 segments, 200 runs each: nodes + 65,472 variables, and the plan."""
+    spec = Spec(100, 10, 31)
+    spec.nodes = [1] * nodes
+    spec.segments = [(s, s + 1, s) for s in range(63)]
+    spec.joins = [(s + 1, s, s + 1) for s in range(37)]
+    for train in range(8):
+        spec.trains.append((100, 36, 0, [2 * train]))
+        spec.calls.append((train, train, 0, 31))
+    moves = [[2 * train] * 31 for train in range(8)]
+    return spec_bytes(spec), plan_bytes([0] * nodes, moves), moves

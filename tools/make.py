@@ -1,0 +1,39 @@
+"""Writes a book from readable text: TEXT has the lines that `show` prints of a book, BOOK is the file to write. What stands behind # is
+passed over, and so are empty lines. A line is a frame, in the book's order:
+
+  head: 100 metres a segment, 10 seconds an interval, 6 intervals
+  node 0: border kind 1                             0 never a border, 1 one may be set, 2 always one
+  segment 0: nodes 0 1, TTD 0                       from its node a to its node b
+  join: node 1, segments 0 1
+  train 0: 100 metres, 36 km/h, departs at 0, stands on 0>
+  call: train 0, segment 5, at some time from 0 to 6
+  unbreakable: TTD 0
+  end
+
+5> is segment 5 from a to b, 5< from b to a; a train's place is written rear first. Frames of other kinds or lengths are written as
+`frame of kind 9: 01 02`, and bytes that are no whole frame as a last line `rest: 05 00`. Prints how long the book is and what the
+reader says of it; a book that is refused is written all the same.
+
+Exit status: 0 written, 1 a line is wrong, and nothing was written, 2 wrong usage, or a file can't be read or written.
+"""
+import sys
+
+from .reference import entry_read_book
+from .repository import read_text, write_bytes
+from .text import BadText, book_bytes, verdict_words
+
+
+def arguments(parser):
+    parser.add_argument("text", metavar="TEXT", help="the file with the lines")
+    parser.add_argument("book", metavar="BOOK", help="the file to write")
+
+
+def run(options):
+    try:
+        data = book_bytes(read_text(options.text).split("\n"))
+    except BadText as wrong:
+        print(f"tools make: {options.text}, {wrong}", file=sys.stderr)
+        return 1
+    write_bytes(options.book, data)
+    print(f"{options.book}: {len(data):,} bytes, {verdict_words(entry_read_book(data))}")
+    return 0

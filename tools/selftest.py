@@ -1,0 +1,216 @@
+"""Tests the reference by itself, on inputs made from SEED: document 01's examples ("On each edge", starred or not); random and damaged
+books, with every refusal of the book among them; assignments, plans and refutations, with every rule broken; and brute force: on tiny
+books every plan is enumerated, and a plan that keeps the rules exists exactly where the formula is satisfiable. Prints counts.
+
+Exit status: 0 all held, 1 something did not (an assertion says what), 2 wrong usage.
+"""
+import random
+import sys
+from collections import Counter
+
+from . import reference as ref
+from .all_plans import keeping, plans_to_try
+from .books import Spec, spec_bytes
+from .counts import answer_name, listed
+from .inputs import TooLong, encode_steps, plan_bytes, step_frame
+from .known import BOOK_L, FORMULA_L, add_train, book_m, row_spec
+from .random_books import damaged_book, random_book
+from .random_inputs import random_assignments, random_plans, random_refutations, solved
+from .small_solver import Solver
+
+sys.setrecursionlimit(20000)
+
+# ------------------------------------------------------- document 01's examples
+
+
+def check_figures():
+    """Text: "36 km/h gives 1 ..." and "100 m gives 1 ..."."""
+    for speed, k in ((36, 1), (35, None), (71, 1), (72, 2), (323, 8),
+                     (324, None)):
+        data = spec_bytes(row_spec(2, speed=speed))
+        if k is None:
+            assert ref.entry_read_book(data) == ("refused", 7, 0)
+        else:
+            assert ref.read_book(data).trains[0].k == k
+    for length, l in ((100, 1), (101, 2)):
+        data = spec_bytes(row_spec(9, length=length))
+        assert ref.read_book(data).trains[0].l == l
+    data = spec_bytes(row_spec(9, length=801))
+    assert ref.entry_read_book(data) == ("refused", 7, 0)
+
+
+def check_shapes():
+    """The runs of two segments, and the sections of a row and a ring."""
+    joined = ref.read_book(spec_bytes(row_spec(2)))
+    assert joined.runs[0] == [[0], [1], [2], [3], [0, 2], [3, 1]]
+    unjoined = ref.read_book(spec_bytes(row_spec(2, joined=False)))
+    assert unjoined.runs[0] == [[0], [1], [2], [3]]
+    three = ref.read_book(spec_bytes(row_spec(3)))
+    assert ref.sections(three, [0, 1, 0, 0]) == [[0], [1, 2], [1, 2]]
+    spec = Spec()
+    spec.nodes = [1, 1, 1]
+    spec.segments = [(0, 1, 0), (1, 2, 0), (2, 0, 0)]
+    add_train(spec, [0])
+    circle = ref.read_book(spec_bytes(spec))
+    for borders in ([1, 0, 0], [0, 1, 0], [0, 0, 1]):
+        assert ref.sections(circle, borders) == [[0, 1, 2]] * 3
+
+
+def check_books_l_and_m():
+    assert ref.dimacs(ref.read_book(BOOK_L)) == FORMULA_L
+    assert ref.print_formula(BOOK_L) == FORMULA_L
+    lent = (1000, 1000, 1000, 1000)
+    wide, shut = book_m(0, 1), book_m(0, 0)
+    assert ref.formula(ref.read_book(wide))[1][18] == [6, 7]
+    assert ref.formula(ref.read_book(shut))[1][18] == []
+    good, bad = step_frame([], [16, 17, 19]), step_frame([], [19, 16, 17])
+    check = ref.entry_check_refutation
+    assert check(wide, good, *lent) == ("accepted",)
+    assert check(wide, bad, *lent) == ("refused", 20, 1)
+    assert check(shut, step_frame([], [19]), *lent) == ("accepted",)
+    assert check(shut, good, *lent) == ("accepted",)
+    assert check(shut, bad, *lent) == ("refused", 20, 1)
+
+
+# --------------------------------------------------------------- self-test
+
+
+def check_meaning(data, tally):
+    """A plan keeps the rules exactly when the formula is satisfiable."""
+    book = ref.read_book(data)
+    variables, clauses = ref.formula(book)
+    try:
+        solver = Solver(variables, clauses)
+        satisfiable = solver.solve()
+    except TooLong:
+        tally["given up"] += 1
+        return
+    if satisfiable:
+        tally["satisfiable"] += 1
+        check_satisfied(data, book, solver)
+    else:
+        tally["unsatisfiable"] += 1
+        check_refuted(data, book, clauses, solver.steps)
+    plans = plans_to_try(book)
+    if plans is None:
+        tally["too many plans to try"] += 1
+        return
+    plans = keeping(book, plans[1])
+    tally["all plans tried"] += 1
+    tally["plans that keep the rules"] += len(plans)
+    assert satisfiable == bool(plans)
+    for borders, moves in some_of(plans, 20):
+        check_kept(data, plan_bytes(borders, moves))
+
+
+def some_of(items, most):
+    return random.Random(len(items)).sample(items, min(most, len(items)))
+
+
+def check_satisfied(data, book, solver):
+    assignment = bytes(1 if v > 0 else 0 for v in solver.value[1:])
+    answer = ref.entry_check_assignment(data, assignment, ref.plan_length(book))
+    assert answer[0] == "accepted"
+    assert ref.broken_rule(book, *ref.read_plan(book, answer[1])) == 0
+    check_kept(data, answer[1])
+
+
+def check_written(data, book, plan, answer):
+    """The least claims satisfy the formula exactly when the rules are kept."""
+    if answer[1] == 15:
+        return
+    assignment = ref.write_assignment(book, *ref.read_plan(book, plan))
+    again = ref.entry_check_assignment(data, assignment, len(plan))
+    assert (answer[0] == "accepted") == (again[0] == "accepted")
+
+
+def check_kept(data, plan):
+    """A plan that keeps the rules comes back from its assignment."""
+    answer = ref.entry_check_plan(data, plan, 10 ** 6)
+    assert answer[0] == "accepted"
+    again = ref.entry_check_assignment(data, answer[1], len(plan))
+    assert again == ("accepted", plan)
+
+
+def check_refuted(data, book, clauses, steps):
+    """Accepted with just enough lent, refused by 12 with one less."""
+    words = ref.word_count(clauses) + sum(len(s[0]) + 1 for s in steps)
+    count, variables = len(clauses) + len(steps), ref.Variables(book).count
+    exact = [words, count, variables, variables]
+    proof = encode_steps(steps)
+    assert ref.entry_check_refutation(data, proof, *exact) == ("accepted",)
+    for x in range(4):
+        less = exact[:x] + [exact[x] - 1] + exact[x + 1:]
+        answer = ref.entry_check_refutation(data, proof, *less)
+        assert answer == ("refused", 12, 0)
+
+
+def check_books(rng, count):
+    """Random and damaged books, counted by refusal."""
+    tally = {"tiny": Counter(), "small": Counter(), "damaged": Counter()}
+    for _ in range(count):
+        for name in ("tiny", "small"):
+            answer = ref.entry_read_book(random_book(rng, name))
+            tally[name][answer_name(answer)] += 1
+        for _ in range(4):
+            answer = ref.entry_read_book(damaged_book(rng))
+            tally["damaged"][answer_name(answer)] += 1
+    for name, counter in tally.items():
+        print(f"books, {name}: {listed(counter)}")
+    assert {str(x) for x in range(1, 12)} <= set(tally["damaged"])
+
+
+def check_second_inputs(rng, count):
+    """Assignments, plans and refutations of random books, counted."""
+    tally = {"assignments": Counter(), "plans": Counter(),
+             "refutations": Counter(), "rules broken": Counter()}
+    done = 0
+    while done < count:
+        data = random_book(rng, "tiny" if done % 4 else "small")
+        try:
+            book = ref.read_book(data)
+        except ref.Refused:
+            continue
+        done += 1
+        good = solved(book)
+        for second in random_assignments(rng, book, 12, good):
+            answer = ref.entry_check_assignment(data, second, 700)
+            tally["assignments"][answer_name(answer)] += 1
+        for second in random_plans(rng, book, 20, good):
+            answer = ref.entry_check_plan(data, second, 100000)
+            tally["plans"][answer_name(answer)] += 1
+            check_written(data, book, second, answer)
+            if answer[1] == 16:
+                tally["rules broken"][str(answer[2])] += 1
+        lent = [rng.choice((10 ** 6, 10 ** 6, 10 ** 6, 400)) for _ in range(4)]
+        for second in random_refutations(rng, book, 20):
+            answer = ref.entry_check_refutation(data, second, *lent)
+            tally["refutations"][answer_name(answer)] += 1
+            assert not (good and answer[0] == "accepted")
+    for name, counter in tally.items():
+        print(f"{name}: {listed(counter)}")
+    assert {str(x) for x in range(1, 7)} <= set(tally["rules broken"])
+    assert {str(x) for x in range(17, 22)} <= set(tally["refutations"])
+
+
+def arguments(parser):
+    parser.add_argument("seed", metavar="SEED", nargs="?", type=int, default=1, help="a number, by default 1")
+
+
+def run(options):
+    rng = random.Random(options.seed)
+    check_figures()
+    check_shapes()
+    check_books_l_and_m()
+    print("the document's examples hold")
+    check_books(rng, 400)
+    check_second_inputs(rng, 150)
+    meaning, tried = Counter(), 0
+    while tried < 500:
+        data = random_book(rng, "tiny" if tried % 10 else "small")
+        if ref.entry_read_book(data)[0] == "accepted":
+            check_meaning(data, meaning)
+            tried += 1
+    print(f"meaning: {listed(meaning)}")
+    print("all held")
+    return 0

@@ -1,0 +1,179 @@
+"""Records, their answers, and the command that makes, checks and runs stored cases."""
+import os
+import types
+import unittest
+from unittest import mock
+
+from .. import known
+from ..cases import FILES, command, programs
+from ..cases.records import Record, answer, checksum, lending, lent, numbers, split
+from ..known import ASSIGNMENT_L, BOOK_L, FORMULA_L, PLAN_L, REFUTATION_M
+from ..repository import ROOT, read_bytes, write_bytes
+from .stand_in import CASES, InFolder, printed, script
+
+
+class Records(unittest.TestCase):
+    def test_bytes_and_back(self):
+        records = [Record("B", b"abc"), Record("N", b"", b"\0" * 300, numbers(1, 2)), Record("a", b"x", b"y", b"")]
+        again = split(b"".join(record.data() for record in records))
+        self.assertEqual([(r.question, r.parts) for r in again], [(r.question, r.parts) for r in records])
+
+    def test_form(self):
+        self.assertEqual(Record("B", b"ab", b"", b"\1").data(), b"B\2\0\0\0\0\0\0\0\1\0\0\0ab\1")
+
+    def test_a_cut_file_is_told(self):
+        with self.assertRaises(AssertionError):
+            split(Record("B", b"abc").data()[:-1])
+
+    def test_lent(self):
+        self.assertEqual(lent(Record("N", b"")), (16384, 8192, 65536, 8192))
+        self.assertEqual(lent(Record("N", b"", b"", numbers(5, 0))), (5, 0, 65536, 8192))
+        self.assertEqual(lent(Record("A", b"", b"", numbers(70000))), (65536,))
+        self.assertEqual(lending("N", 7, 8192, 65536, 8192), numbers(7))
+        self.assertEqual(lending("F", 16384), b"")
+
+    def test_checksum(self):
+        self.assertEqual(checksum(b"ab"), 98 * 257 + 99)
+        self.assertEqual(checksum(b"\0" * 5), sum(257 ** n for n in range(5)) % 1000000007)
+
+
+class Answers(unittest.TestCase):
+    """Worked out by hand from document 01's books."""
+
+    def says(self, record, name, data, files=None):
+        self.assertEqual(answer(record, {} if files is None else files), (name, data))
+
+    def test_book(self):
+        self.says(Record("B", BOOK_L), "accepted", b"accepted 2 1 0 1 1\n")
+        self.says(Record("B", b""), "1", b"1 0\n")
+        self.says(Record("R", BOOK_L), "accepted", b"train 0: 2 runs\n0 | 0 2\n1 | 1 2\n")
+        self.says(Record("R", BOOK_L + b"\0"), "3", b"3 0\n")
+
+    def test_formula(self):
+        self.says(Record("F", BOOK_L), "accepted", FORMULA_L)
+        self.says(Record("F", BOOK_L, b"", numbers(27)), "accepted", FORMULA_L)
+        self.says(Record("F", BOOK_L, b"", numbers(26)), "12", b"12 0\n")
+        self.says(Record("D", BOOK_L), "accepted", b"%d %d\n" % (len(FORMULA_L), checksum(FORMULA_L)))
+
+    def test_checks(self):
+        self.says(Record("A", BOOK_L, ASSIGNMENT_L), "accepted", b"accepted\n" + PLAN_L + b"\n")
+        self.says(Record("A", BOOK_L, ASSIGNMENT_L, numbers(4)), "accepted", b"accepted\n" + PLAN_L + b"\n")
+        self.says(Record("A", BOOK_L, ASSIGNMENT_L, numbers(3)), "12", b"12 0\n")
+        self.says(Record("A", BOOK_L, bytes(6)), "14", b"14 3\n")
+        self.says(Record("P", BOOK_L, PLAN_L), "accepted", b"accepted\n" + ASSIGNMENT_L + b"\n")
+        self.says(Record("P", BOOK_L, PLAN_L, numbers(5)), "12", b"12 0\n")
+        self.says(Record("P", BOOK_L, bytes([0, 0, 1, 0])), "16", b"16 2\n")
+        self.says(Record("N", known.book_m(0, 1), REFUTATION_M), "accepted", b"accepted\n")
+        self.says(Record("N", known.book_m(0, 1), REFUTATION_M, numbers(74, 26, 10, 9)), "12", b"12 0\n")
+
+    def test_files(self):
+        files = programs.files()
+        self.says(Record("f", b"book"), "accepted", FORMULA_L + b"no file\n", files)
+        self.says(Record("f", b"missing"), "nothing", b"no file\n", files)
+        self.says(Record("a", b"book", b"assignment", b"new"), "accepted", b"accepted\n" + PLAN_L + b"\n", files)
+        self.assertEqual(files["new"], PLAN_L)
+        self.says(Record("p", b"book", b"new", b""), "accepted", b"accepted\nno file\n", files)
+        self.assertNotIn("", files)
+        self.says(Record("a", b"book", b"zero_assignment", b"kept"), "14", b"14 3\nkept\n", files)
+        self.says(Record("p", b"book", b"long", b"kept"), "12", b"12 0\nkept\n", files)
+        self.says(Record("n", b"no_plan", b"refutation", b"kept"), "accepted", b"accepted\nkept\n", files)
+        self.says(Record("a", b"missing", b"long", b"none"), "nothing", b"no file\n", files)
+
+    def test_an_answer_that_was_worked_out_is_held_to(self):
+        with self.assertRaisesRegex(AssertionError, "13 0 was worked out"):
+            answer(Record("A", BOOK_L, bytes(6), b"", "13 0"), {})
+
+
+def tiny(name, *records, files=None):
+    """A module of cases with these records."""
+    made = types.SimpleNamespace(NAME=name, SEED=1, records=lambda rng, note: list(records), __doc__="tiny")
+    if files is not None:
+        made.files = lambda: dict(files)
+    return made
+
+
+class Command(InFolder):
+    def setUp(self):
+        super().setUp()
+        self.modules = [
+            tiny("one.cases", Record("B", BOOK_L), Record("B", b""), Record("R", BOOK_L)),
+            tiny("two.cases", Record("a", b"book", b"assignment", b"plan"), Record("f", b"book"),
+                 files={"book": BOOK_L, "assignment": ASSIGNMENT_L}),
+        ]
+        for name, value in (("CRATE", self.folder), ("FILES", tuple(self.modules))):
+            patch = mock.patch.object(command, name, value)
+            patch.start()
+            self.addCleanup(patch.stop)
+
+    def run_command(self, **how):
+        usual = {"check": False, "run_program": False, "file": [m.NAME for m in self.modules], "bin": self.path("bin")}
+        options = types.SimpleNamespace(**{**usual, **how})
+        with printed() as out:
+            status = command.run(options)
+        return status, out.getvalue()
+
+    def test_writes_and_checks(self):
+        self.assertEqual(self.run_command()[0], 0)
+        self.assertEqual(sorted(os.listdir(self.path("data"))), ["assignment", "book", "one.cases", "two.cases"])
+        self.assertEqual(read_bytes(self.path("args")), b"one.cases\ntwo.cases\n")
+        runs = b"train 0: 2 runs\n0 | 0 2\n1 | 1 2\n"
+        self.assertEqual(read_bytes(self.path("stdout")), b"one.cases\naccepted 2 1 0 1 1\n1 0\n" + runs
+                         + b"two.cases\naccepted\n" + PLAN_L + b"\n" + FORMULA_L + b"no file\n")
+        self.assertEqual(self.run_command(check=True)[0], 0)
+        write_bytes(self.path("data", "book"), b"other")
+        status, said = self.run_command(check=True)
+        self.assertEqual((status, "data/book" in said, "stdout" in said), (1, True, False))
+        self.assertEqual(read_bytes(self.path("data", "book")), b"other")
+
+    def test_what_no_module_has_is_removed(self):
+        self.run_command()
+        write_bytes(self.path("data", "stray"), b"")
+        self.assertIn("data/stray", self.run_command(check=True)[1])
+        self.run_command()
+        self.assertNotIn("stray", os.listdir(self.path("data")))
+
+    def test_one_file_alone(self):
+        self.run_command()
+        before = read_bytes(self.path("stdout"))
+        self.modules[0].records = lambda rng, note: [Record("B", b"")]
+        status, _ = self.run_command(file=["two.cases"])
+        self.assertEqual((status, read_bytes(self.path("stdout"))), (0, before))
+        self.run_command(file=["one.cases"])
+        self.assertEqual(read_bytes(self.path("stdout")), b"one.cases\n1 0\n" + before[before.index(b"two.cases"):])
+
+    def test_too_few_of_an_answer(self):
+        self.modules[0].OFTEN = {"accepted": 3}
+        with self.assertRaisesRegex(AssertionError, "too few of accepted"):
+            self.run_command()
+
+    def test_run(self):
+        self.run_command()
+        self.assertEqual(self.run_command(run_program=True)[0], 2)
+        script(self.path("bin", "cases"), CASES.format(root=ROOT, fault="pass"))
+        status, said = self.run_command(run_program=True)
+        self.assertEqual((status, said.count("answers as stored")), (0, 2))
+
+    def test_run_names_the_first_difference(self):
+        self.run_command()
+        script(self.path("bin", "cases"), CASES.format(root=ROOT, fault="data = b'2 0\\n' if number >= 2 else data"))
+        status, said = self.run_command(run_program=True)
+        self.assertEqual(status, 1)
+        self.assertIn("one.cases: record 2, B of nothing", said)
+        self.assertIn("expected b'1 0\\n'", said)
+        self.assertIn("got      b'2 0\\n2 0\\n'", said)
+        self.assertIn("two.cases: record 2, f of book", said)
+
+    def test_run_tells_too_much_and_too_little(self):
+        self.run_command()
+        for fault, what in (("data = data if number < 3 else data + b'x'", "behind the last record"),
+                            ("data = data if number < 3 else b''", "record 3")):
+            script(self.path("bin", "cases"), CASES.format(root=ROOT, fault=fault))
+            status, said = self.run_command(run_program=True, file=["one.cases"])
+            self.assertEqual((status, what in said), (1, True), said)
+
+
+class Modules(unittest.TestCase):
+    def test_every_file_has_a_name_of_its_own(self):
+        names = [module.NAME for module in FILES]
+        self.assertEqual(len(set(names)), len(names))
+        self.assertTrue(all(name.endswith(".cases") for name in names))

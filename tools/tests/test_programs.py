@@ -1,0 +1,195 @@
+"""The solver script, and what tries the built program: with a program that answers as the reference does, and with faulty ones."""
+import itertools
+import os
+import random
+import types
+import unittest
+from unittest import mock
+
+from .. import ask, example, fresh, known, reference, selftest, solve, solver, try_programs
+from ..inputs import read_steps
+from ..repository import EXAMPLES, ROOT, read_bytes, write_bytes, write_text
+from .stand_in import ALWAYS_ACCEPTED, CABINET, InFolder, printed, script
+
+
+def dimacs(variables, clauses):
+    return f"p cnf {variables} {len(clauses)}\n" + "".join(" ".join(map(str, (*clause, 0))) + "\n" for clause in clauses)
+
+
+def satisfied(assignment, clauses):
+    return all(any(assignment[abs(x) - 1] == (x > 0) for x in clause) for clause in clauses)
+
+
+def refutes(variables, clauses, data):
+    """Whether the steps follow the step rule, and the last alone is empty."""
+    known_clauses, steps = list(clauses), read_steps(data)
+    for literals, hints in steps:
+        step = reference.Step(literals, hints)
+        if any(not 1 <= h <= len(known_clauses) for h in hints) or not reference.proves(known_clauses, step):
+            return False
+        reference.check_literals(variables, step, 1)
+        known_clauses.append(literals)
+    return [bool(literals) for literals, _ in steps] == [True] * (len(steps) - 1) + [False]
+
+
+class SolverScript(InFolder):
+    def answer(self, text):
+        write_text(self.path("formula"), text)
+        with printed() as out:
+            status = solver.run(types.SimpleNamespace(formula=self.path("formula"), out=self.path("out"), solver=None, drat=None))
+        return status, out.getvalue().strip()
+
+    def test_brute_force(self):
+        rng, decided = random.Random(3), {True: 0, False: 0}
+        for _ in range(120):
+            variables = rng.randint(1, 6)
+            clauses = [[rng.choice((1, -1)) * rng.randint(1, variables) for _ in range(rng.choice((1, 2, 2, 3)))]
+                       for _ in range(rng.randint(1, 3 * variables))]
+            some = any(satisfied(choice, clauses) for choice in itertools.product((0, 1), repeat=variables))
+            decided[some] += 1
+            self.assertEqual(self.answer(dimacs(variables, clauses)), (0, "satisfiable" if some else "unsatisfiable"))
+            shown = read_bytes(self.path("out"))
+            self.assertTrue(satisfied(shown, clauses) if some else refutes(variables, [sorted(set(c)) for c in clauses], shown))
+        self.assertGreater(min(decided.values()), 20)
+
+    def test_wrong_text(self):
+        for text in ("", "p cnf 1\n", "p cnf 1 1\n2 0\n", "p cnf 1 1\n1\n", "p cnf 1 2\n1 0\n", "p cnf 1 1\n+1 0\n"):
+            self.assertEqual(self.answer(text)[0], 2, text)
+
+    def test_it_imports_nothing_of_the_package(self):
+        with open(solve.__file__, encoding="utf-8") as file:
+            text = file.read()
+        self.assertNotIn("from .", text)
+        self.assertNotIn("tools.", text)
+
+    def test_a_solver_that_is_not_there(self):
+        write_text(self.path("formula"), dimacs(1, [[1]]))
+        with mock.patch.dict(os.environ, PATH=self.folder), printed() as out:
+            options = types.SimpleNamespace(formula=self.path("formula"), out=self.path("out"), solver="minisat", drat=None)
+            self.assertEqual(solver.run(options), 2)
+        self.assertIn("minisat", out.getvalue())
+
+    def test_a_solver_s_model(self):
+        """minisat played by a script that writes a model."""
+        script(self.path("bin", "minisat"), "import sys\nopen(sys.argv[-1], 'w').write('SAT\\n-1 2 0\\n')\nsys.exit(10)\n")
+        self.with_programs()
+        write_text(self.path("formula"), dimacs(3, [[2]]))
+        options = types.SimpleNamespace(formula=self.path("formula"), out=self.path("out"), solver="minisat", drat=None)
+        with printed() as out:
+            self.assertEqual(solver.run(options), 0)
+        self.assertEqual((out.getvalue(), read_bytes(self.path("out"))), ("satisfiable\n", b"\0\1\0"))
+
+    def test_frat_lines(self):
+        self.assertEqual(solver.drat_line("a 7 -1 2 0 l 3 4 0\n"), "-1 2 0\n")
+        self.assertEqual(solver.drat_line("d 7 1 0\n"), "d 1 0\n")
+        self.assertEqual(solver.drat_line("o 7 1 0\n"), "")
+
+
+class Reference(InFolder):
+    def test_ask(self):
+        for name, data in (("book", known.BOOK_L), ("assignment", known.ASSIGNMENT_L)):
+            write_bytes(self.path(name), data)
+        names = [self.path(name) for name in ("book", "assignment", "plan")]
+        self.assertEqual(ask.check("check_assignment", names), b"accepted\n")
+        self.assertEqual(read_bytes(self.path("plan")), known.PLAN_L)
+
+    def test_documents_examples(self):
+        selftest.check_figures()
+        selftest.check_shapes()
+        selftest.check_books_l_and_m()
+
+
+class Example(InFolder):
+    """The main job, with a prover and a program that are played."""
+
+    def setUp(self):
+        super().setUp()
+        script(self.path("programs", "cabinet"), CABINET)
+        patch = mock.patch.multiple(example, PROGRAMS=self.path("programs"), ROOT=self.folder)
+        patch.start()
+        self.addCleanup(patch.stop)
+
+    def job(self, *books, built=True):
+        options = types.SimpleNamespace(books=[os.path.join(EXAMPLES, book) for book in books], solver=None, built=built)
+        with printed() as out:
+            status = example.run(options)
+        return status, out.getvalue()
+
+    def test_yes_and_no(self):
+        status, said = self.job("following.book", "uncut.book")
+        self.assertEqual(status, 0)
+        self.assertIn("border at node 1", said)
+        self.assertRegex(said, r"train 0, interval 0: run \d+, segments 1>")
+        self.assertRegex(said, r"following.book: yes, .*\n.*uncut.book: no, ")
+        self.assertIn("not the railway", said)
+
+    def test_a_plan_needs_no_warning(self):
+        self.assertNotIn("railway", self.job("following.book")[1])
+
+    def test_refused_book(self):
+        write_bytes(self.path("cut"), known.BOOK_L[:-1])
+        status, said = self.job(self.path("cut"))
+        self.assertEqual(status, 1)
+        self.assertIn("refuses the book: 1 0", said)
+
+    def test_refused_answer(self):
+        """A solver that says what is not so."""
+        script(self.path("bin", "minisat"), "import sys\nopen(sys.argv[-1], 'w').write('SAT\\n1 0\\n')\nsys.exit(10)\n")
+        self.with_programs()
+        options = types.SimpleNamespace(books=[os.path.join(EXAMPLES, "uncut.book")], solver="minisat", built=True)
+        with printed() as out:
+            self.assertEqual(example.run(options), 1)
+        self.assertIn("check_assignment refuses it: 14", out.getvalue())
+        self.assertIn("uncut.book: nothing", out.getvalue())
+
+    def test_building(self):
+        write_text(self.path("crates.txt"), "low:\nother:\ncabinet: low io\n")
+        script(self.path("bin", "rt"), "import sys\nprint('rt: low proved (3 s)\\nnote\\nrt: cabinet proved (unchanged since it was last proved)')\n"
+                                       "sys.exit(sys.argv[1:] != ['check', 'cabinet'])\n")
+        self.with_programs()
+        status, said = self.job(built=False)
+        self.assertEqual(status, 0)
+        self.assertIn("  [1/2] low (3 s)\n  [2/2] cabinet (unchanged since it was last proved)\n", said)
+        script(self.path("bin", "rt"), "import sys\nprint('rt: low NOT PROVED (exit 1, 3 s)')\nsys.exit(1)\n")
+        status, said = self.job("following.book", built=False)
+        self.assertEqual((status, "low NOT PROVED" in said, "decided" in said), (1, True, False))
+
+
+class Trials(InFolder):
+    """What tries the program finds a faulty one, and nothing wrong with a good one."""
+
+    def tries(self, text, *groups):
+        tries = try_programs.Tries(script(self.path("cabinet"), text), self.folder)
+        with printed() as out:
+            for group in groups:
+                group(tries)
+        return tries, out.getvalue()
+
+    def test_good(self):
+        tries, said = self.tries(CABINET, try_programs.try_examples, try_programs.try_commands, try_programs.try_scripts)
+        self.assertEqual((tries.failed, said), (0, ""))
+        self.assertGreater(tries.tried, 30)
+
+    def test_always_accepted(self):
+        tries, said = self.tries(ALWAYS_ACCEPTED, try_programs.try_examples, try_programs.try_commands)
+        self.assertGreater(tries.failed, 20)
+        self.assertIn("check_refutation, book M, hints [19, 16, 17]: expected b'20 1\\n'", said)
+
+    def fresh(self, text, number):
+        session = fresh.Session("test", script(self.path("cabinet"), text), self.path("session"))
+        with printed() as out:
+            fresh.Trial(session, number).all()
+        return session, out.getvalue()
+
+    def test_fresh(self):
+        for text, some in ((CABINET, False), (ALWAYS_ACCEPTED, True)):
+            with self.subTest(text=text), mock.patch.object(fresh, "SPOILED", 1):
+                os.makedirs(self.path("session"), exist_ok=True)
+                session, said = self.fresh(text, 1)
+                self.assertEqual(session.differences > 0, some, said)
+                self.assertEqual(sum(session.count["books"].values()), 1)
+
+
+class Commands(unittest.TestCase):
+    def test_root(self):
+        self.assertTrue(os.path.exists(os.path.join(ROOT, "crates.txt")))

@@ -1,0 +1,157 @@
+"""Readable text: every book's lines give its bytes again, and a wrong line is told."""
+import os
+import random
+import unittest
+
+from .. import known, make, show
+from ..books import encode, spec_bytes
+from ..inputs import encode_steps
+from ..random_books import damaged_book, random_book
+from ..reference import check_two, plan_length, read_book
+from ..repository import EXAMPLES, read_bytes, read_text, write_bytes, write_text
+from ..text import BadText, book_bytes, book_lines
+from .stand_in import InFolder, printed
+
+BOOK_M = known.book_m(0, 1)
+
+
+class Books(unittest.TestCase):
+    def same(self, data):
+        lines = book_lines(data)
+        self.assertEqual(book_bytes(lines), data)
+        self.assertEqual(book_lines(book_bytes(lines)), lines)
+
+    def test_known_books(self):
+        for data in (known.BOOK_L, BOOK_M, known.padded(0), known.great_ring(24), known.standing(64)[0]):
+            self.same(data)
+
+    def test_books_on_limits(self):
+        for maker in known.LIMITS:
+            for over in (0, 1):
+                self.same(spec_bytes(maker(over)))
+
+    def test_random_and_damaged_books(self):
+        rng = random.Random(5)
+        for _ in range(300):
+            self.same(damaged_book(rng))
+        for _ in range(20):
+            self.same(random_book(rng))
+
+    def test_any_bytes(self):
+        rng = random.Random(6)
+        for length in range(200):
+            self.same(rng.randbytes(length % 40))
+        self.same(b"\xff" * 3)
+        self.same(bytes(65536))
+        self.same(encode([[9, b"\1\2"], [65535, b""], [5, bytes(6) + b"\1"], [5, bytes(5)]]))
+
+    def test_examples(self):
+        for name in ("following", "uncut"):
+            lines = read_text(os.path.join(EXAMPLES, name + ".txt")).split("\n")
+            data = read_bytes(os.path.join(EXAMPLES, name + ".book"))
+            self.assertEqual(book_bytes(lines), data)
+            self.assertEqual([line for line in lines if not line.startswith("#")][:-1], book_lines(data)[1:])
+
+    def test_lines_of_book_l(self):
+        self.assertEqual(book_lines(known.BOOK_L), [
+            "# accepted",
+            "head: 100 metres a segment, 10 seconds an interval, 1 intervals",
+            "node 0: border kind 0  # never",
+            "node 1: border kind 0  # never",
+            "segment 0: nodes 0 1, TTD 0",
+            "train 0: 80 metres, 36 km/h, departs at 0, stands on 0>  # 1 long, up to 1 an interval, 2 runs",
+            "call: train 0, segment 0, at some time from 0 to 1",
+            "end"])
+
+    def test_wrong_lines(self):
+        for line, why in (("node 1: border kind 0", "number 0"), ("node 0: border kind 256", "larger"), ("nod 0: border kind 0", "no line"),
+                          ("train 0: 1 metres, 1 km/h, departs at 0, stands on 3", "directed"), ("frame of kind 9: 1", "hexadecimal"),
+                          ("rest: 01\nend", "behind the rest"), ("frame of kind 65536:", "two bytes"),
+                          ("train 0: 1 metres, 1 km/h, departs at 0, stands on 128>", "larger")):
+            with self.assertRaisesRegex(BadText, f"^line .*{why}", msg=line):
+                book_bytes(line.split("\n"))
+
+
+class Shown(unittest.TestCase):
+    """The lines of plans, assignments and refutations."""
+
+    def test_plan(self):
+        self.assertEqual(show.shown(known.PLAN_L, known.BOOK_L, None, False),
+                         ["# accepted", "no borders", "train 0, interval 0: run 0, segments 0>"])
+        lines = show.shown(b"\1\0\1\0", known.BOOK_L, None, False)
+        self.assertEqual(lines[0], "# refused: 16 1")
+        self.assertEqual(lines[1:], ["border at node 0  # kind 0, never", "train 0, interval 0: run 1, segments 0<"])
+
+    def test_plan_that_is_none(self):
+        lines = show.shown(b"\0\0\7\0\5", known.BOOK_L, "plan", False)
+        self.assertEqual(lines, ["# refused: 15 0", "no borders", "train 0, interval 0: run 7, which this train has not", "behind it: 05"])
+        lines = show.shown(b"\0\0\7", known.BOOK_L, "plan", False)
+        self.assertEqual(lines[-1], "ends here: 3 bytes, and a plan of this book has 4")
+
+    def test_assignment(self):
+        lines = show.shown(known.ASSIGNMENT_L, known.BOOK_L, None, False)
+        self.assertEqual(lines, ["# accepted", "variable 3: train 0, interval 0: run 0, segments 0>",
+                                 "variable 6: train 0, interval 0: claims segment 0"])
+        lines = show.shown(bytes(6), known.BOOK_L, None, False)
+        self.assertEqual(lines, ["# refused: 14 3", "# clause 3 is false: 3 (train 0, interval 0: run 0, segments 0>) or "
+                                 "4 (train 0, interval 0: run 1, segments 0<) or 5 (train 0, interval 0: gone)"])
+
+    def test_every_variable_has_its_meaning(self):
+        book = read_book(known.ring(*known.SMALL_RINGS[3]))
+        words = show.meanings(book)
+        self.assertEqual(len(words), show.reference.Variables(book).count)
+        v = show.reference.Variables(book)
+        self.assertEqual(words[v.gone(1, 2) - 1], "train 1, interval 2: gone")
+        self.assertEqual(words[v.claim(1, 3, 2) - 1], "train 1, interval 3: claims segment 2")
+        self.assertIn("train 0, interval 1: run 4, segments", words[v.run(0, 1, 4) - 1])
+
+    def test_refutation(self):
+        data = encode_steps([([6], [19, 17]), ([], [26, 16])])
+        lines = show.shown(data, BOOK_M, None, False)
+        self.assertEqual(lines, ["# accepted", "step 1, clause 26: 6; hints 19 17", "step 2, clause 27: empty; hints 26 16"])
+        self.assertEqual(show.shown(data, None, None, False)[1], "step 2: empty; hints 26 16")
+        self.assertEqual(show.shown(data[:-1], BOOK_M, "refutation", False)[-1], "no step: " + data[18:-1].hex(" "))
+
+    def test_what_a_file_is(self):
+        book = read_book(known.BOOK_L)
+        self.assertEqual(show.kind_of(known.BOOK_L, None), "book")
+        # these bytes could begin a book, but their length is an assignment's
+        self.assertEqual(show.kind_of(known.ASSIGNMENT_L, book), "assignment")
+        self.assertEqual(show.kind_of(known.PLAN_L, book), "plan")
+        self.assertEqual(show.kind_of(known.REFUTATION_M, book), "refutation")
+        for data, given in ((b"", None), (b"\1", book), (bytes(4), None)):
+            with self.assertRaises(show.Unclear):
+                show.kind_of(data, given)
+
+    def test_refused_book(self):
+        with self.assertRaisesRegex(show.Unclear, "refused: 1 0"):
+            show.shown(known.PLAN_L, known.BOOK_L[:-1], None, False)
+
+    def test_runs(self):
+        self.assertEqual(show.shown(known.BOOK_L, None, None, True)[-2:], ["# train 0, run 0, segments 0>", "# train 0, run 1, segments 0<"])
+
+    def test_verdict_is_the_reference_s(self):
+        book = read_book(BOOK_M)
+        plan = bytes(plan_length(book))
+        self.assertEqual(show.shown(plan, BOOK_M, None, False)[0], "# refused: {} {}".format(*check_two("check_plan", BOOK_M, plan)[1:]))
+
+
+class Commands(InFolder):
+    def options(self, **names):
+        return type("Options", (), names)()
+
+    def test_make_writes_what_show_prints(self):
+        write_bytes(self.path("book"), BOOK_M)
+        with printed() as out:
+            show.run(self.options(file=self.path("book"), book=None, kind=None, runs=True))
+        write_text(self.path("text"), out.getvalue())
+        with printed():
+            self.assertEqual(make.run(self.options(text=self.path("text"), book=self.path("again"))), 0)
+        self.assertEqual(read_bytes(self.path("again")), BOOK_M)
+
+    def test_wrong_text_writes_nothing(self):
+        write_text(self.path("text"), "end\nnode 0: 5\n")
+        with printed() as out:
+            self.assertEqual(make.run(self.options(text=self.path("text"), book=self.path("book"))), 1)
+        self.assertIn("line 2", out.getvalue())
+        self.assertFalse(os.path.exists(self.path("book")))

@@ -1,0 +1,177 @@
+"""Readable lines of a book, and the book's bytes from such lines.
+
+A frame is a line. Behind # stands a remark, which is not read back. A frame that is none of document 01's kinds, or whose payload has
+not its kind's length, is a line of its kind and bytes; bytes at the end that are no whole frame are a line of bytes. So every file has
+its lines, and the lines give the very file.
+"""
+import re
+import struct
+
+from . import reference
+from .books import encode, split
+from .reference import CALL, END, HEAD, JOIN, NODE, SEGMENT, TRAIN, UNBREAKABLE
+
+# The line of each kind and the form of its payload: {} is a field, # the frame's number among those of its kind. A train's row of
+# directed segments stands behind its fields.
+LINES = {
+    HEAD: ("head: {} metres a segment, {} seconds an interval, {} intervals", "<HHB"),
+    NODE: ("node #: border kind {}", "<B"),
+    SEGMENT: ("segment #: nodes {} {}, TTD {}", "<BBB"),
+    JOIN: ("join: node {}, segments {} {}", "<BBB"),
+    TRAIN: ("train #: {} metres, {} km/h, departs at {}, stands on", "<HHB"),
+    CALL: ("call: train {}, segment {}, at some time from {} to {}", "<BBBB"),
+    UNBREAKABLE: ("unbreakable: TTD {}", "<B"),
+    END: ("end", "<"),
+}
+FRAME, REST = "frame of kind ", "rest: "
+BORDERS = {0: "never", 1: "may be set", 2: "always set"}
+
+
+class BadText(Exception):
+    """A line that says no frame, and why."""
+
+
+# ---------------------------------------------------------------- directions
+
+
+def directed(x):
+    """A directed segment: 5> is segment 5 from its node a to its node b, 5< from b to a."""
+    return f"{x // 2}{'<' if x % 2 else '>'}"
+
+
+def row(path):
+    return " ".join(map(directed, path)) or "nothing"
+
+
+def read_row(words):
+    """The numbers of directed segments that are written so."""
+    if words == ["nothing"]:
+        return []
+    for word in words:
+        if not re.fullmatch("[0-9]+[<>]", word):
+            raise BadText(f"{word} is no directed segment, as 5> or 5<")
+    return [2 * int(word[:-1]) + (word[-1] == "<") for word in words]
+
+
+# ------------------------------------------------------------ a book's lines
+
+
+def payload_fits(kind, payload):
+    """Whether the payload has the fields of its kind, and nothing else."""
+    return kind in LINES and len(payload) == reference.payload_length(kind, payload)
+
+
+def frame_line(kind, payload, number):
+    """The line of one frame; number counts those of its kind."""
+    if not payload_fits(kind, payload):
+        return f"{FRAME}{kind}: {payload.hex(' ')}".rstrip()
+    form, fields = LINES[kind]
+    line = form.replace("#", str(number)).format(*struct.unpack_from(fields, payload))
+    return f"{line} {row(payload[6:])}" if kind == TRAIN else line
+
+
+def remark(kind, payload, number, book):
+    """What a reader of the line may want to know besides; the book where it is accepted."""
+    if kind == NODE and len(payload) == 1 and payload[0] in BORDERS:
+        return BORDERS[payload[0]]
+    if kind == TRAIN and book is not None:
+        train = book.trains[number]
+        return f"{train.l} long, up to {train.k} an interval, {len(book.runs[number])} runs"
+    return ""
+
+
+def verdict_words(answer):
+    return "accepted" if answer[0] == "accepted" else "refused: {} {}".format(*answer[1:])
+
+
+def book_lines(data):
+    """The lines of a book, or of any bytes."""
+    frames, rest = split(data)
+    answer = reference.entry_read_book(data)
+    book, counts = reference.read_book(data) if answer[0] == "accepted" else None, {}
+    lines = [f"# {verdict_words(answer)}"]
+    for kind, payload in frames:
+        number = counts.get(kind, 0)
+        # a frame with another length than its kind's is no node, segment or train
+        counts[kind] = number + payload_fits(kind, payload)
+        said = remark(kind, payload, number, book)
+        lines.append(frame_line(kind, payload, number) + (f"  # {said}" if said else ""))
+    return lines + ([REST + rest.hex(" ")] if rest else [])
+
+
+# ------------------------------------------------------------ a book's bytes
+
+
+def pattern(kind):
+    """What a line of this kind looks like."""
+    form = re.escape(LINES[kind][0]).replace(re.escape("{}"), "([0-9]+)").replace(re.escape("#"), "(?P<number>[0-9]+)")
+    return re.compile(form + (r" (?P<row>.+)" if kind == TRAIN else ""))
+
+
+PATTERNS = {kind: pattern(kind) for kind in LINES}
+
+
+def read_hex(words):
+    try:
+        return bytes.fromhex(words)
+    except ValueError:
+        raise BadText(f"no bytes in hexadecimal: {words}") from None
+
+
+def packed(kind, found):
+    """The payload that a line's fields say."""
+    fields = [int(word) for name, word in zip(group_names(found), found.groups()) if name is None]
+    try:
+        payload = struct.pack(LINES[kind][1], *fields)
+        if kind == TRAIN:
+            place = read_row(found["row"].split())
+            payload += bytes([len(place), *place])
+    except (struct.error, ValueError):
+        raise BadText("a number is larger than its field holds") from None
+    return payload
+
+
+def group_names(found):
+    """For each group of a match its name, or None where it is a field."""
+    named = {index: name for name, index in found.re.groupindex.items()}
+    return [named.get(index) for index in range(1, found.re.groups + 1)]
+
+
+def read_frame(line, counts):
+    """The frame that a line says, as [kind, payload]."""
+    other = re.fullmatch(FRAME + "([0-9]+):(.*)", line)
+    if other:
+        if int(other[1]) > 65535:
+            raise BadText("a kind has two bytes")
+        return [int(other[1]), read_hex(other[2])]
+    for kind, shape in PATTERNS.items():
+        found = shape.fullmatch(line)
+        if found:
+            check_number(found, counts.get(kind, 0))
+            counts[kind] = counts.get(kind, 0) + 1
+            return [kind, packed(kind, found)]
+    raise BadText("this is no line of a book")
+
+
+def check_number(found, number):
+    """Nodes, segments and trains number from 0 in file order; the line has to say the same."""
+    said = found.groupdict().get("number")
+    if said is not None and int(said) != number:
+        raise BadText(f"this is number {number}, and the line says {said}")
+
+
+def book_bytes(lines):
+    """The bytes of a book's lines; BadText says which line is wrong."""
+    frames, rest, counts = [], b"", {}
+    for at, line in enumerate(lines, 1):
+        line = line.split("#")[0].strip()
+        try:
+            if rest and line:
+                raise BadText("nothing stands behind the rest")
+            if line.startswith(REST):
+                rest = read_hex(line.removeprefix(REST))
+            elif line:
+                frames.append(read_frame(line, counts))
+        except BadText as wrong:
+            raise BadText(f"line {at}: {wrong}") from None
+    return encode(frames) + rest
