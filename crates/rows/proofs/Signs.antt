@@ -1,10 +1,10 @@
 -- Literals as the machine holds them: what a number of four bytes stands for, and a literal without its sign. Assumes nothing.
-use mathlib.Core.Path.{_≡_, refl, sym, ap, _∙_, subst}
+use mathlib.Core.Path.{_≡_, refl, sym, ap, ap₂, _∙_, subst}
 use mathlib.Core.Bool.{true, false}
 use Prim.Native.Nat.{ℕ, zero, suc, _*_, _-_, _^_, _≤_, _<_}
 use native.Mathlib.Omega.{arith}
 use borrow.Author.Tests.{lt-ltb, le-ltb}
-use lib.Dec.{T, ltb→lt}
+use lib.Dec.{T, ltb, ltb→lt, nltb→le}
 use lib.IntN.{ℤ, pos, negsuc, natAbs, negℤ, predℤ, _-ℤ_, +ℤ-idl, -ℤ-one}
 use lib.Signed.{mag, ltZ, nonNeg}
 use mir.Syntax.{w32, w64}
@@ -13,7 +13,7 @@ use mir.Facts.{toZ-pos, toZ-ofZ}
 use Rattle.laws.proofs.Numbers.{signed-low as low, signed-high as high}
 use Rattle.spec.specs.Numbers.{signed}
 use Rattle.spec.specs.Refutation.{variableOf}
-use Rattle.laws.proofs.Tests.{from-true, from-false}
+use Rattle.laws.proofs.Tests.{not-iff, from-true, from-false}
 
 -- ---- a number of four bytes
 
@@ -85,15 +85,41 @@ module _ (z : ℤ) (h : SFits w32 z) where
     pub negated-read : toZ w32 (ofZ w32 (pos 0 -ℤ toZ w32 (ofZ w32 z))) ≡ pos (variableOf z)
     negated-read = toZ-ofZ negated-fits ∙ negated
 
--- ---- the smallest i32
+-- ---- the range of a literal
 
--- by its bits, a literal is the smallest i32 or of a variable below 2^31
-pub smallest : (z : ℤ) → SFits w32 z → ofZ w32 z ≡ 2147483648 → variableOf z ≡ 2147483648
+-- a literal above m, or below -m, is of a variable above m; any other is not
+over : (m : ℕ) (z : ℤ) → T (ltZ (pos m) z) → m < variableOf z
 unfolding variableOf
-smallest (pos n) h e = let no : ⊥ = omega arith in absurd no
-smallest (negsuc k) h e = omega arith
+over m (pos n) t = ltb→lt m n t
+over m (negsuc k) t = absurd t
 
-pub others : (z : ℤ) → SFits w32 z → (ofZ w32 z ≡ 2147483648 → ⊥) → variableOf z < 2147483648
+under : (m : ℕ) (z : ℤ) → T (ltZ z (negℤ (pos m))) → m < variableOf z
 unfolding variableOf
-others (pos n) h e = omega arith
-others (negsuc k) h e = omega arith
+under zero (pos n) t = let no : ⊥ = omega (arith, ltb→lt n 0 t) in absurd no
+under zero (negsuc k) t = omega arith
+under (suc m) (pos n) t = absurd t
+under (suc m) (negsuc k) t = omega (arith, ltb→lt m k t)
+
+within : (m : ℕ) (z : ℤ) → ltZ (pos m) z ≡ false → ltZ z (negℤ (pos m)) ≡ false → variableOf z ≤ m
+unfolding variableOf
+within m (pos n) p q = nltb→le m n (not-iff (ltb m n) .1 (from-false p))
+within zero (negsuc k) p q = absurd (from-false q tt)
+within (suc m) (negsuc k) p q = let l = nltb→le m k (not-iff (ltb m k) .1 (from-false q)) in omega arith
+
+-- the same of a literal and of a bound that are read back from their bits
+module _ (z : ℤ) (h : SFits w32 z) (m : ℕ) (few : m < 2147483648) where
+  over-read : ltZ (toZ w32 m) (toZ w32 (ofZ w32 z)) ≡ ltZ (pos m) z
+  over-read = ap₂ ltZ (toZ-pos w32 few) (toZ-ofZ h)
+
+  under-read : ltZ (toZ w32 (ofZ w32 z)) (toZ w32 (ofZ w32 (pos 0 -ℤ toZ w32 m))) ≡ ltZ z (negℤ (pos m))
+  under-read = ap₂ ltZ (toZ-ofZ h) (toZ-ofZ (opposite-fits m few) ∙ opposite m few)
+
+  pub above-range : ltZ (toZ w32 m) (toZ w32 (ofZ w32 z)) ≡ true → m < variableOf z
+  above-range t = over m z (from-true (sym over-read ∙ t))
+
+  pub below-range : ltZ (toZ w32 (ofZ w32 z)) (toZ w32 (ofZ w32 (pos 0 -ℤ toZ w32 m))) ≡ true → m < variableOf z
+  below-range t = under m z (from-true (sym under-read ∙ t))
+
+  pub in-range : ltZ (toZ w32 m) (toZ w32 (ofZ w32 z)) ≡ false
+      → ltZ (toZ w32 (ofZ w32 z)) (toZ w32 (ofZ w32 (pos 0 -ℤ toZ w32 m))) ≡ false → variableOf z ≤ m
+  in-range p q = within m z (sym over-read ∙ p) (sym under-read ∙ q)

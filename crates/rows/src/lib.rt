@@ -50,17 +50,20 @@ pub fn variable(l: i32) -> usize
     if l < 0 { (-l) as usize } else { l as usize }
 }
 
-// Whether a literal is of a variable above `low`, and of one of `variables`. The smallest i32 is of none,
-// and is tested before the literal is negated.
+// Whether a literal is of a variable above `low`, and of one of `variables`. Its range is tested before it
+// is negated, which keeps out the smallest i32, whose negation does not fit.
 fn literal_fits(l: i32, low: usize, variables: usize) -> bool
     requires { ⌜ variables < 2147483648 ⌝ }
     ensures { λ r. ⌜ r ≡ (ltb low (variableOf l) && leb (variableOf l) variables) ⌝ }
 {
-    if l == -2147483648 {
+    let most = variables as i32;
+    if most < l {
         return false;
     }
-    let v = variable(l);
-    low < v && v <= variables
+    if l < -most {
+        return false;
+    }
+    low < variable(l)
 }
 
 // 18: whether a row's literals are of `variables` and rise strictly.
