@@ -1,8 +1,8 @@
 #!/usr/bin/env python3
-"""Makes the books that bench.rs runs on, with tools/reference.py and tools/samples.py.
+"""Makes the books that bench.rs runs on. It takes how a book is written, document 01's book L and the reference from the package tools.
 
-  make_books.py        writes big_star.book, big_ring.book, big_lanes.book, small_l.book, the smaller rings ring_8.book, ring_16.book and
-                       ring_32.book, stand_16.book and stand_64.book with their plans, and shut.book beside itself
+  make_books.py [DIR]  writes big_star.book, big_ring.book, big_lanes.book, small_l.book, the smaller rings ring_8.book, ring_16.book and
+                       ring_32.book, stand_16.book and stand_64.book with their plans, and shut.book into DIR, by default beside itself
 
 Each big book has T = 32, 8 trains (l = 1, k = 1, departure 0) and about 250 runs a train; a smaller ring has 4 runs a segment. In a stand
 book the trains stand where their calls are. shut.book has a call whose window shuts before the departure, so its formula has an empty clause. The
@@ -14,9 +14,10 @@ import struct
 import sys
 
 HERE = os.path.dirname(os.path.abspath(__file__))
-sys.path.insert(0, os.path.join(HERE, "..", "tools"))
-import reference as ref   # noqa: E402
-import samples            # noqa: E402
+sys.path.insert(0, os.path.dirname(HERE))
+from tools.books import Spec, spec_bytes    # noqa: E402 (the path has to be right first)
+from tools.known import BOOK_L              # noqa: E402
+from tools.reference import read_book       # noqa: E402
 
 
 def with_trains(spec, stride, calls):
@@ -33,7 +34,7 @@ def with_trains(spec, stride, calls):
 
 def star():
     """62 segments of one TTD at one node, 63 joins there: 124 + 126 = 250 runs; family H is large."""
-    spec = samples.Spec()
+    spec = Spec()
     n = 62
     spec.nodes = [1] + [x % 3 for x in range(n)]
     spec.segments = [(0, s + 1, 0) if s % 2 else (s + 1, 0, 0) for s in range(n)]
@@ -43,7 +44,7 @@ def star():
 
 def ring(n):
     """A ring of n segments, each its own TTD: 2n + 2n runs, with 64 the most, 256; no H."""
-    spec = samples.Spec()
+    spec = Spec()
     spec.nodes = [1] * n
     spec.segments = [(s, (s + 1) % n, s) for s in range(n)]
     spec.joins = [((s + 1) % n, s, (s + 1) % n) for s in range(n)]
@@ -53,7 +54,7 @@ def ring(n):
 def lanes():
     """12 tracks side by side between two nodes, all joined at one and most at the other, with 8 stubs:
     few segments, many joins, so that each run has many followers; family E is large."""
-    spec = samples.Spec()
+    spec = Spec()
     spec.nodes = [1, 1] + [0] * 8
     spec.segments = [(0, 1, 0)] * 12 + [(1, 2 + s, 1) for s in range(8)]
     pairs = [(v, x, y) for v in (0, 1) for x in range(12) for y in range(x + 1, 12)]
@@ -79,7 +80,7 @@ def standing_plan(spec):
 
 def shut():
     """A ring of 16 segments in 4 TTDs, 3 trains, T = 8; the first train's call is over before it departs."""
-    spec = samples.Spec()
+    spec = Spec()
     spec.T = 8
     spec.nodes = [1] * 16
     spec.segments = [(s, (s + 1) % 16, s // 4) for s in range(16)]
@@ -90,24 +91,28 @@ def shut():
     return spec
 
 
-def main():
-    files = {"big_star.book": samples.spec_bytes(star()), "big_ring.book": samples.spec_bytes(ring(64)),
-             "big_lanes.book": samples.spec_bytes(lanes()), "small_l.book": samples.BOOK_L,
-             "shut.book": samples.spec_bytes(shut())}
+def all_files():
+    """Every file by its name."""
+    files = {"big_star.book": spec_bytes(star()), "big_ring.book": spec_bytes(ring(64)), "big_lanes.book": spec_bytes(lanes()),
+             "small_l.book": BOOK_L, "shut.book": spec_bytes(shut())}
     for n in (8, 16, 32):
-        files["ring_%d.book" % n] = samples.spec_bytes(ring(n))
+        files["ring_%d.book" % n] = spec_bytes(ring(n))
     for n in (16, 64):
-        files["stand_%d.book" % n] = samples.spec_bytes(stand(n))
+        files["stand_%d.book" % n] = spec_bytes(stand(n))
         files["stand_%d.plan" % n] = standing_plan(stand(n))
-    for name, data in files.items():
-        with open(os.path.join(HERE, name), "wb") as f:
+    return files
+
+
+def main(folder):
+    for name, data in all_files().items():
+        with open(os.path.join(folder, name), "wb") as f:
             f.write(data)
         if name.endswith(".book"):
-            book = ref.read_book(data)
+            book = read_book(data)
             print("%s: %d bytes, %d nodes, %d segments, %d joins, %d trains, T %d, runs %s" % (
                 name, len(data), len(book.nodes), len(book.segments), len(book.joins),
                 len(book.trains), book.T, [len(r) for r in book.runs]))
 
 
 if __name__ == "__main__":
-    main()
+    main(sys.argv[1] if len(sys.argv) > 1 else HERE)

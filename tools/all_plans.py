@@ -1,7 +1,9 @@
 """Every plan of a book, where they are few enough to try by the reference's rules."""
 import itertools
+import math
 
 from . import reference as ref
+from .books import border_bytes
 from .inputs import split_plan
 from .reference import ABSENT, GONE
 
@@ -51,7 +53,7 @@ def rows_of(book, tr):
 
 def plans_by_rows(book):
     """All plans whose borders respect their kinds and whose trains, each by itself, keep the rules; None where they are many."""
-    total, rows = 2 ** book.nodes.count(1), []
+    total, rows = math.prod(len(border_bytes(kind)) for kind in book.nodes), []
     for tr in range(len(book.trains)):
         some = rows_of(book, tr) if total <= MOST_PLANS else None
         if some is None:
@@ -60,7 +62,7 @@ def plans_by_rows(book):
         total *= len(some)
     if total > MOST_PLANS:
         return None
-    borders = itertools.product(*[((0,), (0, 1), (1,))[kind] for kind in book.nodes])
+    borders = itertools.product(*map(border_bytes, book.nodes))
     return [(list(b), list(m)) for b in borders for m in itertools.product(*rows)]
 
 

@@ -11,10 +11,8 @@ Exit status: 0 answered, accepted or refused; 2 wrong usage, or a file can't be 
 import sys
 
 from . import reference
+from .program import COMMANDS
 from .repository import read_bytes, write_bytes
-
-# each command with the least and the most names that it takes
-COMMANDS = {"print_formula": (0, 1), "check_assignment": (2, 3), "check_plan": (2, 3), "check_refutation": (2, 2)}
 
 
 def arguments(parser):
@@ -31,10 +29,16 @@ def check(command, names):
     return reference.verdict_line(answer)
 
 
+def least_and_most(command):
+    """How many names there may be: as the program takes, but for the book of print_formula, which may be named here."""
+    _, least, most = COMMANDS[command]
+    return least, max(most, 1)
+
+
 def run(options):
-    least, most = COMMANDS[options.command]
+    least, most = least_and_most(options.command)
     if not least <= len(options.names) <= most:
-        options.complain(f"{options.command} takes {least} to {most} names")
+        options.complain(f"{options.command} takes {least if least == most else f'{least} or {most}'} names")
     if options.command == "print_formula":
         said = reference.print_formula(read_bytes(options.names[0]) if options.names else sys.stdin.buffer.read())
     else:

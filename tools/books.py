@@ -3,6 +3,30 @@ import struct
 
 from .reference import CALL, END, HEAD, JOIN, NODE, SEGMENT, TRAIN, UNBREAKABLE, two_bytes
 
+# Each border kind: the words that are shown for it, and the bytes that a plan may have at such a node. Besides the reference, which says it
+# from document 01 by itself, the kinds stand nowhere else; random books have all of them, and books that are known by name what they need.
+NEVER, MAY_BE_SET, ALWAYS = range(3)
+BORDER_KINDS = {
+    NEVER: ("never", (0,)),
+    MAY_BE_SET: ("may be set", (0, 1)),
+    ALWAYS: ("always set", (1,)),
+}
+
+
+def kind_words(kind):
+    """What a border kind is called."""
+    return BORDER_KINDS[kind][0]
+
+
+def border_bytes(kind):
+    """What a plan may have at a node of this kind."""
+    return BORDER_KINDS[kind][1]
+
+
+def bordered_kinds():
+    """The kinds of nodes that may have a border."""
+    return tuple(kind for kind in BORDER_KINDS if 1 in border_bytes(kind))
+
 
 class Spec:
     """A book before it is bytes; fields may be as wrong as wished."""

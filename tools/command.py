@@ -5,14 +5,18 @@ import importlib
 import os
 import sys
 
-# subcommand: its module, and what it does
+from .repository import Stop
+
+# Subcommand: its module, and what it does. A module has its subcommand's name, but where that is taken: `reference` is asked by ask.py, since
+# reference.py is the reference itself; `solve` is solver.py, since solve.py is the solver script, which imports nothing of the package; `try`
+# is a word of Python; and the commands of the packages cases and tests are their command.py.
 COMMANDS = {
     "example": ("example", "prove and build what is needed, and run the main job on the example books"),
     "show": ("show", "print a book, a plan, an assignment or a refutation in readable lines"),
     "make": ("make", "write a book from the lines that show prints"),
     "solve": ("solver", "decide a formula by the solver script or by one of Debian's solvers"),
     "reference": ("ask", "what the reference says of a book and a second input"),
-    "samples": ("selftest", "test the reference on document 01's examples and by brute force"),
+    "samples": ("samples", "test the reference on document 01's examples and by brute force"),
     "compare": ("compare", "hold the definitions against the reference on random inputs"),
     "cases": ("cases.command", "make, check or run the stored cases"),
     "try": ("try_programs", "try the built program as a user would"),
@@ -20,7 +24,7 @@ COMMANDS = {
     "wrong": ("wrong", "try wrong programs, which the proofs must refuse"),
     "crates": ("crates", "what each crate names, and whether crates.txt says the same"),
     "gate": ("gate", "run the gate and write down its times"),
-    "generated": ("generated", "write the pages of docs/generated/ that need no long run"),
+    "generated": ("generated", "write the pages of docs/generated/"),
     "test": ("tests.command", "test these tools themselves"),
 }
 
@@ -58,6 +62,6 @@ def main(words):
         # nobody reads on, as behind `| head`
         os.dup2(os.open(os.devnull, os.O_WRONLY), sys.stdout.fileno())
         return 1
-    except OSError as error:
+    except (OSError, Stop) as error:
         print(f"tools {words[0]}: {error}", file=sys.stderr)
         return 2

@@ -1,5 +1,6 @@
-"""Reads crates.txt and the sources of each crate. Writes docs/generated/crates.md: the layers, and each crate with its line of crates.txt's
-remarks and the crates that it names. With --check nothing is written; it says which entries of crates.txt are missing, and which are not
+"""Reads crates.txt and the sources of each crate. Writes docs/generated/crates.md: the layers, and each crate with its description and the crates
+that it names. In crates.txt the lines directly above a crate that begin with `# ` are its description, and a line that begins with `## ` is
+the heading of the crates below it. With --check nothing is written; it says which entries of crates.txt are missing, and which are not
 needed, a crate needing only what its own src/, specs/ and proofs/ name. A crate is named by `use NAME::..` or `NAME::..` in Rattle, where no
 module of the crate has that name, and by `Rattle.NAME.` in definitions, proofs and ghost uses. std is never listed.
 
@@ -23,21 +24,31 @@ def arguments(parser):
 
 
 class Listed:
-    """What crates.txt has, in its order: each crate's entries, and the remarks that stand ahead of it."""
+    """What crates.txt has, in its order: each crate's entries, the remarks directly above it, and its heading, which may be none."""
 
     def __init__(self, root=ROOT):
-        self.root, self.entries, self.remarks = root, {}, {}
-        waiting = []
+        self.root, self.entries, self.remarks, self.headings = root, {}, {}, {}
+        waiting, heading = [], ""
         for line in read_text(os.path.join(root, "crates.txt")).split("\n"):
-            if line.startswith("#"):
+            if line.startswith("## "):
+                waiting, heading = [], line.removeprefix("## ").strip()
+            elif line.startswith("#"):
                 waiting.append(line.lstrip("# "))
             elif line.strip():
                 name, entries = line.split("#")[0].split(":")
                 self.entries[name.strip()] = entries.split()
                 self.remarks[name.strip()] = " ".join(waiting)
+                self.headings[name.strip()] = heading
                 waiting = []
             else:
                 waiting = []
+
+    def sections(self):
+        """Each heading with its crates, in order."""
+        names = {}
+        for name, heading in self.headings.items():
+            names.setdefault(heading, []).append(name)
+        return names.items()
 
     def in_order(self, names):
         """Names as crates.txt has them, then the kit's libraries, then unknown ones."""
@@ -152,15 +163,21 @@ def named_words(listed, name, entries):
     return (words + (f" ({', '.join(far)})" if far else "")) or "nothing"
 
 
+def table(listed, names, entries):
+    rows = [f"| `{name}` | {listed.remarks[name]} | {named_words(listed, name, entries)} |" for name in names]
+    return ["| Crate | What it has | Names |", "|---|---|---|", *rows, ""]
+
+
 def crates_page(listed):
     entries = {name: named_by(listed, name) for name in listed.entries}
-    rows = [f"| `{name}` | {listed.remarks[name]} | {named_words(listed, name, entries)} |" for name in listed.entries]
+    tables = [line for heading, names in listed.sections()
+              for line in [*([f"## {heading}", ""] if heading else []), *table(listed, names, entries)]]
     return "\n".join([
         "# Crates", "",
         "Written by `python3 tools crates` from `crates.txt` and the sources. A crate stands in a layer above all that it names.", "",
         "```text", picture(entries), "```", "",
         "In the last column stands what a crate's own files name; in brackets what it also reaches through the others.", "",
-        "| Crate | What it has | Names |", "|---|---|---|", *rows, ""])
+        *tables])
 
 
 def run(options):

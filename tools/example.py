@@ -13,7 +13,8 @@ import time
 
 from . import reference
 from .crates import Listed, below
-from .repository import CABINET, EXAMPLES, PROGRAMS, ROOT, TOOLS, read_bytes, write_bytes
+from .program import CABINET
+from .repository import EXAMPLES, PROGRAMS, ROOT, TOOLS, read_bytes, write_bytes
 from .show import plan_lines
 from .solver import SOLVERS
 

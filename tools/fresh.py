@@ -22,16 +22,17 @@ from collections import Counter, defaultdict
 
 from . import reference as ref
 from .all_plans import keeping, plans_to_try
+from .books import BORDER_KINDS
 from .counts import answer_name, line_name, listed
 from .features import features, on, parallel_tracks
-from .inputs import TooLong, encode_steps, plan_bytes, read_steps, step_frame
+from .inputs import TooLong, plan_bytes, read_steps, step_frame
 from .passing_books import make_book
-from .random_inputs import (break_plan, claim_more, honest_steps, outside_plan, spoil_ending, spoil_steps, spoiled_bytes,
-                            walked_plan)
-from .repository import CABINET, PROGRAMS, TOOLS
+from .program import CABINET, CHECKS, built, has_result
+from .random_inputs import damaged_refutation, honest_steps, nearly_assignment, nearly_plan, walked_plan
+from .repository import PROGRAMS, TOOLS, Stop
+from .solve import Failure
 from .solver import SOLVERS, build_converter
 
-COMMANDS = ("print_formula", "check_assignment", "check_plan", "check_refutation")
 # seconds for one program or solver
 LIMIT = 10
 # the most clauses given to a solver where the program prints none
@@ -56,7 +57,7 @@ def all_features(book):
     there = {
         **features(book),
         "tracks of one TTD that share both nodes": any(ttd[x] == ttd[y] for x, y in parallel_tracks(book)),
-        **{f"node of kind {kind}": kind in book.nodes for kind in (0, 1, 2)},
+        **{f"node of kind {kind}": kind in book.nodes for kind in BORDER_KINDS},
         "two trains": trains == 2,
         "three trains": trains == 3,
         "four trains or more": trains > 3,
@@ -68,32 +69,6 @@ def all_features(book):
 # ------------------------------------------------------------ spoiled inputs
 
 
-def spoiled_plan(rng, book, good):
-    """A good plan, or trains that go anywhere, with up to two things wrong."""
-    walked = good is None or rng.random() < 0.4
-    borders, moves = walked_plan(rng, book) if walked else ref.read_plan(book, good)
-    for _ in range(rng.choice((0, 1, 1, 2))):
-        break_plan(rng, book, borders, moves)
-    if rng.random() < 0.1:
-        outside_plan(rng, book, borders, moves)
-    data = plan_bytes(borders, moves)
-    return spoiled_bytes(rng, data, (0, 1, 2, 255)) if rng.random() < 0.15 else data
-
-
-def spoiled_assignment(rng, book, good):
-    """The same of an assignment: surplus claims, a variable changed, a wrong byte or length."""
-    if good is None or rng.random() < 0.4:
-        borders, moves = walked_plan(rng, book)
-        good = ref.write_assignment(book, borders, moves)
-    style = rng.random()
-    if style < 0.3:
-        return claim_more(rng, book, good)
-    if style < 0.7:
-        at = rng.randrange(len(good))
-        return good[:at] + bytes([1 - good[at]]) + good[at + 1:]
-    return spoiled_bytes(rng, good, (0, 1, 2, 255)) if style < 0.9 else good
-
-
 def fits_slices(formula, steps, data):
     """Whether a refutation fits what the programs lend: its file, and formula and steps together."""
     variables, clauses = formula
@@ -103,15 +78,13 @@ def fits_slices(formula, steps, data):
 
 
 def spoiled_refutation(rng, formula, steps):
-    """A solver's steps, or honest ones that need not end, with one step or the ending wrong."""
+    """A solver's steps, or honest ones that need not end, with something wrong."""
     variables, clauses = formula
     if not steps or rng.random() < 0.3:
         steps = honest_steps(rng, variables, clauses, 3)
     if not steps:
         return step_frame([], [rng.randint(1, len(clauses))])
-    if rng.random() < 0.7:
-        return spoil_steps(rng, variables, clauses, steps)
-    return spoil_ending(rng, encode_steps(steps), steps)
+    return damaged_refutation(rng, variables, clauses, steps)
 
 
 # ------------------------------------------------------------------- one book
@@ -171,7 +144,7 @@ class Trial:
         """The program's line and result beside the reference's; answers what the program said: its line, and the result or None."""
         self.write("second", second)
         self.remove("result")
-        names = ["book", "second"] if program == "check_refutation" else ["book", "second", "result"]
+        names = ["book", "second"] + ["result"] * has_result(program)
         line, result = self.run(program, *names), self.read("result")
         found = ref.check_two(program, self.data, second)
         expected = ref.verdict_line(found), found[1] if found[0] == "accepted" and len(found) > 1 else None
@@ -285,8 +258,8 @@ class Trial:
 
     def spoil(self):
         for _ in range(SPOILED):
-            self.check("check_assignment", spoiled_assignment(self.rng, self.book, self.good))
-            self.check("check_plan", spoiled_plan(self.rng, self.book, self.plan))
+            self.check("check_assignment", nearly_assignment(self.rng, self.book, self.good))
+            self.check("check_plan", nearly_plan(self.rng, self.book, self.plan))
             try:
                 self.check("check_refutation", spoiled_refutation(self.rng, self.formula, self.steps))
             except TooLong:
@@ -328,7 +301,7 @@ class Trial:
 
     def all(self):
         if not self.read_book():
-            for program in COMMANDS[1:]:
+            for program in CHECKS:
                 self.check(program, self.rng.randbytes(self.rng.randrange(40)))
             return
         if not self.keep_formula():
@@ -363,7 +336,10 @@ class Session:
         if not shutil.which("rustc"):
             return [name for name in there if name == "minisat"]
         if there:
-            build_converter(os.path.join(self.folder, "drat"))
+            try:
+                build_converter(os.path.join(self.folder, "drat"))
+            except Failure as failure:
+                raise Stop(f"the converter of proofs is not built: {failure.args[1]}") from None
         return there
 
     def differ(self, number, what, files):
@@ -376,13 +352,15 @@ class Session:
                 file.write(data)
         print(f"DIFFERENCE {self.seed}/{number}: {what}; files in {kept}", flush=True)
 
-    def clear(self):
-        """Leaves only what was kept."""
-        for name in os.listdir(self.folder):
-            if name != "kept":
-                os.remove(os.path.join(self.folder, name))
-        if not self.differences:
-            os.rmdir(self.folder)
+
+def clear(folder):
+    """Leaves only what was kept, and no folder where that is nothing."""
+    names = os.listdir(folder)
+    for name in names:
+        if name != "kept":
+            os.remove(os.path.join(folder, name))
+    if "kept" not in names:
+        os.rmdir(folder)
 
 
 def say(text):
@@ -393,7 +371,7 @@ def summary(session, seconds):
     count = session.count
     books, accepted = sum(count["books"].values()), count["books"].pop("accepted", 0)
     say(f"seed {session.seed}, {seconds:.0f} s: {books} books, {accepted} accepted; refused by {listed(count['books'])}")
-    for name in ("formula", "decided", "solvers", "refutations of solvers", "enumerated", *COMMANDS[1:]):
+    for name in ("formula", "decided", "solvers", "refutations of solvers", "enumerated", *CHECKS):
         say(f"{name}: {listed(count[name])}")
     missing = [name for name in SOLVERS if name not in session.solvers]
     say(f"real solvers: {', '.join(session.solvers) or 'none'}; not used: {', '.join(missing) or 'none'}")
@@ -417,19 +395,25 @@ def arguments(parser):
     parser.add_argument("--bin", metavar="DIR", default=PROGRAMS, help="the folder of the program, by default target/bin")
 
 
-def run(options):
-    program = os.path.abspath(os.path.join(options.bin, CABINET))
-    if not os.access(program, os.X_OK):
-        print(f"tools fresh: no program {program}: rt check {CABINET} builds it", file=sys.stderr)
-        return 2
-    seed, _, only = options.seed.partition("/")
-    session = Session(seed, program, tempfile.mkdtemp(prefix="fresh-"))
+def try_books(session, only, seconds):
     start = time.monotonic()
-    for number in numbers(only, start + options.seconds):
+    for number in numbers(only, start + seconds):
         Trial(session, number).all()
         if session.differences >= MOST_DIFFERENCES:
             print(f"stopped after book {number}, since there are many differences")
             break
     summary(session, time.monotonic() - start)
-    session.clear()
+
+
+def run(options):
+    seed, stroke, only = options.seed.partition("/")
+    if stroke and not (only.isascii() and only.isdigit()):
+        raise Stop(f"{options.seed}: behind the stroke stands the number of a book, as in 7/3")
+    program = built(options.bin, CABINET)
+    folder = tempfile.mkdtemp(prefix="fresh-")
+    try:
+        session = Session(seed, program, folder)
+        try_books(session, only, options.seconds)
+    finally:
+        clear(folder)
     return 1 if session.differences else 0

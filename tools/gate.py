@@ -1,6 +1,7 @@
 """Runs the gate, .ci/run, shows what it prints, and writes docs/generated/gate.md: date, commit, minutes by the clock and of the processor,
 the last line, and the seconds of each crate and each must-fail edit. The whole log is kept as target/gate.log. With --log nothing is run:
-the page is made of a log that is there already; a block of real, user and sys at its end, as bash's `time` prints it, gives the minutes.
+the page is made of a log that is there already; a block of real, user and sys at its end, as bash's `time` prints it, gives the minutes,
+and --commit says which commit was tried. The page is best written by `python3 tools gate` in the clean clone itself, whose commit it names.
 
 Exit status: 0 the gate passed; 1 it did not, or the log has no line that says so; 2 wrong usage, or a file is missing.
 """
@@ -26,6 +27,7 @@ CLOCK = re.compile(r"(real|user|sys)\s+(?:(\d+)m)?([\d.]+)s?$")
 
 def arguments(parser):
     parser.add_argument("--log", metavar="FILE", help="make the page of this log, and run nothing")
+    parser.add_argument("--commit", metavar="TEXT", help="the commit that was tried, where that is not the present tree's")
 
 
 class Log:
@@ -128,11 +130,12 @@ def run_and_keep(root):
 
 
 def run(options):
+    tried = options.commit or commit()
     if options.log:
-        text, status, when = read_text(options.log), 0, f"from a log of {of_file(options.log)}, commit {commit()}"
+        text, status, when = read_text(options.log), 0, f"from a log of {of_file(options.log)}, commit {tried}"
     else:
         text, status = run_and_keep(ROOT)
-        when = f"on {today()}, commit {commit()}, with {os.cpu_count()} processors"
+        when = f"on {today()}, commit {tried}, with {os.cpu_count()} processors"
     log = Log(text)
     write_text(page(PAGE), gate_page(log, when))
     print(f"docs/generated/{PAGE}: {log.last or 'the gate did not end'}; {minutes(log.wall())} by the clock")

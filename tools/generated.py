@@ -1,22 +1,25 @@
-"""Writes the pages of docs/generated/ that need no long run: crates.md (crates and layers), cases.md (how many stored cases there are, by
-file and by answer; the reference is asked each of them again), edits.md (the must-fail edits that the gate tries) and tools.md (the
-subcommands). wrong_programs.md and gate.md are written by `wrong` and `gate`, which run for long.
+"""Writes the pages of docs/generated/. Without --all those that take less than a minute: crates.md (crates and layers), edits.md (the must-fail
+edits that the gate tries), tools.md (the subcommands) and cases.md (how many stored cases there are, by file and by answer; the reference is
+asked each of them again). With --all every page: first gate.md, as `gate` writes it, and then wrong_programs.md, as `wrong` does, which needs
+what the gate has proved. Both take long, and need `rt`: the gate proves every crate from nothing, and each wrong program is held against
+the prover.
 
-Exit status: 0 written; 1 a stored answer is not the reference's; 2 wrong usage, or a file is missing.
+Exit status: 0 written; 1 a stored answer is not the reference's, or with --all the gate did not pass or a wrong program was not refused;
+2 wrong usage, or a file is missing.
 """
-import os
-import re
+import argparse
 import sys
 
-from . import command, crates, wrong
+from . import command, crates, gate, wrong
 from .cases import FILES
 from .cases.command import as_stored, said_by_file
 from .counts import ordered
-from .repository import ROOT, page, read_text, write_text
+from .edits import edits_of
+from .repository import ROOT, page, write_text
 
 
 def arguments(parser):
-    """There are none."""
+    parser.add_argument("--all", action="store_true", help="run `gate` and `wrong` too, which take long: gate.md and wrong_programs.md")
 
 
 # --------------------------------------------------------------------- cases
@@ -52,26 +55,15 @@ def write_cases():
 # --------------------------------------------------------------------- edits
 
 
-def edits_of(crate):
-    """The gate's edits of a crate: name, remarks, and the pairs of texts with their file."""
-    folder = os.path.join(ROOT, "crates", crate, "must-fail")
-    for name in sorted(os.listdir(folder)) if os.path.isdir(folder) else []:
-        if name.endswith(".edit"):
-            yield name.removesuffix(".edit"), read_text(os.path.join(folder, name))
-
-
-def edit_row(crate, name, text):
-    """A row of the table. The first line that is no part of the edit says what it tries."""
-    said = [line.lstrip("# ") for line in text.split("\n") if line.strip() and not re.match("(file|old|new):", line)]
-    parts = [line.split(":", 1)[1].strip() for line in text.split("\n") if re.match("(old|new):", line)]
-    what = said[0] if said else name.replace("_", " ")
-    file = re.search("^file: (.*)$", text, re.M)
-    texts = "<br>".join(f"`{wrong.cell(old)}` → `{wrong.cell(new)}`" for old, new in zip(parts[::2], parts[1::2]))
-    return f"| `{crate}/{name}` | {wrong.cell(what)} | {file[1] if file else ''} | {texts} |"
+def edit_row(crate, edit):
+    """A row of the table."""
+    files = "<br>".join(dict.fromkeys(change.file for change in edit.changes))
+    texts = "<br>".join(f"`{wrong.cell(change.old.strip())}` → `{wrong.cell(change.new.strip())}`" for change in edit.changes)
+    return f"| `{crate}/{edit.name}` | {wrong.cell(edit.what)} | {files} | {texts} |"
 
 
 def edits_page():
-    rows = [edit_row(crate, name, text) for crate in crates.Listed().entries for name, text in edits_of(crate)]
+    rows = [edit_row(crate, edit) for crate in crates.Listed().entries for edit in edits_of(ROOT, crate)]
     return "\n".join([
         "# Must-fail edits", "",
         f"Written by `python3 tools generated`. The gate tries these {len(rows)} one by one, and the prover must refuse each.", "",
@@ -89,7 +81,23 @@ def tools_page():
         "| Subcommand | What it does |", "|---|---|", *rows, ""])
 
 
+# --------------------------------------------------------------------- pages
+
+
+def run_module(module):
+    """A subcommand as it is without arguments; its status."""
+    parser = argparse.ArgumentParser()
+    module.arguments(parser)
+    return module.run(parser.parse_args([]))
+
+
 def run(options):
+    statuses = [run_module(module) for module in (gate, wrong)] if options.all else []
+    return max([*statuses, write_short()])
+
+
+def write_short():
+    """The pages that need no long run."""
     write_text(page(crates.PAGE), crates.crates_page(crates.Listed()))
     write_text(page("edits.md"), edits_page())
     write_text(page("tools.md"), tools_page())

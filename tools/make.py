@@ -2,7 +2,7 @@
 passed over, and so are empty lines. A line is a frame, in the book's order:
 
   head: 100 metres a segment, 10 seconds an interval, 6 intervals
-  node 0: border kind 1                             0 never a border, 1 one may be set, 2 always one
+  node 0: border kind 1                             KINDS
   segment 0: nodes 0 1, TTD 0                       from its node a to its node b
   join: node 1, segments 0 1
   train 0: 100 metres, 36 km/h, departs at 0, stands on 0>
@@ -14,16 +14,19 @@ passed over, and so are empty lines. A line is a frame, in the book's order:
 `frame of kind 9: 01 02`, and bytes that are no whole frame as a last line `rest: 05 00`. Prints how long the book is and what the
 reader says of it; a book that is refused is written all the same.
 
-Exit status: 0 written, 1 a line is wrong, and nothing was written, 2 wrong usage, or a file can't be read or written.
+Exit status: 0 written; 1 a line is wrong, and nothing was written; 2 wrong usage, the text is no UTF-8, a line's frame has more than 65,535
+bytes, or a file can't be read or written.
 """
 import sys
 
+from .books import BORDER_KINDS, kind_words
 from .reference import entry_read_book
-from .repository import read_text, write_bytes
-from .text import BadText, book_bytes, verdict_words
+from .repository import Stop, read_text, write_bytes
+from .text import BadText, TooLong, book_bytes, verdict_words
 
 
 def arguments(parser):
+    parser.description = parser.description.replace("KINDS", ", ".join(f"{kind} {kind_words(kind)}" for kind in BORDER_KINDS))
     parser.add_argument("text", metavar="TEXT", help="the file with the lines")
     parser.add_argument("book", metavar="BOOK", help="the file to write")
 
@@ -31,6 +34,8 @@ def arguments(parser):
 def run(options):
     try:
         data = book_bytes(read_text(options.text).split("\n"))
+    except TooLong as wrong:
+        raise Stop(f"{options.text}, {wrong}") from None
     except BadText as wrong:
         print(f"tools make: {options.text}, {wrong}", file=sys.stderr)
         return 1

@@ -3,7 +3,7 @@ import itertools
 import struct
 
 from . import reference as ref
-from .books import Spec, encode, frames_of, put, spec_bytes, train_payload
+from .books import BORDER_KINDS, MAY_BE_SET, NEVER, Spec, bordered_kinds, encode, frames_of, put, spec_bytes, train_payload
 from .known import LIMITS
 from .reference import CALL, END, HEAD, JOIN, NODE, SEGMENT, TRAIN, UNBREAKABLE
 
@@ -96,7 +96,7 @@ def random_lengths(rng, spec, l, k):
 
 def random_track(rng, spec, n, topologies=TOPOLOGIES):
     nodes, pairs, joins = rng.choice(topologies)(rng, n)
-    kinds = rng.choice(((0, 1, 2), (1,), (1,), (0, 1), (0,), (1, 1, 2)))
+    kinds = rng.choice((tuple(BORDER_KINDS), (MAY_BE_SET,), (MAY_BE_SET,), (NEVER, MAY_BE_SET), (NEVER,), (MAY_BE_SET, *bordered_kinds())))
     spec.nodes = [rng.choice(kinds) for _ in range(nodes)]
     ttds = rng.sample(range(64), rng.choice((1, 1, 2, 3, 4)))
     blocks = rng.random() < 0.5
@@ -121,7 +121,7 @@ def random_unbreakable(rng, spec, ttds):
                  if sum(v in (a, b) and t == chosen[0]
                         for a, b, t in spec.segments) >= 2]
         for v in inner:
-            spec.nodes[v] = 0
+            spec.nodes[v] = NEVER
     return chosen
 
 
@@ -230,7 +230,7 @@ def wrong_fields(T):
     heads = ((0, 10, 1), (100, 0, 1), (100, 10, 0), (100, 10, 33),
              (100, 10, 255), (65535, 65535, 32))
     wrong = [(HEAD, 0, struct.pack("<HHB", *head)) for head in heads]
-    wrong += [(NODE, 2, [kind]) for kind in (3, 255)]
+    wrong += [(NODE, 2, [kind]) for kind in (max(BORDER_KINDS) + 1, 255)]
     wrong += [(SEGMENT, 1, p) for p in (
         (1, 1, 3), (5, 2, 3), (1, 5, 3), (255, 1, 3), (1, 2, 64), (1, 2, 255))]
     wrong += [(JOIN, 1, p) for p in (
@@ -267,8 +267,8 @@ def damage_join_copy(rng, frames):
 
 
 def damage_unbreakable(rng, frames):
-    """A node inside the unbreakable TTD gets kind 1 or 2."""
-    put(frames, NODE, rng.choice((1, 2)), [rng.choice((1, 2))])
+    """A node inside the unbreakable TTD gets a kind that may have a border."""
+    put(frames, NODE, rng.choice((1, 2)), [rng.choice(bordered_kinds())])
 
 
 def damage_unjoined(rng, frames):

@@ -2,6 +2,7 @@
 import struct
 
 from . import reference as ref
+from .books import border_bytes
 from .inputs import TooLong, encode_steps, plan_bytes, step_frame
 from .reference import ABSENT, GONE
 from .small_solver import Solver, refutation_steps, satisfying_assignment
@@ -10,8 +11,9 @@ from .small_solver import Solver, refutation_steps, satisfying_assignment
 
 
 def random_borders(rng, book):
-    return [rng.randrange(2) if kind == 1 else kind // 2
-            for kind in book.nodes]
+    """Bytes that the kinds of the nodes allow."""
+    allowed = map(border_bytes, book.nodes)
+    return [rng.choice(some) if len(some) > 1 else some[0] for some in allowed]
 
 
 def random_walk(rng, book, tr, still):
@@ -75,6 +77,16 @@ def spoiled_bytes(rng, data, values):
     return data[:at] + bytes([byte]) + data[at + 1:]
 
 
+def spoiled_input(rng, data):
+    """The same of a plan or an assignment, whose bytes are mostly 0 and 1."""
+    return spoiled_bytes(rng, data, (0, 1, 2, 255))
+
+
+def flipped(data, at):
+    """The bytes with a 0 made 1, or a 1 made 0."""
+    return data[:at] + bytes([1 - data[at]]) + data[at + 1:]
+
+
 def outside_plan(rng, book, borders, moves):
     """A run number past the list, or a border that is no 0 or 1."""
     tr = rng.randrange(len(book.trains))
@@ -94,6 +106,21 @@ def solved(book, budget=2000):
         return None
 
 
+def nearly_plan(rng, book, good):
+    """A good plan, where there is one, or trains that go anywhere, with up to three things wrong."""
+    if good and rng.random() < 0.6:
+        borders, moves = ref.read_plan(book, good)
+    else:
+        borders, moves = walked_plan(rng, book)
+    for _ in range(rng.choice((0, 1, 1, 1, 2))):
+        break_plan(rng, book, borders, moves)
+    style = rng.random()
+    if style < 0.12:
+        outside_plan(rng, book, borders, moves)
+    data = plan_bytes(borders, moves)
+    return spoiled_input(rng, data) if 0.12 < style < 0.24 else data
+
+
 def random_plans(rng, book, count=30, assignment=None):
     """Good plans where there is one, nearly good ones, hostile ones."""
     assignment = assignment or solved(book)
@@ -102,19 +129,7 @@ def random_plans(rng, book, count=30, assignment=None):
         yield good
     yield from (b"", rng.randbytes(ref.plan_length(book)))
     for _ in range(count):
-        if good and rng.random() < 0.6:
-            borders, moves = ref.read_plan(book, good)
-        else:
-            borders, moves = walked_plan(rng, book)
-        for _ in range(rng.choice((0, 1, 1, 1, 2))):
-            break_plan(rng, book, borders, moves)
-        style = rng.random()
-        if style < 0.12:
-            outside_plan(rng, book, borders, moves)
-        data = plan_bytes(borders, moves)
-        if 0.12 < style < 0.24:
-            data = spoiled_bytes(rng, data, (0, 1, 2, 255))
-        yield data
+        yield nearly_plan(rng, book, good)
 
 
 # ------------------------------------------------------ random assignments
@@ -131,6 +146,23 @@ def claim_more(rng, book, assignment):
     return bytes(out)
 
 
+def nearly_assignment(rng, book, good):
+    """A good assignment, where there is one, or one of trains that go anywhere: surplus claims, a variable changed, a wrong byte or length."""
+    if good and rng.random() < 0.6:
+        data = good
+    else:
+        borders, moves = walked_plan(rng, book)
+        if rng.random() < 0.5:
+            break_plan(rng, book, borders, moves)
+        data = ref.write_assignment(book, borders, moves)
+    style = rng.random()
+    if style < 0.25:
+        return claim_more(rng, book, data)
+    if style < 0.6:
+        return flipped(data, rng.randrange(len(data)))
+    return spoiled_input(rng, data) if style < 0.85 else data
+
+
 def random_assignments(rng, book, count=30, assignment=None):
     """Good assignments where there is one, nearly good ones, hostile ones."""
     good = assignment or solved(book)
@@ -140,22 +172,7 @@ def random_assignments(rng, book, count=30, assignment=None):
     yield from (b"", bytes(size), bytes([1]) * size, bytes([2]) * size)
     yield bytes(rng.randrange(2) for _ in range(size))
     for _ in range(count):
-        if good and rng.random() < 0.6:
-            data = good
-        else:
-            borders, moves = walked_plan(rng, book)
-            if rng.random() < 0.5:
-                break_plan(rng, book, borders, moves)
-            data = ref.write_assignment(book, borders, moves)
-        style = rng.random()
-        if style < 0.25:
-            data = claim_more(rng, book, data)
-        elif style < 0.6:
-            at = rng.randrange(size)
-            data = data[:at] + bytes([1 - data[at]]) + data[at + 1:]
-        elif style < 0.85:
-            data = spoiled_bytes(rng, data, (0, 1, 2, 255))
-        yield data
+        yield nearly_assignment(rng, book, good)
 
 
 # ------------------------------------------------------ random refutations
@@ -292,6 +309,28 @@ def spoil_ending(rng, data, steps):
         return data + step_frame([1], [1])
     at = rng.randrange(len(data))
     return data[:at] + bytes([data[at] ^ (1 << rng.randrange(8))]) + data[at + 1:]
+
+
+def damaged_refutation(rng, variables, clauses, steps):
+    """Bytes of a refutation with one thing wrong, or two."""
+    style = rng.random()
+    at = rng.randrange(len(steps))
+    if style < 0.5:
+        return spoil_steps(rng, variables, clauses, steps)
+    if style < 0.75:
+        return spoil_ending(rng, encode_steps(steps), steps)
+    if style < 0.83:
+        # a step once more: the numbers behind it are off by one
+        return encode_steps(steps[:at + 1] + steps[at:])
+    if style < 0.88:
+        other = rng.randrange(len(steps))
+        chosen = list(steps)
+        chosen[at], chosen[other] = chosen[other], chosen[at]
+        return encode_steps(chosen)
+    # behind a step an empty one that would pass if what the step set had stayed
+    literals, hints = steps[at]
+    kept = rng.choice(([], literals[1:], literals[:-1]))
+    return encode_steps(steps[:at + 1] + [(kept, rng.choice((hints[-1:], hints)))] + steps[at + 1:])
 
 
 def random_refutations(rng, book, count=30, steps=None, budget=2000):

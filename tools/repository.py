@@ -8,9 +8,13 @@ TOOLS = os.path.join(ROOT, "tools")
 CRATES = os.path.join(ROOT, "crates")
 EXAMPLES = os.path.join(ROOT, "examples")
 GENERATED = os.path.join(ROOT, "docs", "generated")
-# the built programs, and the one with all commands
+# what is built: programs, and what the tools build for themselves
 PROGRAMS = os.path.join(ROOT, "target", "bin")
-CABINET = "cabinet"
+FOR_TOOLS = os.path.join(ROOT, "target", "tools")
+
+
+class Stop(Exception):
+    """What keeps a subcommand from going on, in a line; it ends with status 2."""
 
 
 def read_bytes(name):
@@ -24,8 +28,11 @@ def write_bytes(name, data):
 
 
 def read_text(name):
-    with open(name, encoding="utf-8") as file:
-        return file.read()
+    try:
+        with open(name, encoding="utf-8") as file:
+            return file.read()
+    except UnicodeDecodeError as error:
+        raise Stop(f"{name}: no UTF-8 text, from byte {error.start} on") from None
 
 
 def write_text(name, text):

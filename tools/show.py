@@ -1,5 +1,6 @@
 """Prints a book in readable lines, from which `make` gives the same bytes again; or, with --book, a plan, an assignment or a refutation
-for that book. Remarks stand behind #; the first says what the reference's check answers.
+for that book. Remarks stand behind #; the first says what the reference's check answers. A plan and an assignment need --book. A refutation
+can be shown without it, but then with no answer and no numbers of clauses, which depend on the book.
 
 Directed segments are written 5> for segment 5 from its node a to its node b, and 5< for b to a. Of a plan: each node with a border, and
 for each train and interval its run, by number and by directed segments, rear first. Of an assignment: what each variable stands for that
@@ -15,10 +16,10 @@ can't be read.
 import sys
 
 from . import reference
-from .books import split
+from .books import kind_words, split
 from .reference import ABSENT, GONE, STEP, two_bytes
 from .repository import read_bytes
-from .text import BORDERS, book_lines, row, verdict_words
+from .text import book_lines, row, verdict_words
 
 KINDS = ("book", "plan", "assignment", "refutation")
 
@@ -29,8 +30,8 @@ class Unclear(Exception):
 
 def arguments(parser):
     parser.add_argument("file", metavar="FILE", help="the file to show")
-    parser.add_argument("--book", metavar="BOOK", help="the book that a plan, an assignment or a refutation is for")
-    parser.add_argument("--as", dest="kind", choices=KINDS, help="what the file is, where its bytes do not tell")
+    parser.add_argument("--book", metavar="BOOK", help="the book that a plan, an assignment or a refutation is for; the first two need it")
+    parser.add_argument("--as", dest="kind", choices=KINDS, help="what the file is, where its bytes do not tell; a plan or an assignment with --book")
     parser.add_argument("--runs", action="store_true", help="of a book: its trains' run lists too, behind #")
 
 
@@ -46,7 +47,8 @@ def kind_of(data, book):
             return "refutation"
         if first in range(reference.HEAD, reference.END + 1):
             return "book"
-        raise Unclear("this does not begin like a book; a plan, an assignment or a refutation needs --book, or give --as")
+        raise Unclear("this begins neither like a book nor like a refutation; a plan or an assignment needs its book: give --book BOOK; "
+                      "--as book or --as refutation shows the bytes all the same")
     plan, assignment = reference.plan_length(book), reference.Variables(book).count
     fitting = [name for name, length in (("plan", plan), ("assignment", assignment)) if len(data) == length]
     if len(fitting) == 1:
@@ -76,7 +78,7 @@ def border_lines(book, borders):
     for node, byte in enumerate(borders):
         if byte:
             odd = "" if byte == 1 else f", byte {byte}"
-            lines.append(f"border at node {node}{odd}  # kind {book.nodes[node]}, {BORDERS[book.nodes[node]]}")
+            lines.append(f"border at node {node}{odd}  # kind {book.nodes[node]}, {kind_words(book.nodes[node])}")
     return lines or ["no borders"]
 
 
@@ -174,7 +176,7 @@ def shown(data, book_data, kind, runs):
         if kind == "refutation":
             return refutation_lines(data, None)
         if kind != "book":
-            raise Unclear(f"a file can be shown as {kind} with its book alone: give --book")
+            raise Unclear(f"{'an' if kind[0] == 'a' else 'a'} {kind} needs its book: give --book BOOK too")
         accepted = reference.entry_read_book(data)[0] == "accepted"
         return book_lines(data) + (run_lines(data) if runs and accepted else [])
     answer = reference.entry_read_book(book_data)

@@ -1,7 +1,7 @@
 """Decides a formula in DIMACS CNF and shows it: prints "satisfiable" and writes an assignment, one byte 0 or 1 a variable, or prints
 "unsatisfiable" and writes a refutation in document 01's frames of kind 20. By default the solver script tools/solve.py decides, which knows
 nothing but the DIMACS text and the step rule; --with has one of Debian's solvers do it. The hints of its proof are found by tools/drat.rs,
-which is built beside its source where rustc is there. minisat writes no proof: then "unsatisfiable, without a proof" is printed, and nothing
+which is built as target/tools/drat where rustc is there. minisat writes no proof: then "unsatisfiable, without a proof" is printed, and nothing
 is written.
 
 Exit status: 0 answered; 1 a step is longer than a frame holds, or the converter refuses the proof; 2 a file or its text is wrong, the solver
@@ -13,7 +13,7 @@ import sys
 import tempfile
 
 from . import solve
-from .repository import TOOLS, read_text
+from .repository import FOR_TOOLS, TOOLS, read_text
 from .solve import Failure
 
 SOLVERS = ("cadical", "minisat", "picosat", "cryptominisat5")
@@ -129,6 +129,7 @@ def build_converter(drat):
     source = os.path.join(TOOLS, "drat.rs")
     if os.path.exists(drat) and os.path.getmtime(drat) >= os.path.getmtime(source):
         return
+    os.makedirs(os.path.dirname(os.path.abspath(drat)), exist_ok=True)
     result = start(["rustc", "-O", "--edition", "2021", source, "-o", drat])
     if result.returncode:
         raise Failure(2, result.stderr.strip())
@@ -138,18 +139,24 @@ def arguments(parser):
     parser.add_argument("formula", metavar="FORMULA", help="a file of DIMACS text")
     parser.add_argument("out", metavar="OUT", help="the file for the assignment or the refutation")
     parser.add_argument("--with", dest="solver", choices=SOLVERS, help="one of Debian's solvers in place of the script")
-    parser.add_argument("--drat", metavar="PROGRAM", help="the converter of proofs, already built; by default tools/drat, from tools/drat.rs")
+    parser.add_argument("--drat", metavar="PROGRAM", help="the converter of proofs, already built; by default target/tools/drat, from tools/drat.rs")
+
+
+def answer_with(options):
+    """The answer of one of Debian's solvers."""
+    drat = options.drat or os.path.join(FOR_TOOLS, "drat")
+    if options.solver != "minisat" and not options.drat:
+        build_converter(drat)
+    # whole paths, so that no name is taken for an option
+    print(answer(options.solver, os.path.abspath(options.formula), options.out, drat))
 
 
 def run(options):
-    if options.solver is None:
-        return solve.main([options.formula, options.out])
-    drat = options.drat or os.path.join(TOOLS, "drat")
     try:
-        if options.solver != "minisat" and not options.drat:
-            build_converter(drat)
-        # whole paths, so that no name is taken for an option
-        print(answer(options.solver, os.path.abspath(options.formula), options.out, drat))
+        if options.solver is None:
+            solve.answer(options.formula, options.out)
+        else:
+            answer_with(options)
     except Failure as failure:
         status, text = failure.args
         print(f"tools solve: {text}", file=sys.stderr)

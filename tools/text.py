@@ -4,11 +4,12 @@ A frame is a line. Behind # stands a remark, which is not read back. A frame tha
 not its kind's length, is a line of its kind and bytes; bytes at the end that are no whole frame are a line of bytes. So every file has
 its lines, and the lines give the very file.
 """
+import difflib
 import re
 import struct
 
 from . import reference
-from .books import encode, split
+from .books import BORDER_KINDS, encode, kind_words, split
 from .reference import CALL, END, HEAD, JOIN, NODE, SEGMENT, TRAIN, UNBREAKABLE
 
 # The line of each kind and the form of its payload: {} is a field, # the frame's number among those of its kind. A train's row of
@@ -24,11 +25,18 @@ LINES = {
     END: ("end", "<"),
 }
 FRAME, REST = "frame of kind ", "rest: "
-BORDERS = {0: "never", 1: "may be set", 2: "always set"}
+
+
+# the most bytes of a frame's payload
+MOST = 65535
 
 
 class BadText(Exception):
     """A line that says no frame, and why."""
+
+
+class TooLong(BadText):
+    """A line whose frame no book can have, since its length has two bytes."""
 
 
 # ---------------------------------------------------------------- directions
@@ -72,8 +80,8 @@ def frame_line(kind, payload, number):
 
 def remark(kind, payload, number, book):
     """What a reader of the line may want to know besides; the book where it is accepted."""
-    if kind == NODE and len(payload) == 1 and payload[0] in BORDERS:
-        return BORDERS[payload[0]]
+    if kind == NODE and len(payload) == 1 and payload[0] in BORDER_KINDS:
+        return kind_words(payload[0])
     if kind == TRAIN and book is not None:
         train = book.trains[number]
         return f"{train.l} long, up to {train.k} an interval, {len(book.runs[number])} runs"
@@ -143,14 +151,36 @@ def read_frame(line, counts):
     if other:
         if int(other[1]) > 65535:
             raise BadText("a kind has two bytes")
-        return [int(other[1]), read_hex(other[2])]
+        return [int(other[1]), frame_payload(read_hex(other[2]))]
     for kind, shape in PATTERNS.items():
         found = shape.fullmatch(line)
         if found:
             check_number(found, counts.get(kind, 0))
             counts[kind] = counts.get(kind, 0) + 1
             return [kind, packed(kind, found)]
-    raise BadText("this is no line of a book")
+    raise BadText(f"this is no line of a book; the nearest has the form: {nearest_form(line)}")
+
+
+def frame_payload(payload):
+    if len(payload) > MOST:
+        raise TooLong(f"a frame has at most {MOST:,} bytes, and this one has {len(payload):,}")
+    return payload
+
+
+def forms():
+    """Every line that there is, with N for a number."""
+    for kind, (form, _) in LINES.items():
+        yield form.replace("#", "N").replace("{}", "N") + (" N> N<" if kind == TRAIN else "")
+    yield from (FRAME + "N: 01 02", REST + "01 02")
+
+
+def nearest_form(line):
+    """The form that a line is most like; the word that it begins with tells first."""
+    plain, word = re.sub("[0-9]+", "N", line), re.split("[ :]", line)[0]
+    def likeness(form):
+        first = difflib.SequenceMatcher(None, re.split("[ :]", form)[0], word).ratio()
+        return first > 0.7 and first, difflib.SequenceMatcher(None, form, plain).ratio()
+    return max(forms(), key=likeness)
 
 
 def check_number(found, number):
@@ -173,5 +203,5 @@ def book_bytes(lines):
             elif line:
                 frames.append(read_frame(line, counts))
         except BadText as wrong:
-            raise BadText(f"line {at}: {wrong}") from None
+            raise type(wrong)(f"line {at}: {wrong}") from None
     return encode(frames) + rest

@@ -7,7 +7,6 @@ Exit status: 0 all held, 1 some failed, 2 wrong usage, or the program is missing
 import os
 import shutil
 import subprocess
-import sys
 import tempfile
 import time
 from collections import namedtuple
@@ -16,9 +15,9 @@ from . import reference
 from .inputs import encode_steps, step_frame
 from .known import (ASSIGNMENT_L, ASSIGNMENT_PADDED, BOOK_L, FORMULA_L, PLAN_L, PLAN_PADDED, REFUTATION_M, book_m, padded,
                     standing)
-from .repository import CABINET, PROGRAMS, ROOT, write_bytes
+from .program import CABINET, COMMANDS, built
+from .repository import PROGRAMS, ROOT, write_bytes
 
-COMMANDS = ("print_formula", "check_assignment", "check_plan", "check_refutation")
 MOST = reference.LENT_BYTES
 # seconds for one try
 LIMIT = 10
@@ -538,10 +537,7 @@ def arguments(parser):
 
 
 def run(options):
-    program = os.path.abspath(os.path.join(options.bin, CABINET))
-    if not os.access(program, os.X_OK):
-        print(f"tools try: no program {program}: rt check {CABINET} builds it", file=sys.stderr)
-        return 2
+    program = built(options.bin, CABINET)
     with tempfile.TemporaryDirectory() as folder:
         t = Tries(copied(program, folder), folder)
         for group in GROUPS:

@@ -25,10 +25,13 @@ import tempfile
 import threading
 from collections import Counter, namedtuple
 
+from .edits import edits_of
 from .repository import ROOT, commit, page, read_text, today, write_text
 
 LIST = "wrong_programs.txt"
 PAGE = "wrong_programs.md"
+# the most characters of the prover's words that are shown
+MOST = 100
 # what the prover says where an edit has only made the proof unfit for the code
 UNFIT = ("that can be named from here", "has no field", "this `×` type has")
 # what it says of a statement because of another one
@@ -286,7 +289,7 @@ def try_crate(copy, crate, found):
             if meaning == "held up" and len(entries) > 1:
                 again.append([(entry, function)])
                 continue
-            rows.append(Row(full_name(function), entry.what, said[:100], meaning == "fact"))
+            rows.append(Row(full_name(function), entry.what, first_words(said), meaning == "fact"))
             print(f"{rows[-1].function} | {entry.what} | {'' if meaning == 'fact' else 'NOT REFUSED BY A FACT: '}{rows[-1].said}", flush=True)
         if not waiting:
             waiting, again = again, []
@@ -330,22 +333,20 @@ def try_all(root, by_crate, jobs):
 
 def gate_edits(root, crate, functions):
     """How many of the gate's edits change each function of a crate."""
-    counts, folder = Counter(), os.path.join(root, "crates", crate, "must-fail")
-    for name in sorted(os.listdir(folder)) if os.path.isdir(folder) else []:
-        if name.endswith(".edit"):
-            counts.update(edited_functions(root, crate, functions, read_text(os.path.join(folder, name))))
+    counts = Counter()
+    for edit in edits_of(root, crate):
+        counts.update(edited_functions(root, crate, functions, edit))
     return counts
 
 
 def edited_functions(root, crate, functions, edit):
     """The functions that an edit changes."""
-    found, file = set(), ""
-    for line in edit.split("\n"):
-        if line.startswith("file: "):
-            file = os.path.join("crates", crate, line.removeprefix("file: "))
-        if line.startswith("old: ") and file.endswith(".rt"):
+    found = set()
+    for change in edit.changes:
+        file = os.path.join("crates", crate, change.file)
+        if file.endswith(".rt"):
             text = read_text(os.path.join(root, file))
-            at = text[:text.find(line.removeprefix("old: "))].count("\n")
+            at = text[:text.find(change.old)].count("\n")
             found |= {full_name(f) for f in functions if f.file == file and f.first <= at < f.end}
     return found
 
@@ -362,6 +363,16 @@ def fewer_than_two(root, by_crate):
 
 
 # ----------------------------------------------------------------- the page
+
+
+def first_words(said):
+    """What stands in a cell, cut where it is long, and not between two backticks, which would be left open."""
+    if len(said) <= MOST:
+        return said
+    cut = said[:MOST]
+    if cut.count("`") % 2:
+        cut = cut[:cut.rindex("`")].rstrip() or cut + "`"
+    return cut + " .."
 
 
 def cell(text):

@@ -10,11 +10,11 @@ import os
 import random
 import shutil
 import subprocess
-import sys
 import tempfile
 from collections import Counter
 
 from ..counts import listed
+from ..program import built
 from ..repository import CRATES, PROGRAMS, read_bytes, write_bytes
 from . import FILES
 from .records import answer, split
@@ -184,12 +184,14 @@ def report(made, got):
 
 
 def run_file(program, name):
-    """What the program prints of one file of records, on a copy of data/ of its own."""
+    """What the program prints of one file of records, on a copy of data/ of its own. On standard error it names files that are not there, as
+    some records ask for; so that is shown only where the program fails."""
     with tempfile.TemporaryDirectory() as folder:
         copy = shutil.copytree(path("data"), os.path.join(folder, "data"))
-        done = subprocess.run([program, name], cwd=copy, stdin=subprocess.DEVNULL, stdout=subprocess.PIPE, timeout=LIMIT, check=False)
+        done = subprocess.run([program, name], cwd=copy, stdin=subprocess.DEVNULL, capture_output=True, timeout=LIMIT, check=False)
     if done.returncode:
-        print(f"{name}: the program ended with status {done.returncode}")
+        said = done.stderr.decode(errors="replace").strip().split("\n")[-1]
+        print(f"{name}: the program ended with status {done.returncode}" + (f": {said}" if said else ""))
     return done.stdout
 
 
@@ -207,10 +209,7 @@ def try_file(program, module, said):
 
 
 def run_program(modules, folder):
-    program = os.path.abspath(os.path.join(folder, "cases"))
-    if not os.access(program, os.X_OK):
-        print(f"tools cases: no program {program}: rt check cases builds it", file=sys.stderr)
-        return 2
+    program = built(folder, "cases")
     said = said_by_file()
     return max([try_file(program, module, said.get(module.NAME)) for module in modules])
 

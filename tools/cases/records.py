@@ -16,12 +16,12 @@ import struct
 from collections import namedtuple
 
 from .. import reference
+from ..program import BY_LETTER, CHECKS
 from ..reference import LENT_BYTES, LENT_CLAUSES, LENT_TRAIL, LENT_VALUES, LENT_WORDS
 
 # what the programs lend, by question
 LENT = {"F": (LENT_WORDS,), "D": (LENT_WORDS,), "A": (LENT_BYTES,), "P": (LENT_BYTES,),
         "N": (LENT_WORDS, LENT_CLAUSES, LENT_VALUES, LENT_TRAIL)}
-COMMANDS = {"a": "check_assignment", "p": "check_plan", "n": "check_refutation"}
 NO_FILE = b"no file\n"
 ACCEPTED = "accepted"
 
@@ -173,11 +173,12 @@ def refutation_answer(record, files):
 
 def command_says(question, book, second, result, files):
     """What a command prints; an accepted input's result is stored under its name, where it has one."""
-    if book not in files or question != "f" and second not in files:
+    command = BY_LETTER[question]
+    if book not in files or command in CHECKS and second not in files:
         return b""
-    if question == "f":
+    if command not in CHECKS:
         return reference.print_formula(files[book])
-    found = reference.check_two(COMMANDS[question], files[book], files[second])
+    found = reference.check_two(command, files[book], files[second])
     if found[0] == "accepted" and len(found) > 1 and result:
         files[result] = found[1]
     return reference.verdict_line(found)
@@ -192,7 +193,7 @@ def command_answer(record, files):
 
 
 ANSWERS = {"B": read_answer, "R": runs_answer, "F": formula_answer, "D": digest_answer, "A": assignment_answer, "P": plan_answer,
-           "N": refutation_answer, "f": command_answer, "a": command_answer, "p": command_answer, "n": command_answer}
+           "N": refutation_answer, **{letter: command_answer for letter in BY_LETTER}}
 
 
 def answer(record, files):

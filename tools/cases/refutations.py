@@ -10,7 +10,7 @@ from ..books import Spec, encode, spec_bytes
 from ..inputs import TooLong, encode_steps, step_frame
 from ..known import BOOK_L, LIMITS, RINGS, SMALL_RINGS, book_m, great_ring, ring
 from ..random_books import random_book, refused_books
-from ..random_inputs import honest_steps, spoil_ending, spoil_steps
+from ..random_inputs import damaged_refutation, honest_steps
 from ..reference import word_count
 from ..small_solver import Solver, refutation_steps
 from .records import ACCEPTED, LENT, Record, lending
@@ -19,7 +19,8 @@ NAME, SEED, COUNT = "refutations.cases", 11, 1946
 # random books are made as long as there is room; the most that a random refutation may have, and how many spoiled ones stand behind it
 MOST_FILE, EACH = 400, 2
 FULL = LENT["N"]
-WORDS, CLAUSES, VALUES, TRAIL = range(4)
+# their places in what is lent
+WORDS, CLAUSES = range(2)
 LEAST = -2 ** 31
 # how often an answer has to occur
 OFTEN = {**{str(n): 3 for n in range(1, 12)}, **{key: 120 for key in (ACCEPTED, "12", "17", "18", "19", "20", "21")}}
@@ -576,28 +577,6 @@ def refuting_steps(rng, variables, clauses):
     return found[-1] if rng.random() < 0.8 else rng.choice(found)
 
 
-def spoiled(rng, variables, clauses, steps):
-    """Bytes of a refutation with one thing wrong, or two."""
-    style = rng.random()
-    at = rng.randrange(len(steps))
-    if style < 0.5:
-        return spoil_steps(rng, variables, clauses, steps)
-    if style < 0.75:
-        return spoil_ending(rng, encode_steps(steps), steps)
-    if style < 0.83:
-        # a step once more: the numbers behind it are off by one
-        return encode_steps(steps[:at + 1] + steps[at:])
-    if style < 0.88:
-        other = rng.randrange(len(steps))
-        chosen = list(steps)
-        chosen[at], chosen[other] = chosen[other], chosen[at]
-        return encode_steps(chosen)
-    # behind a step an empty one that would pass if what the step set had stayed
-    literals, hints = steps[at]
-    kept = rng.choice(([], literals[1:], literals[:-1]))
-    return encode_steps(steps[:at + 1] + [(kept, rng.choice((hints[-1:], hints)))] + steps[at + 1:])
-
-
 def random_lent(rng, variables, clauses, steps):
     """All that the programs lend, just enough, or one too few for the formula, a step or the end."""
     style = rng.random()
@@ -631,7 +610,7 @@ def random_cases(rng):
                 continue
         yield case(None, data, encode_steps(steps), random_lent(rng, variables, clauses, steps))
         for _ in range(EACH):
-            yield case(None, data, spoiled(rng, variables, clauses, steps), random_lent(rng, variables, clauses, steps))
+            yield case(None, data, damaged_refutation(rng, variables, clauses, steps), random_lent(rng, variables, clauses, steps))
 
 
 def all_records(rng):

@@ -15,10 +15,9 @@ from .. import reference, solve
 from ..features import after, features
 from ..inputs import plan_bytes, read_steps
 from ..random_books import random_book
-from ..random_inputs import break_plan, claim_more, outside_plan, spoiled_bytes
+from ..random_inputs import break_plan, claim_more, damaged_refutation, flipped, outside_plan, spoiled_input
 from ..repository import read_bytes, write_bytes
 from .records import Record, refutation_answer
-from .refutations import spoiled
 from .solver_books import altered, shorter, trains_on_a_way, unset
 
 NAME, SEED = "solver.cases", 1
@@ -123,25 +122,23 @@ def damaged_assignment(rng, book, good):
     style, at = rng.random(), rng.randrange(len(good))
     if style < 0.2:
         return claim_more(rng, book, good)
-    if style < 0.7:
-        return good[:at] + bytes([1 - good[at]]) + good[at + 1:]
-    return spoiled_bytes(rng, good, (0, 1, 2, 255))
+    return flipped(good, at) if style < 0.7 else spoiled_input(rng, good)
 
 
 def damaged_plan(rng, book, good):
     borders, moves = reference.read_plan(book, good)
     style = rng.random()
     if style < 0.15:
-        return spoiled_bytes(rng, good, (0, 1, 2, 255))
+        return spoiled_input(rng, good)
     (outside_plan if style < 0.3 else break_plan)(rng, book, borders, moves)
     return plan_bytes(borders, moves)
 
 
-def damaged_refutation(rng, book, good):
-    return spoiled(rng, *reference.formula(book), read_steps(good))
+def damaged_steps(rng, book, good):
+    return damaged_refutation(rng, *reference.formula(book), read_steps(good))
 
 
-DAMAGES = {"A": damaged_assignment, "P": damaged_plan, "N": damaged_refutation}
+DAMAGES = {"A": damaged_assignment, "P": damaged_plan, "N": damaged_steps}
 
 
 def damaged(rng, question, answered, good):

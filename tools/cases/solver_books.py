@@ -1,6 +1,6 @@
 """Random books for a solver: trains on one way, or against each other, over loops and junctions; and books nearly alike."""
 from .. import reference
-from ..books import Spec, encode, spec_bytes, split
+from ..books import MAY_BE_SET, NEVER, Spec, encode, spec_bytes, split
 from ..random_books import random_lengths, random_path, random_track, ring, row, track_of, turned
 
 # ---------------------------------------------------------------- the track
@@ -70,7 +70,7 @@ def lay_track(rng, spec, n, topologies):
         spec.segments = [(a, b, s) for s, (a, b, _) in enumerate(spec.segments)]
         spec.unbreakable = []
     elif style < 0.8 and not spec.unbreakable:
-        spec.nodes = [rng.choice((1, 1, 1, 1, kind)) for kind in spec.nodes]
+        spec.nodes = [rng.choice((*(MAY_BE_SET,) * 4, kind)) for kind in spec.nodes]
 
 
 # --------------------------------------------------------------- the trains
@@ -139,8 +139,8 @@ def unset(data):
     """The book with each node that may be a border made one that never is."""
     frames, _ = split(data)
     for kind, payload in frames:
-        if kind == reference.NODE and payload[0] == 1:
-            payload[0] = 0
+        if kind == reference.NODE and payload[0] == MAY_BE_SET:
+            payload[0] = NEVER
     return encode(frames)
 
 

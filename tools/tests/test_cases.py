@@ -8,7 +8,7 @@ from .. import known
 from ..cases import FILES, command, programs
 from ..cases.records import Record, answer, checksum, lending, lent, numbers, split
 from ..known import ASSIGNMENT_L, BOOK_L, FORMULA_L, PLAN_L, REFUTATION_M
-from ..repository import ROOT, read_bytes, write_bytes
+from ..repository import ROOT, Stop, read_bytes, write_bytes
 from .stand_in import CASES, InFolder, printed, script
 
 
@@ -148,10 +148,20 @@ class Command(InFolder):
 
     def test_run(self):
         self.run_command()
-        self.assertEqual(self.run_command(run_program=True)[0], 2)
+        with self.assertRaisesRegex(Stop, "no program .*/bin/cases: rt check cases builds it"):
+            self.run_command(run_program=True)
         script(self.path("bin", "cases"), CASES.format(root=ROOT, fault="pass"))
         status, said = self.run_command(run_program=True)
         self.assertEqual((status, said.count("answers as stored")), (0, 2))
+
+    def test_standard_error_of_the_program_is_not_shown(self):
+        """Records ask for files that are not there; a program that fails is told with its last words."""
+        self.run_command()
+        for fault, status, shown in (("sys.stderr.write('missing: No such file or directory\\n')", 0, False),
+                                     ("sys.exit('out of memory')", 1, True)):
+            script(self.path("bin", "cases"), CASES.format(root=ROOT, fault=fault))
+            found, said = self.run_command(run_program=True)
+            self.assertEqual((found, "No such file" in said, "ended with status 1: out of memory" in said), (status, False, shown))
 
     def test_run_names_the_first_difference(self):
         self.run_command()

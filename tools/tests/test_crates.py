@@ -68,6 +68,35 @@ class Named(Repository):
         self.assertIn("| `program` | a program, with a module that has a crate's name | `spec`, `libc`, `io`, `os` (model) |", text)
 
 
+class Headings(Repository):
+    """crates.txt in sections."""
+
+    def setUp(self):
+        super().setUp()
+        text = "# of all crates\n\n## What a reader must believe\n" + CRATES.replace("# scans", "# of a section\n## From bytes to a book\n# scans")
+        self.plain = self.listed
+        write_text(self.path("crates.txt"), text)
+        self.listed = crates.Listed(self.folder)
+
+    def test_a_heading_is_no_description(self):
+        self.assertEqual(self.listed.entries, self.plain.entries)
+        self.assertEqual(self.listed.remarks, self.plain.remarks)
+        self.assertEqual(dict(self.listed.sections()), {
+            "What a reader must believe": ["model", "spec"], "From bytes to a book": ["checks", "program"]})
+        self.assertEqual(dict(self.plain.sections()), {"": ["model", "spec", "checks", "program"]})
+
+    def test_page(self):
+        head = "| Crate | What it has | Names |\n|---|---|---|\n"
+        text, plain = crates.crates_page(self.listed), crates.crates_page(self.plain)
+        self.assertIn(f"## What a reader must believe\n\n{head}| `model` | structs | nothing |\n", text)
+        self.assertIn(f"\n\n## From bytes to a book\n\n{head}| `checks` | scans |", text)
+        self.assertEqual((plain.count(head), "## " in plain), (1, False))
+        # but for headings, both have the same rows
+        rows = [[line for line in page.split("\n") if line.startswith("| `")] for page in (text, plain)]
+        self.assertEqual(*rows)
+        self.assertTrue(text.endswith(" |\n") and plain.endswith(" |\n"))
+
+
 LOG = '''note: no function
 rt: spec proved (8 s)
 rt: track proved (13 s)
@@ -107,8 +136,15 @@ class Gate(InFolder):
         os.makedirs(self.path("target", "old"), exist_ok=True)
         script(self.path(".ci", "run"), f"import shutil, sys\nshutil.rmtree({self.path('target')!r})\nprint({text!r}, end='')\nsys.exit({status})\n")
         with mock.patch.multiple(gate, ROOT=self.folder, page=self.path), printed() as out:
-            found = gate.run(types.SimpleNamespace(log=None))
+            found = gate.run(types.SimpleNamespace(log=None, commit=None))
         return found, out.getvalue()
+
+    def test_the_commit_of_a_log(self):
+        write_text(self.path("log"), LOG)
+        for given, named in (("abc1234", "abc1234"), (None, "of the tree")):
+            with mock.patch.multiple(gate, page=self.path, commit=lambda: "of the tree"), printed():
+                self.assertEqual(gate.run(types.SimpleNamespace(log=self.path("log"), commit=given)), 0)
+            self.assertRegex(read_text(self.path(gate.PAGE)), rf"from a log of \d+-\d+-\d+, commit {named}\.")
 
     def test_run(self):
         plain = LOG[:LOG.index("\nreal")]

@@ -1,14 +1,17 @@
 """The solver script, and what tries the built program: with a program that answers as the reference does, and with faulty ones."""
+import importlib.util
 import itertools
 import os
 import random
+import sys
+import tempfile
 import types
-import unittest
 from unittest import mock
 
-from .. import ask, example, fresh, known, reference, selftest, solve, solver, try_programs
+from .. import ask, example, fresh, generated, known, reference, samples, solve, solver, try_programs
+from ..command import main
 from ..inputs import read_steps
-from ..repository import EXAMPLES, ROOT, read_bytes, write_bytes, write_text
+from ..repository import EXAMPLES, ROOT, Stop, read_bytes, write_bytes, write_text
 from .stand_in import ALWAYS_ACCEPTED, CABINET, InFolder, printed, script
 
 
@@ -94,9 +97,9 @@ class Reference(InFolder):
         self.assertEqual(read_bytes(self.path("plan")), known.PLAN_L)
 
     def test_documents_examples(self):
-        selftest.check_figures()
-        selftest.check_shapes()
-        selftest.check_books_l_and_m()
+        samples.check_figures()
+        samples.check_shapes()
+        samples.check_books_l_and_m()
 
 
 class Example(InFolder):
@@ -190,6 +193,92 @@ class Trials(InFolder):
                 self.assertEqual(sum(session.count["books"].values()), 1)
 
 
-class Commands(unittest.TestCase):
+    def test_a_book_s_number_that_is_none(self):
+        """Told before anything is made."""
+        script(self.path("bin", "cabinet"), CABINET)
+        os.mkdir(self.path("temporary"))
+        for seed in ("7/x", "7/", "7/-1", "7/1/2"):
+            with mock.patch.object(tempfile, "tempdir", self.path("temporary")), printed() as out:
+                self.assertEqual(main(["fresh", seed, "1", "--bin", self.path("bin")]), 2)
+            self.assertEqual(out.getvalue(), f"tools fresh: {seed}: behind the stroke stands the number of a book, as in 7/3\n")
+        self.assertEqual(os.listdir(self.path("temporary")), [])
+
+    def test_the_folder_of_a_session(self):
+        """It goes where nothing was kept, also where a session ends early."""
+        script(self.path("bin", "cabinet"), CABINET)
+        os.mkdir(self.path("temporary"))
+        for end in (KeyboardInterrupt, Stop("no converter")):
+            with mock.patch.object(tempfile, "tempdir", self.path("temporary")), mock.patch.object(fresh, "try_books", side_effect=end), printed():
+                with self.assertRaises((KeyboardInterrupt, Stop)):
+                    fresh.run(types.SimpleNamespace(seed="7/1", seconds=1.0, bin=self.path("bin")))
+        self.assertEqual(os.listdir(self.path("temporary")), [])
+
+
+class Bench(InFolder):
+    def test_books(self):
+        """bench/make_books.py makes its books, and the reference takes each."""
+        path = os.path.join(ROOT, "bench", "make_books.py")
+        found = importlib.util.spec_from_file_location("make_books", path)
+        make_books = importlib.util.module_from_spec(found)
+        with mock.patch.object(sys, "path", list(sys.path)), printed() as out:
+            found.loader.exec_module(make_books)
+            make_books.main(self.folder)
+        names = sorted(os.listdir(self.folder))
+        self.assertEqual(names, sorted(
+            ["big_star.book", "big_ring.book", "big_lanes.book", "small_l.book", "shut.book", "ring_8.book", "ring_16.book", "ring_32.book",
+             "stand_16.book", "stand_16.plan", "stand_64.book", "stand_64.plan"]))
+        self.assertEqual(out.getvalue().count("\n"), 10)
+        book, plan = (read_bytes(self.path("stand_16." + kind)) for kind in ("book", "plan"))
+        self.assertEqual(reference.check_two("check_plan", book, plan)[0], "accepted")
+
+
+class Commands(InFolder):
     def test_root(self):
         self.assertTrue(os.path.exists(os.path.join(ROOT, "crates.txt")))
+
+    def said(self, *words):
+        with printed() as out:
+            try:
+                status = main(list(words))
+            except SystemExit as end:
+                status = end.code
+        return status, out.getvalue()
+
+    def test_a_test_that_is_not_there(self):
+        for name in ("nosuch", "test_text.Nosuch", "command", "test_text.Books.nosuch", ""):
+            status, said = self.said("test", name)
+            self.assertEqual((status, said.count("\n"), said.startswith(f"tools test: no test {name};")), (2, 1, True), said)
+
+    def test_how_many_names(self):
+        for words, many in ((("check_refutation", "a"), "2"), (("check_plan", "a"), "2 or 3"), (("print_formula", "a", "b"), "0 or 1")):
+            status, said = self.said("reference", *words)
+            self.assertEqual((status, said.split(" takes ")[-1]), (2, f"{many} names\n"))
+
+    def test_errors_of_solve(self):
+        """They begin alike, whoever finds them."""
+        write_text(self.path("formula"), "p cnf 1\n")
+        with mock.patch.dict(os.environ, PATH=self.folder):
+            for words in ((), ("--with", "minisat")):
+                for name in ("formula", "missing"):
+                    status, said = self.said("solve", self.path(name), self.path("out"), *words)
+                    self.assertEqual((status, said.startswith("tools solve: "), said.count("\n")), (2, True, 1), said)
+
+    def test_the_converter_s_place(self):
+        """It is built below target/, which is made."""
+        script(self.path("bin", "rustc"), "import sys\nopen(sys.argv[-1], 'w').write('built')\n")
+        self.with_programs()
+        with mock.patch.object(solver, "FOR_TOOLS", self.path("target", "tools")):
+            write_text(self.path("formula"), dimacs(1, [[1]]))
+            script(self.path("bin", "cadical"), "import sys\nprint('v 1 0')\nsys.exit(10)\n")
+            self.assertEqual(self.said("solve", self.path("formula"), self.path("out"), "--with", "cadical"), (0, "satisfiable\n"))
+        self.assertEqual(read_bytes(self.path("target", "tools", "drat")), b"built")
+
+    def test_every_page(self):
+        """With --all the gate runs first, since it proves what the wrong programs are held against."""
+        for words, wanted in ((("--all",), ["gate", "wrong", "short"]), ((), ["short"])):
+            done = []
+            with mock.patch.object(generated.gate, "run", lambda options: done.append("gate") or int(options.log is not None)), \
+                    mock.patch.object(generated.wrong, "run", lambda options: done.append("wrong") or 1 - int(options.tidy)), \
+                    mock.patch.object(generated, "write_short", lambda: done.append("short") or 0):
+                self.assertEqual(self.said("generated", *words)[0], 1 if words else 0)
+            self.assertEqual(done, wanted)

@@ -4,10 +4,11 @@ import random
 import unittest
 
 from .. import known, make, show
-from ..books import encode, spec_bytes
+from ..books import BORDER_KINDS, border_bytes, encode, spec_bytes
+from ..command import main
 from ..inputs import encode_steps
 from ..random_books import damaged_book, random_book
-from ..reference import check_two, plan_length, read_book
+from ..reference import check_two, entry_read_book, keeps_rule_1, plan_length, read_book
 from ..repository import EXAMPLES, read_bytes, read_text, write_bytes, write_text
 from ..text import BadText, book_bytes, book_lines
 from .stand_in import InFolder, printed
@@ -64,7 +65,9 @@ class Books(unittest.TestCase):
             "end"])
 
     def test_wrong_lines(self):
-        for line, why in (("node 1: border kind 0", "number 0"), ("node 0: border kind 256", "larger"), ("nod 0: border kind 0", "no line"),
+        for line, why in (("node 1: border kind 0", "number 0"), ("node 0: border kind 256", "larger"),
+                          ("nod 0: border kind 0", "no line of a book; the nearest has the form: node N: border kind N$"),
+                          ("train 0: 100 m, stands on 0>", "form: train N: .* stands on N> N<$"), ("rest 01", "form: rest: 01 02$"),
                           ("train 0: 1 metres, 1 km/h, departs at 0, stands on 3", "directed"), ("frame of kind 9: 1", "hexadecimal"),
                           ("rest: 01\nend", "behind the rest"), ("frame of kind 65536:", "two bytes"),
                           ("train 0: 1 metres, 1 km/h, departs at 0, stands on 128>", "larger")):
@@ -155,3 +158,49 @@ class Commands(InFolder):
             self.assertEqual(make.run(self.options(text=self.path("text"), book=self.path("book"))), 1)
         self.assertIn("line 2", out.getvalue())
         self.assertFalse(os.path.exists(self.path("book")))
+
+    def main(self, *words):
+        with printed() as out:
+            status = main(list(words))
+        return status, out.getvalue()
+
+    def test_text_that_is_none_and_frames_that_are_too_long(self):
+        for data, why in ((b"end\n\xff\n", "no UTF-8 text, from byte 4 on"),
+                          (b"frame of kind 9: " + b"00" * 65536, "line 1: a frame has at most 65,535 bytes, and this one has 65,536")):
+            write_bytes(self.path("text"), data)
+            status, said = self.main("make", self.path("text"), self.path("book"))
+            self.assertEqual((status, said.count("\n"), why in said), (2, 1, True), said[:200])
+            self.assertTrue(said.startswith("tools make: "))
+            self.assertFalse(os.path.exists(self.path("book")))
+        write_bytes(self.path("text"), b"frame of kind 9: " + b"00" * 65535)
+        self.assertEqual(self.main("make", self.path("text"), self.path("book"))[0], 0)
+        self.assertEqual(len(read_bytes(self.path("book"))), 65539)
+
+    def test_a_plan_and_an_assignment_need_a_book(self):
+        for name, data in (("plan", known.PLAN_L), ("assignment", known.ASSIGNMENT_L[1:])):
+            write_bytes(self.path(name), data)
+            for words in ((), ("--as", name)):
+                status, said = self.main("show", self.path(name), *words)
+                self.assertEqual((status, "give --book BOOK" in said), (1, True), said)
+        write_bytes(self.path("refutation"), known.REFUTATION_M)
+        self.assertEqual(self.main("show", self.path("refutation")), (0, "step 1: empty; hints 16 17 19\n"))
+
+
+class Kinds(unittest.TestCase):
+    def test_the_reference_says_the_same(self):
+        """Which kinds there are, and which bytes keep rule 1."""
+        for kind in range(256):
+            spec = known.row_spec(1)
+            spec.nodes = [kind, 0]
+            answer = entry_read_book(spec_bytes(spec))
+            self.assertEqual(answer[0] == "accepted", kind in BORDER_KINDS, answer)
+            if kind in BORDER_KINDS:
+                book = read_book(spec_bytes(spec))
+                self.assertEqual(tuple(byte for byte in (0, 1) if keeps_rule_1(book, [byte, 0], None)), border_bytes(kind))
+
+
+class Help(unittest.TestCase):
+    def test_make_tells_the_kinds(self):
+        with printed() as out, self.assertRaises(SystemExit):
+            main(["make", "--help"])
+        self.assertIn("0 never, 1 may be set, 2 always set", out.getvalue())

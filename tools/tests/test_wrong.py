@@ -5,6 +5,7 @@ import unittest
 from unittest import mock
 
 from .. import wrong
+from ..edits import read_edit
 from ..repository import read_text, write_text
 from .stand_in import InFolder, printed, script
 
@@ -151,6 +152,14 @@ class Tidy(Repository):
         self.assertEqual(wrong.fewer_than_two(self.folder, by_crate), ["other::only", "track::wide", "track::Frame::cursor"])
 
 
+class Edits(unittest.TestCase):
+    def test_read(self):
+        text = "# what it tries\n# and more\nfile: src/lib.rt\nold:     a: 1,\nnew:     a: 2,\nfile: specs/A.antt\nold: x\nnew:\n"
+        self.assertEqual(read_edit("one_edit", text), (
+            "one_edit", "what it tries", [("src/lib.rt", "    a: 1,", "    a: 2,"), ("specs/A.antt", "x", "")]))
+        self.assertEqual(read_edit("one_edit", "file: src/lib.rt\nold: a\nnew: b\n").what, "one edit")
+
+
 class Verdicts(Repository):
     def says(self, name, output):
         return wrong.verdict(self.function(name), output)[1]
@@ -240,6 +249,15 @@ class Trial(Repository):
 
 
 class Page(unittest.TestCase):
+    def test_words_are_cut_with_their_backticks_closed(self):
+        self.assertEqual(wrong.first_words("`a` and `b`"), "`a` and `b`")
+        for said in ("x" * 95 + " `name-of-it` follows", "`" + "x" * 200 + "`", "`a`" * 60, "x" * 99 + "``", "x" * 98 + "`y` z"):
+            cut = wrong.first_words(said)
+            self.assertEqual(cut.count("`") % 2, 0, cut)
+            self.assertTrue(cut.endswith(" .."), cut)
+            self.assertLessEqual(len(cut), wrong.MOST + 4)
+        self.assertEqual(wrong.first_words("x" * 95 + " `name-of-it` follows"), "x" * 95 + " ..")
+
     def test_only_the_rows_of_what_was_tried_are_replaced(self):
         row = wrong.Row("a::f", "x | y", "says `|` and \\", True)
         with mock.patch.multiple(wrong, today=lambda: "day 1", commit=lambda: "c1"):

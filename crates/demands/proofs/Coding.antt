@@ -15,15 +15,8 @@ use Rattle.spec.specs.Instance.{Instance}
 use Rattle.spec.specs.Plan.{Plan, Move, run, absent, gone, isAbsent, isGone, runs, ifRun, isMove}
 use Rattle.spec.specs.Formula.{borderVar, runVar, goneVar, familyB, familyC, base}
 use Rattle.spec.specs.Assignment.{satisfies, firstRun, chosen, decoded}
+pub use Rattle.demands.specs.Claims.{Codes}
 use Rattle.demands.proofs.Meaning.{meansB, meansC}
-
--- A valuation and a plan say the same.
-pub record Codes (I : Instance) (α : ℕ → Bool) (p : Plan) : Type 0 where
-  pub borders : (n : ℕ) → n < I .nodes → α (borderVar I n) ≡ p .border n
-  pub moves : (i : ℕ) → i < I .trains → (t : ℕ) → t < I .intervals → T (isMove I i (p .move i t))
-  pub runsSame : (i : ℕ) → i < I .trains → (t : ℕ) → t < I .intervals → (r : ℕ) → r < I .runs i
-      → α (runVar I i t r) ≡ runs (p .move i t) (eqb r)
-  pub goneSame : (i : ℕ) → i < I .trains → (t : ℕ) → t < I .intervals → α (goneVar I i t) ≡ isGone (p .move i t)
 
 -- Two plans are the same wherever the book has a node, a train and an interval.
 pub record Agree (I : Instance) (p q : Plan) : Type 0 where

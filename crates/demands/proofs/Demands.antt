@@ -21,6 +21,7 @@ use Rattle.spec.specs.Formula.{formula, variables, claimVar, wordsOf}
 use Rattle.spec.specs.Assignment.{satisfies, assigned, assignmentFits, decode, claims, encode}
 use Rattle.spec.specs.Refutation.{ProofStep, Lent, fileOf, InFields, GoodSteps, clausesFit}
 use Rattle.spec.specs.Entry.{overwrite, written, formulaWritten, writeFormula, formulaOutput, decodedFor, encodedFor, planOutput, assignmentOutput, checkAssignment, checkPlan, checkRefutation, refutedFor, formulaFits, wordsAfter}
+pub use Rattle.demands.specs.Claims.{IsRefutation, LongEnough, Holds}
 use Rattle.demands.proofs.Encoding.{shape, assigned-claim}
 use Rattle.demands.proofs.Extra.{no-condition}
 use Rattle.demands.proofs.Plans.{plan-satisfies, plan-fits, run-inside, decoded-fits, decoded-coded, decoded-keeps, decode-encoded}
@@ -206,18 +207,6 @@ assignment-exact book s b n read room =
       (λ h. (decode I s, check-assignment book b read s n (decode I s) .1 (room, assignment-iff I s .1 h, refl))),
     )
 
--- The file is document 01's frames of a list of steps, literals and hints as laid down there; each step follows the step rule;
--- and exactly one step, the last, is the empty clause.
-pub IsRefutation : Instance → Bytes → List ProofStep → Type 0
-IsRefutation I file steps =
-    (file ≡ fileOf steps) × ((st : ProofStep) → List·Memᴰ st steps → InFields st) × GoodSteps (variables I) (formula I) steps
-
--- The lent memory is as long as document 01 names: it holds the formula, and the clauses of the file's steps behind it.
-pub LongEnough : Instance → Bytes → Lent → Type 0
-LongEnough I file lent =
-    T (formulaFits lent I)
-    × ((steps : List ProofStep) → file ≡ fileOf steps → ((st : ProofStep) → List·Memᴰ st steps → InFields st) → T (clausesFit lent (formula I ++ map (λ st. st .literals) steps)))
-
 -- "a refutation exactly when it is in document 01's frames, literals and hints as laid down there, each of its steps follows the
 -- step rule, and exactly one step, the last, is the empty clause"
 pub refutation-exact : (book refutation : Bytes) (b : Book) (lent : Lent) → readBook book ≡ accepted b
@@ -233,13 +222,6 @@ refutation-exact book r b lent read isBytes long =
     )
 
 -- ---- Demand 1, outputs; `Refusals` has its refusals
-
--- "outputs untouched", and "A success changes only the stated length of an output": what an output holds after the call, by what the
--- check returns. An accepted check's result stands ahead of what the output held behind it; a refused one changes nothing.
-abbrev pub Holds : {A R : Type 0} → Verdict R → (R → List A) → (old after : List A) → Type 0
-Holds {R = R} verdict result old after =
-    ((r : R) → verdict ≡ accepted r → (length (result r) ≤ length old) × (after ≡ result r ++ drop (length (result r)) old))
-    × ((number detail : ℕ) → verdict ≡ refused number detail → after ≡ old)
 
 -- the words that are written
 pub formula-output : (book : Bytes) (old : List ℤ) → Holds (writeFormula book (length old)) (λ w. w .words) old (formulaOutput book old)

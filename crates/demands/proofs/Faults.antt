@@ -9,17 +9,8 @@ use mathlib.Core.List.{List, [], _∷_, _++_}
 use lib.Dec.{T}
 use Rattle.spec.specs.Lists.{all, Fault, _when_, firstFault}
 use Rattle.laws.proofs.Tests.{and-iff, denied-of, from-denied}
-
--- the condition of a line does not hold
-unfoldable pub passes : Fault → Bool
-passes f = not (f .holds)
-
--- n is the number of a line whose condition holds, and no condition of a line before it does
-pub record FirstHolds (n : ℕ) (faults : List Fault) : Type 0 where
-  pub before : List Fault
-  pub after : List Fault
-  pub split : faults ≡ before ++ (n when true) ∷ after
-  pub clear : T (all passes before)
+unfoldable pub use Rattle.demands.specs.Reasons.{passes}
+pub use Rattle.demands.specs.Reasons.{FirstHolds}
 
 -- no line holds exactly where no number is found
 pub first-none : (fs : List Fault) → firstFault fs ≡ none → T (all passes fs)

@@ -16,25 +16,13 @@ use Rattle.spec.specs.Frames.{kindField, behind, cutShort, payloadOf, Kind, hea
 use Rattle.spec.specs.Book.{Book, noBook}
 use Rattle.spec.specs.Read.{Reading, readingStart, isEnd, frameFaults, bookFaults, pastFrame, refuseOr, FrameRead, stop, more, frameReadAt, readFrame, unknownKind, isHead, outOfOrder, kindFaults, addFound, contentFaults, add, readFrom, readBook, wellFormed}
 use Rattle.spec.specs.Reached.{Growing, Reached, nothing, growing}
+pub use Rattle.demands.specs.Reasons.{ReadsTo, start, next, Ends, frame, book, pass}
 use Rattle.demands.proofs.Growing.{growing-head, growing-add, growing-whole}
 use Rattle.demands.proofs.Faults.{passes, FirstHolds, first-none, clear-first, first-some, holds-first}
 use Rattle.laws.proofs.Frames.{length-behind}
 use Rattle.laws.proofs.Tests.{and-iff, not-iff, eqb-iff, true-of, denied-of, from-true, from-denied, neither-iff}
 
 -- ---- one frame
-
--- The readings that the reader comes to from the start of s, and what is then left of it.
-pub data ReadsTo (s : Bytes) : Reading → Bytes → Type 0 where
-  start : ReadsTo s readingStart s
-  next : {r r″ : Reading} {s′ s″ : Bytes} → ReadsTo s r s′ → readFrame r s′ ≡ more r″ s″ → ReadsTo s r″ s″
-
--- How reading ends at the frame at the start of s, with the verdict v.
-pub data Ends (r : Reading) (s : Bytes) (v : Verdict Book) : Type 0 where
-  frame : (n : ℕ) → FirstHolds n (frameFaults r s) → v ≡ refused n 0 → Ends r s v
-  book : (n : ℕ) → T (all passes (frameFaults r s)) → T (isEnd (kindField s)) → FirstHolds n (bookFaults (r .book))
-      → v ≡ refused n 0 → Ends r s v
-  pass : T (all passes (frameFaults r s)) → T (isEnd (kindField s)) → T (all passes (bookFaults (r .book)))
-      → v ≡ accepted (r .book) → Ends r s v
 
 -- a frame after which the reader goes on
 pub record GoesOn (r : Reading) (s : Bytes) (r′ : Reading) (s′ : Bytes) : Type 0 where

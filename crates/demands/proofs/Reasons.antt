@@ -22,6 +22,7 @@ use Rattle.spec.specs.Formula.{Clause, formula, variables, wordsOf}
 use Rattle.spec.specs.Assignment.{holds, firstFalse, assigned, assignmentFits}
 use Rattle.spec.specs.Refutation.{Lent, clauseAt, stepFaults, stepDetail, checkSteps, checkFile, isBad}
 use Rattle.spec.specs.Entry.{demand, findNone, readInstance, writeFormula, formulaText, judgeAssignment, judgePlan, decodedFor, checkAssignment, encodedFor, checkPlan, checkRefutation, refutedFor, formulaFits, writtenFor}
+pub use Rattle.demands.specs.Reasons.{Refusal, ofBook, ofRoom, ofInput, LeastFalse, AssignmentFault, assignmentUnfit, clauseFalse, PlanFault, planUnfit, ruleBroken, StepsTo, firstStep, nextStep, RefutationFault, stepFault, noEnding, bytesAfter, Within}
 use Rattle.demands.proofs.Faults.{passes, FirstHolds, first-none, first-some}
 use Rattle.demands.proofs.Reading.{refusal-has-reason}
 use Rattle.demands.proofs.Refuting.{stepAt, added}
@@ -57,14 +58,6 @@ pub short-iff : (m n : ℕ) → T (not (leb m n)) ↔ (n < m)
 short-iff m n = (nleb→lt m n, λ h. not-T (leb m n) (λ t. let l = leb→le m n t in omega arith))
 
 -- ---- the order of the entry points
-
--- "then the book; then 12; then the second input": why an entry point refuses with a number and a detail, where `Short` is that
--- a lent slice is too short and `Input` says what is wrong with the second input.
-pub data Refusal (book : Bytes) (Short : Instance → Type 0) (Input : Instance → ℕ → ℕ → Type 0) : ℕ → ℕ → Type 0 where
-  ofBook : {k : ℕ} → readBook book ≡ refused k 0 → Refusal book Short Input k 0
-  ofRoom : (b : Book) → readBook book ≡ accepted b → Short (instanceOf b) → Refusal book Short Input 12 0
-  ofInput : {k d : ℕ} (b : Book) → readBook book ≡ accepted b → (Short (instanceOf b) → ⊥) → Input (instanceOf b) k d
-      → Refusal book Short Input k d
 
 module _ (book : Bytes) (Short : Instance → Type 0) (Input : Instance → ℕ → ℕ → Type 0) where
   -- a refused book, with detail 0
@@ -131,13 +124,6 @@ text-refusal book n k d e =
 
 -- ---- checking an assignment
 
--- "the least false clause": number d, from 1, is false and every lower one is true
-pub record LeastFalse (α : ℕ → Bool) (cs : List Clause) (d : ℕ) : Type 0 where
-  pub fromOne : 1 ≤ d
-  pub upToLast : d ≤ length cs
-  pub isFalse : T (not (holds α (clauseAt cs d)))
-  pub lowerTrue : (e : ℕ) → 1 ≤ e → e < d → T (holds α (clauseAt cs e))
-
 -- the clause that is found, by its place from 0
 first-false : (α : ℕ → Bool) (n d : ℕ) (cs : List Clause) → firstFalse α n cs ≡ some d
     → (i : ℕ) × (d ≡ n + i) × (i < length cs) × T (not (holds α (getD cs i []))) × ((j : ℕ) → j < i → T (holds α (getD cs j [])))
@@ -162,11 +148,6 @@ least-false α cs d e =
     let i : d - 1 ≡ r .0 = omega arith in
     record { fromOne = omega arith; upToLast = omega arith; isFalse = rw i (r .3); lowerTrue = λ f a b. r .4 (f - 1) (omega arith) }
 
--- What is wrong with an assignment: 13 "length or byte wrong"; 14 "a clause is false", with the least one as the detail.
-pub data AssignmentFault (I : Instance) (s : Bytes) : ℕ → ℕ → Type 0 where
-  assignmentUnfit : T (not (assignmentFits I s)) → AssignmentFault I s 13 0
-  clauseFalse : {d : ℕ} → T (assignmentFits I s) → LeastFalse (assigned s) (formula I) d → AssignmentFault I s 14 d
-
 -- 13 before 14
 assignment-fault : {k d : ℕ} (I : Instance) (s : Bytes) → judgeAssignment I s ≡ refused k d → AssignmentFault I s k d
 unfolding judgeAssignment
@@ -184,11 +165,6 @@ assignment-refusal book s n k d e =
 
 -- ---- checking a plan
 
--- What is wrong with a plan: 15 "length or a value wrong"; 16 "a rule broken", with the least one as the detail.
-pub data PlanFault (I : Instance) (s : Bytes) : ℕ → ℕ → Type 0 where
-  planUnfit : T (not (planFits I s)) → PlanFault I s 15 0
-  ruleBroken : {d : ℕ} → T (planFits I s) → FirstHolds d (ruleFaults I (planOf I s)) → PlanFault I s 16 d
-
 -- 15 before 16
 plan-fault : {k d : ℕ} (I : Instance) (s : Bytes) → judgePlan I s ≡ refused k d → PlanFault I s k d
 unfolding judgePlan brokenRule
@@ -205,25 +181,6 @@ plan-refusal book s n k d e =
     (λ I r. plan-fault I s (judged-refused (judgePlan I s) _ r)) e
 
 -- ---- checking a refutation
-
--- The steps that the check comes to: the number of the step at hand, from 1, the clauses that its hints may name, and what is
--- left of the file. It goes on behind a step of which no condition holds and which has literals.
-pub data StepsTo (lent : Lent) (vars : ℕ) (cs₀ : List Clause) (file : Bytes) : ℕ → List Clause → Bytes → Type 0 where
-  firstStep : StepsTo lent vars cs₀ file 1 cs₀ file
-  nextStep : {step : ℕ} {cs : List Clause} {s : Bytes} → StepsTo lent vars cs₀ file step cs s
-      → T (all passes (stepFaults lent vars cs s)) → T (not (empty (stepAt s .literals)))
-      → StepsTo lent vars cs₀ file (suc step) (added cs s) (behind s)
-
--- What is wrong with a refutation: the first condition that holds of a step that stands there, with the step as the detail, and
--- 0 for 12; 21 "no empty step at the file's end, or any byte after an empty step that passed".
-pub data RefutationFault (lent : Lent) (vars : ℕ) (cs₀ : List Clause) (file : Bytes) : ℕ → ℕ → Type 0 where
-  stepFault : {k step : ℕ} {cs : List Clause} {s : Bytes} → StepsTo lent vars cs₀ file step cs s
-      → T (not (empty s)) → FirstHolds k (stepFaults lent vars cs s) → RefutationFault lent vars cs₀ file k (stepDetail k step)
-  noEnding : {step : ℕ} {cs : List Clause} {s : Bytes} → StepsTo lent vars cs₀ file step cs s
-      → T (empty s) → RefutationFault lent vars cs₀ file 21 0
-  bytesAfter : {step : ℕ} {cs : List Clause} {s : Bytes} → StepsTo lent vars cs₀ file step cs s
-      → T (all passes (stepFaults lent vars cs s)) → T (empty (stepAt s .literals)) → T (not (empty (behind s)))
-      → RefutationFault lent vars cs₀ file 21 0
 
 module _ (lent : Lent) (vars : ℕ) (cs₀ : List Clause) (file : Bytes) where
   abbrev Wrong : ℕ → ℕ → Type 0
@@ -270,10 +227,6 @@ refutation-refusal book s lent k d e =
     (λ I r. steps-fault lent (variables I) (formula I) s (suc (length s)) 1 (formula I) s (omega arith) firstStep r) e
 
 -- ---- the numbers of refusals
-
--- from low to high
-abbrev pub Within : ℕ → ℕ → ℕ → Type 0
-Within low high k = (low ≤ k) × (k ≤ high)
 
 -- a test that the number of each line passes is passed by the number that is found
 numbered : (p : ℕ → Bool) (n : ℕ) (fs : List Fault) → T (all (λ f. p (f .number)) fs) → FirstHolds n fs → T (p n)

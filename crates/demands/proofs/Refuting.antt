@@ -20,6 +20,7 @@ use Rattle.spec.specs.Refutation.{Values, makeTrue, makeFalse, refuting, isNo, 
 use Rattle.spec.specs.Refutation.{Hinted, proves, makes, useless, hinted, goThrough, followsRule}
 use Rattle.spec.specs.Refutation.{AllFalse, Forces, Proves, atLast, onward, TakenFalse}
 use Rattle.spec.specs.Refutation.{isBad, stepFaults, stepDetail, checkSteps, checkFile}
+pub use Rattle.demands.specs.Reasons.{stepAt, added}
 use Rattle.demands.proofs.Faults.{passes, first-none, clear-first}
 use Rattle.laws.proofs.Tests.{and-iff, leb-iff, ltb-iff, eqb-iff, any-iff, decide, true-of, false-of, from-true, neither-iff, not-not-iff, all-at}
 use Rattle.laws.proofs.Rows.{all-append, all-one}
@@ -365,13 +366,6 @@ module _ (α : ℕ → Bool) where
       (λ n. absurd (never-proves cs sat (through-to cs _ (s .hints) r) b (agrees-refuting (s .literals) (not-holds (s .literals) n))))
 
 -- ---- a file that is accepted
-
--- the step whose frame starts s, and the clauses with its own behind them
-abbrev pub stepAt : Bytes → ProofStep
-stepAt s = stepIn (payloadOf s)
-
-abbrev pub added : List Clause → Bytes → List Clause
-added cs s = cs ++ one (stepAt s .literals)
 
 -- What a step that passes has: its frame is whole and of its kind, and no fault holds.
 pub record Passes (lent : Lent) (vars : ℕ) (cs : List Clause) (s : Bytes) : Type 0 where

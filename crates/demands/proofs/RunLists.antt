@@ -16,6 +16,7 @@ use Rattle.spec.specs.Book.{Book, Train, segmentOf, lengthInSegments, speedInSe
 use Rattle.spec.specs.Runs.{leadsTo, linked, isPath, directed, goesOn, extend, pathsOf, runsOf}
 use Rattle.laws.proofs.Tests.{and-iff, neither-iff, ltb-iff, eqb-sym, upTo-mem, count-iff, getD-mem}
 use Rattle.laws.proofs.Rows.{all-append, all-nil, all-one}
+pub use Rattle.demands.specs.Claims.{Dictionary, here, later, Before, shorter, smaller, Rising, nothing, next}
 
 -- ---- membership
 
@@ -42,21 +43,6 @@ mem-where true xs y = (λ m. (tt, m), λ h. h .1)
 mem-where false xs y = (λ m. absurd (List·Memᴰ·not-nil m), λ h. absurd (h .0))
 
 -- ---- the order
-
--- dictionary order: the first number that differs is smaller
-pub data Dictionary : List ℕ → List ℕ → Type 0 where
-  here : {x y : ℕ} {xs ys : List ℕ} → x < y → Dictionary (x ∷ xs) (y ∷ ys)
-  later : {x y : ℕ} {xs ys : List ℕ} → x ≡ y → Dictionary xs ys → Dictionary (x ∷ xs) (y ∷ ys)
-
--- Runs are listed "by j, then by their directed numbers in dictionary order": the shorter first, then by dictionary.
-pub data Before : List ℕ → List ℕ → Type 0 where
-  shorter : {p q : List ℕ} → length p < length q → Before p q
-  smaller : {p q : List ℕ} → length p ≡ length q → Dictionary p q → Before p q
-
--- a row that rises: each element comes before all that stand behind it
-pub data Rising {A : Type 0} (R : A → A → Type 0) : List A → Type 0 where
-  nothing : Rising R []
-  next : {x : A} {xs : List A} → ((y : A) → List·Memᴰ y xs → R x y) → Rising R xs → Rising R (x ∷ xs)
 
 -- rows with the same front are ordered by the number behind it
 dictionary-front : (p r s : List ℕ) {d e : ℕ} → d < e → Dictionary (p ++ d ∷ r) (p ++ e ∷ s)

@@ -9,6 +9,12 @@ ghost use Rattle.spec.specs.Frames as frames;
 ghost use Rattle.spec.specs.Numbers.{field};
 ghost use Rattle.frames.specs.Framed.{framedAt, outOfOrderBy};
 
+// How many bytes a frame has ahead of its payload: the payload's length and the kind.
+pub const OPENING: usize = 4;
+
+// How many bytes a literal or a hint has.
+pub const NUMBER: usize = 4;
+
 // The stretch of a file from `at` up to `end`.
 pub struct Cursor {
     pub at: usize,
@@ -213,12 +219,12 @@ pub fn frame_at(s: &[u8], at: usize) -> Framed
     requires { ⌜ at ≤ length (now s) ⌝ }
     ensures { λ r. ⌜ r ≡ framedAt (drop at (now (s .entry))) ⌝ }
 {
-    if s.len() - at < 4 {
+    if s.len() - at < OPENING {
         return Framed::Cut;
     }
     let len = pair(s, at);
     let kind = pair(s, at + 2);
-    if s.len() - at - 4 < len {
+    if s.len() - at - OPENING < len {
         Framed::Cut
     } else {
         Framed::Whole { kind, len }

@@ -14,14 +14,11 @@ use lib.Signed.{mag}
 use lib.Dec.{T, ltb, ltb→lt, lt→ltb, nltb→le}
 use lib.Arith.{le→nltb}
 use Rattle.spec.specs.Lists.{Bytes, all}
+pub use Rattle.spec.specs.Lists.{bytes}
 use Rattle.spec.specs.Numbers.{littleEndian, number, field, signed, unsigned}
 use Rattle.laws.proofs.Tests.{and-iff, decide, true-of, denied-of}
 
 -- ---- lists of bytes
-
--- every element is a byte
-abbrev pub bytes : Bytes → Bool
-bytes xs = all (λ x. ltb x 256) xs
 
 -- the first of them, and the others
 pub bytes-cons : (x : ℕ) (xs : Bytes) → T (bytes (x ∷ xs)) → (x < 256) × T (bytes xs)

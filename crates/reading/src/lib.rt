@@ -18,6 +18,7 @@ use frames::HeadFrame;
 use frames::JoinFrame;
 use frames::NO_RANK;
 use frames::NodeFrame;
+use frames::OPENING;
 use frames::SegmentFrame;
 use frames::TrainFrame;
 use frames::UnbreakableFrame;
@@ -183,7 +184,7 @@ fn step_whole(b: Book, last: usize, s: &[u8], at: usize, kind: usize, len: usize
         × (at + (4 + len) ≤ length (now s)) ⌝ }
     ensures { λ r. ⌜ r ≡ steppedAt (record { last = last; book = held b }) (drop at (now (s .entry))) at ⌝ }
 {
-    let start = at + 4;
+    let start = at + OPENING;
     let end = start + len;
     let place = rank(kind);
     if place == NO_RANK {

@@ -1,5 +1,6 @@
 // Rows of four-byte numbers in a file: a step's literals (18) and its hints (19), read where they are.
 // Assumes nothing.
+use frames::NUMBER;
 use frames::pair;
 ghost use mathlib.Core.Path.{_≡_};
 ghost use mathlib.Core.Bool.{_&&_};
@@ -16,7 +17,7 @@ pub fn number_at(row: &[u8], i: usize) -> usize
     requires { ⌜ i < length (now row) / 4 ⌝ }
     ensures { λ r. ⌜ (r ≡ getD (numbersIn (now (row .entry))) i 0) × (r < 4294967296) ⌝ }
 {
-    let at = 4 * i;
+    let at = NUMBER * i;
     let low = pair(row, at);
     let high = pair(row, at + 2);
     low + 65536 * high
@@ -71,7 +72,7 @@ pub fn literals_fit(row: &[u8], variables: usize) -> bool
     requires { ⌜ variables < 2147483648 ⌝ }
     ensures { λ r. ⌜ r ≡ literalsFit variables (literalsIn (now (row .entry))) ⌝ }
 {
-    let n = row.len() / 4;
+    let n = row.len() / NUMBER;
     let mut low = 0;
     let mut i = 0;
     while i < n {
@@ -89,7 +90,7 @@ pub fn literals_fit(row: &[u8], variables: usize) -> bool
 pub fn hints_fit(row: &[u8], own: usize) -> bool
     ensures { λ r. ⌜ r ≡ hintsFit own (numbersIn (now (row .entry))) ⌝ }
 {
-    let n = row.len() / 4;
+    let n = row.len() / NUMBER;
     let mut fits = true;
     let mut i = 0;
     while i < n {

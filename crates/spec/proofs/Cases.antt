@@ -1,4 +1,4 @@
--- Document 01's starred cases, and one of its wrong turns, as a table of what is asked and what the document answers,
+-- Document 01's starred cases, and what the edits of the definitions need, as a table of what is asked and what is answered,
 -- computed by one statement. Each goes through the reader, in a whole book. Assumes nothing.
 use mathlib.Core.Path.{_≡_, refl}
 use mathlib.Core.Bool.{Bool, true, false, not, _&&_, _||_, cond}
@@ -152,6 +152,12 @@ emptyStep hints = fileOf (one (record { literals = []; hints = hints }))
 refuted : Bytes → Bytes → Answer
 refuted s r = answered (checkRefutation s r programLent) λ _. yes-accepted
 
+totalsOf : Bytes → ℕ → Answer
+totalsOf s n = answered (writeFormula s n) λ w. rows ((w .variableCount ∷ w .clauseCount ∷ w .wordCount ∷ []) ∷ [])
+
+decodes : Bytes → Bytes → ℕ → Answer
+decodes s a n = answered (checkAssignment s a n) text
+
 encodes : Bytes → Bytes → ℕ → Answer
 encodes s p n = answered (checkPlan s p n) text
 
@@ -211,8 +217,10 @@ starred =
 -- Not starred: what the edits of the definitions need to be refused. The answers are those of the reference.
 pub further : List Case
 further =
+    -- L has 27 words, and as many are enough
+    record { asked = totalsOf bookL 27; answer = rows ((6 ∷ 10 ∷ 27 ∷ []) ∷ []) }
     -- 16: a run before the departure breaks rule 2, gone away from the goal rule 3
-    record { asked = encodes bookN (0 ∷ 1 ∷ 0 ∷ 0 ∷ 0 ∷ 4 ∷ 0 ∷ 2 ∷ 0 ∷ 2 ∷ 0 ∷ 255 ∷ 255 ∷ 255 ∷ 255 ∷ []) 57; answer = refusal 16 2 }
+    ∷ record { asked = encodes bookN (0 ∷ 1 ∷ 0 ∷ 0 ∷ 0 ∷ 4 ∷ 0 ∷ 2 ∷ 0 ∷ 2 ∷ 0 ∷ 255 ∷ 255 ∷ 255 ∷ 255 ∷ []) 57; answer = refusal 16 2 }
     ∷ record { asked = encodes bookN (0 ∷ 1 ∷ 0 ∷ 254 ∷ 255 ∷ 0 ∷ 0 ∷ 255 ∷ 255 ∷ 2 ∷ 0 ∷ 255 ∷ 255 ∷ 255 ∷ 255 ∷ []) 57; answer = refusal 16 3 }
     -- without a border each train claims the whole section
     ∷ record {
@@ -234,6 +242,11 @@ further =
     ∷ record { asked = clauseNumber 53 callingBook; answer = clause (negsuc 3 ∷ pos 13 ∷ pos 17 ∷ []) }
     -- two TTDs at a node are two sections without a border
     ∷ record { asked = sections dividedBook 9; answer = rows ((0 ∷ []) ∷ (1 ∷ []) ∷ []) }
+    -- a claim of a segment that the train does not touch: an assignment may claim more than its plan's own
+    ∷ record {
+      asked = decodes dividedBook (1 ∷ 0 ∷ 0 ∷ 1 ∷ 0 ∷ 0 ∷ 0 ∷ 0 ∷ 1 ∷ 1 ∷ []) 5;
+      answer = text (1 ∷ 0 ∷ 0 ∷ 0 ∷ 0 ∷ []);
+    }
     -- a node of kind 2 always has a border
     ∷ record { asked = clauseNumber 1 dividedBook; answer = clause (one (pos 1)) }
     ∷ []
@@ -244,7 +257,7 @@ table = starred ++ further
 
 pub cases : map (λ c. c .asked) table ≡ map (λ c. c .answer) table
 unfolding
-    table starred further answered bookL headWith headFrame trainFrom callOf passingBook bookN callingBook dividedBook encodes nodeFrame segmentFrame trainFrame callFrame endFrame pairBook joinFrame bookM tripleBook reach runList sections oneSection clauseNumber emptyStep refuted
+    table starred further answered bookL headWith headFrame trainFrom callOf passingBook bookN callingBook dividedBook totalsOf decodes encodes nodeFrame segmentFrame trainFrame callFrame endFrame pairBook joinFrame bookM tripleBook reach runList sections oneSection clauseNumber emptyStep refuted
     count upTo range each only all any pick empty lastOr same has different sumTo firstFault andThen
     littleEndian number field signed unsigned digits decimal decimalZ
     frame payloadLength kindField payloadOf behind cutShort kindNumber stepKind kindOrder findKind rankIn rank timeWidth trainCountAt lengthFits stepLengthFits

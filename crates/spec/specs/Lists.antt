@@ -4,7 +4,7 @@ use mathlib.Core.Bool.{Bool, true, false, _&&_, _||_, cond}
 use Prim.Native.Nat.{ℕ, zero, suc, _+_, _-_}
 use mathlib.Core.List.{List, [], _∷_, _++_}
 use mathlib.Core.Option.{Option, none, some}
-use lib.Dec.{eqb}
+use lib.Dec.{ltb, eqb}
 
 -- a file or a lent slice of bytes, as the list of its numbers
 abbrev pub Bytes : Type 0
@@ -40,6 +40,10 @@ one x = x ∷ []
 unfoldable pub all {ℓ} : {A : Type ℓ} → (A → Bool) → List A → Bool
 all f [] = true
 all f (x ∷ xs) = f x && all f xs
+
+-- every number of the list is a byte
+abbrev pub bytes : Bytes → Bool
+bytes xs = all (λ x. ltb x 256) xs
 
 unfoldable pub any {ℓ} : {A : Type ℓ} → (A → Bool) → List A → Bool
 any f [] = false

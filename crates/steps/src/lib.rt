@@ -1,6 +1,8 @@
 // A step of a refutation in its file: the frame at a place (17), and the stretches of the file that its
 // literals and its hints are in. Assumes nothing.
 use frames::Framed;
+use frames::NUMBER;
+use frames::OPENING;
 use frames::StepFrame;
 use frames::frame_at;
 use frames::pair;
@@ -29,17 +31,17 @@ pub fn step_at(s: &[u8], at: usize) -> Step
             if kind != StepFrame::KIND || len < StepFrame::LEN {
                 return Step::Bad;
             }
-            let literals = pair(s, at + 4);
-            if len - StepFrame::LEN < 4 * literals {
+            let literals = pair(s, at + OPENING);
+            if len - StepFrame::LEN < NUMBER * literals {
                 return Step::Bad;
             }
-            let rest = len - StepFrame::LEN - 4 * literals;
-            if rest % 4 != 0 {
+            let rest = len - StepFrame::LEN - NUMBER * literals;
+            if rest % NUMBER != 0 {
                 return Step::Bad;
             }
             Step::Whole {
                 literals,
-                hints: rest / 4,
+                hints: rest / NUMBER,
             }
         }
     }
@@ -50,8 +52,8 @@ pub fn literals_at(s: &[u8], at: usize, literals: usize, hints: usize) -> &[u8]
     requires { ⌜ (at ≤ length (now s)) × (stepFound (drop at (now s)) ≡ step.Whole literals hints) ⌝ }
     ensures { λ r. ⌜ now r ≡ literalBytes (payloadOf (drop at (now (s .entry)))) ⌝ }
 {
-    let first = StepFrame::cursor(at + 4).end;
-    &s[first..first + 4 * literals]
+    let first = StepFrame::cursor(at + OPENING).end;
+    &s[first..first + NUMBER * literals]
 }
 
 // The bytes of a step's hints: a part of the file, to the payload's end.
@@ -59,8 +61,8 @@ pub fn hints_at(s: &[u8], at: usize, literals: usize, hints: usize) -> &[u8]
     requires { ⌜ (at ≤ length (now s)) × (stepFound (drop at (now s)) ≡ step.Whole literals hints) ⌝ }
     ensures { λ r. ⌜ now r ≡ hintBytes (payloadOf (drop at (now (s .entry)))) ⌝ }
 {
-    let first = StepFrame::cursor(at + 4).end + 4 * literals;
-    &s[first..first + 4 * hints]
+    let first = StepFrame::cursor(at + OPENING).end + NUMBER * literals;
+    &s[first..first + NUMBER * hints]
 }
 
 // Where the frame of a step with so many literals and hints ends.
@@ -68,5 +70,5 @@ pub fn step_end(at: usize, literals: usize, hints: usize) -> usize
     requires { ⌜ at + 6 + 4 * (literals + hints) < 0x1_0000_0000_0000_0000 ⌝ }
     ensures { λ r. ⌜ r ≡ at + 6 + 4 * (literals + hints) ⌝ }
 {
-    StepFrame::cursor(at + 4).end + 4 * (literals + hints)
+    StepFrame::cursor(at + OPENING).end + NUMBER * (literals + hints)
 }

@@ -1,0 +1,59 @@
+-- What the theorems of demands 1 to 3 claim beside the definitions of the specification. Assumes nothing.
+use mathlib.Core.Path.{_≡_}
+use mathlib.Core.Bool.{Bool}
+use Prim.Native.Nat.{ℕ, _≤_, _<_}
+use mathlib.Core.List.{List, [], _∷_, _++_, map, List·Memᴰ}
+use lib.ListN.{length, drop}
+use lib.Dec.{T, eqb}
+use Rattle.spec.specs.Lists.{Bytes, Verdict, accepted, refused}
+use Rattle.spec.specs.Instance.{Instance}
+use Rattle.spec.specs.Plan.{Plan, isGone, runs, isMove}
+use Rattle.spec.specs.Formula.{borderVar, runVar, goneVar, formula, variables}
+use Rattle.spec.specs.Refutation.{ProofStep, Lent, fileOf, InFields, GoodSteps, clausesFit}
+use Rattle.spec.specs.Entry.{formulaFits}
+
+-- ---- outputs, assignments, refutations
+
+-- "outputs untouched", and "A success changes only the stated length of an output": what an output holds after the call, by what the
+-- check returns. An accepted check's result stands ahead of what the output held behind it; a refused one changes nothing.
+abbrev pub Holds : {A R : Type 0} → Verdict R → (R → List A) → (old after : List A) → Type 0
+Holds {R = R} verdict result old after =
+    ((r : R) → verdict ≡ accepted r → (length (result r) ≤ length old) × (after ≡ result r ++ drop (length (result r)) old))
+    × ((number detail : ℕ) → verdict ≡ refused number detail → after ≡ old)
+
+-- A valuation and a plan say the same.
+pub record Codes (I : Instance) (α : ℕ → Bool) (p : Plan) : Type 0 where
+  pub borders : (n : ℕ) → n < I .nodes → α (borderVar I n) ≡ p .border n
+  pub moves : (i : ℕ) → i < I .trains → (t : ℕ) → t < I .intervals → T (isMove I i (p .move i t))
+  pub runsSame : (i : ℕ) → i < I .trains → (t : ℕ) → t < I .intervals → (r : ℕ) → r < I .runs i
+      → α (runVar I i t r) ≡ runs (p .move i t) (eqb r)
+  pub goneSame : (i : ℕ) → i < I .trains → (t : ℕ) → t < I .intervals → α (goneVar I i t) ≡ isGone (p .move i t)
+
+-- The file is document 01's frames of a list of steps, literals and hints as laid down there; each step follows the step rule;
+-- and exactly one step, the last, is the empty clause.
+unfoldable pub IsRefutation : Instance → Bytes → List ProofStep → Type 0
+IsRefutation I file steps =
+    (file ≡ fileOf steps) × ((st : ProofStep) → List·Memᴰ st steps → InFields st) × GoodSteps (variables I) (formula I) steps
+
+-- The lent memory is as long as document 01 names: it holds the formula, and the clauses of the file's steps behind it.
+unfoldable pub LongEnough : Instance → Bytes → Lent → Type 0
+LongEnough I file lent =
+    T (formulaFits lent I)
+    × ((steps : List ProofStep) → file ≡ fileOf steps → ((st : ProofStep) → List·Memᴰ st steps → InFields st) → T (clausesFit lent (formula I ++ map (λ st. st .literals) steps)))
+
+-- ---- run lists
+
+-- dictionary order: the first number that differs is smaller
+pub data Dictionary : List ℕ → List ℕ → Type 0 where
+  here : {x y : ℕ} {xs ys : List ℕ} → x < y → Dictionary (x ∷ xs) (y ∷ ys)
+  later : {x y : ℕ} {xs ys : List ℕ} → x ≡ y → Dictionary xs ys → Dictionary (x ∷ xs) (y ∷ ys)
+
+-- Runs are listed "by j, then by their directed numbers in dictionary order": the shorter first, then by dictionary.
+pub data Before : List ℕ → List ℕ → Type 0 where
+  shorter : {p q : List ℕ} → length p < length q → Before p q
+  smaller : {p q : List ℕ} → length p ≡ length q → Dictionary p q → Before p q
+
+-- a row that rises: each element comes before all that stand behind it
+pub data Rising {A : Type 0} (R : A → A → Type 0) : List A → Type 0 where
+  nothing : Rising R []
+  next : {x : A} {xs : List A} → ((y : A) → List·Memᴰ y xs → R x y) → Rising R xs → Rising R (x ∷ xs)

@@ -1,0 +1,4 @@
+-- why a refusal is given
+pub mod Reasons
+-- what the other demands claim
+pub mod Claims

@@ -1,0 +1,33 @@
+"""The built programs: the one with all commands, its commands, and where they are."""
+import os
+from collections import namedtuple
+
+from .repository import Stop
+
+# the program with all commands
+CABINET = "cabinet"
+
+# A command: its letter in the records of stored cases, and the least and the most names of files that it takes.
+Command = namedtuple("Command", "letter least most")
+COMMANDS = {
+    "print_formula": Command("f", 0, 0),
+    "check_assignment": Command("a", 2, 3),
+    "check_plan": Command("p", 2, 3),
+    "check_refutation": Command("n", 2, 2),
+}
+# those that take a book and a second input
+CHECKS = tuple(name for name, command in COMMANDS.items() if command.least == 2)
+BY_LETTER = {command.letter: name for name, command in COMMANDS.items()}
+
+
+def has_result(name):
+    """Whether a command takes the name of a file for its result."""
+    return COMMANDS[name].most == 3
+
+
+def built(folder, name):
+    """The path of a program that has to be built already."""
+    program = os.path.abspath(os.path.join(folder, name))
+    if not os.access(program, os.X_OK):
+        raise Stop(f"no program {program}: rt check {name} builds it")
+    return program
