@@ -12,7 +12,9 @@ passed over, and so are empty lines. A line is a frame, in the book's order:
 
 5> is segment 5 from a to b, 5< from b to a; a train's place is written rear first. Frames of other kinds or lengths are written as
 `frame of kind 9: 01 02`, and bytes that are no whole frame as a last line `rest: 05 00`. Prints how long the book is and what the
-reader says of it; a book that is refused is written all the same.
+reference says of it, with the line of a frame that is refused; a book that is refused is written all the same.
+
+A switch is a node with two joins, of the stem with each branch. Where two TTDs meet no border is needed: any kind will do.
 
 Exit status: 0 written; 1 a line is wrong, and nothing was written; 2 wrong usage, the text is no UTF-8, a line's frame has more than 65,535
 bytes, or a file can't be read or written.
@@ -24,6 +26,9 @@ from .reference import entry_read_book
 from .repository import Stop, read_text, write_bytes
 from .text import BadText, TooLong, book_bytes, verdict_words
 
+# refusals: the one of a book that has no end yet, and the last of those that are of a frame
+NO_END, LAST_OF_A_FRAME = 1, 9
+
 
 def arguments(parser):
     parser.description = parser.description.replace("KINDS", ", ".join(f"{kind} {kind_words(kind)}" for kind in BORDER_KINDS))
@@ -31,14 +36,31 @@ def arguments(parser):
     parser.add_argument("book", metavar="BOOK", help="the file to write")
 
 
+def refused_line(lines):
+    """The number of the line whose frame is refused, from 1: parts that end before it only want an end. None where it is no frame's fault."""
+    for number in range(1, len(lines) + 1):
+        answer = entry_read_book(book_bytes(lines[:number]))
+        if answer[0] != "accepted" and answer[1] != NO_END:
+            return number if answer[1] <= LAST_OF_A_FRAME else None
+    return None
+
+
+def verdict_on(data, lines):
+    """What the reference says of the book, and of which line."""
+    answer = entry_read_book(data)
+    number = None if answer[0] == "accepted" else refused_line(lines)
+    return verdict_words(answer) + (f", at line {number}: {lines[number - 1].strip()}" if number else "")
+
+
 def run(options):
     try:
-        data = book_bytes(read_text(options.text).split("\n"))
+        lines = read_text(options.text).split("\n")
+        data = book_bytes(lines)
     except TooLong as wrong:
         raise Stop(f"{options.text}, {wrong}") from None
     except BadText as wrong:
         print(f"tools make: {options.text}, {wrong}", file=sys.stderr)
         return 1
     write_bytes(options.book, data)
-    print(f"{options.book}: {len(data):,} bytes, {verdict_words(entry_read_book(data))}")
+    print(f"{options.book}: {len(data):,} bytes, {verdict_on(data, lines)}")
     return 0

@@ -75,6 +75,25 @@ class Books(unittest.TestCase):
                 book_bytes(line.split("\n"))
 
 
+class Refused(unittest.TestCase):
+    """The line whose frame is refused."""
+
+    def line(self, old, new):
+        lines = read_text(os.path.join(EXAMPLES, "loop.txt")).replace(old, new).split("\n")
+        number = make.refused_line(lines)
+        return number and lines[number - 1]
+
+    def test_frames(self):
+        self.assertEqual(self.line("segment 3: nodes 2 3", "segment 3: nodes 2 9"), "segment 3: nodes 2 9, TTD 2")
+        self.assertTrue(self.line("70 km/h", "20 km/h").startswith("train 0"))
+        self.assertEqual(self.line("\nend", "\nend\nrest: 00"), "rest: 00")
+
+    def test_no_frame(self):
+        self.assertIsNone(self.line("", ""))
+        self.assertIsNone(self.line("\nend", ""))
+        self.assertIsNone(self.line("call: train 1", "call: train 0"))
+
+
 class Shown(unittest.TestCase):
     """The lines of plans, assignments and refutations."""
 
