@@ -268,12 +268,12 @@ module _ (b : Book) (w : Parts b) where
       → Adds nodeKind nodePayload (λ ns. with-rows b ns [] [] [] []) ys x
   unfolding nodePayload littleEndian field number lengthFits contentFaults add all passes with-rows greatestNodeKind
   node-adds ys x zs e =
-      let l = leb→le x 2 (all-part _ (b .nodes) ys x zs e (w .nodes)) in
+      let l = leb→le x greatestNodeKind (all-part _ (b .nodes) ys x zs e (w .nodes)) in
       let q = byte-back x (omega arith) in
       record {
         short = omega arith;
         fits = tt;
-        clear = rw q (simp and-iff (room 96 (b .nodes) ys x zs e (w .fewNodes), (le→nltb 2 x l, tt)));
+        clear = rw q (simp and-iff (room 96 (b .nodes) ys x zs e (w .fewNodes), (le→nltb greatestNodeKind x l, tt)));
         adds = ap (λ n. with-rows b (ys ++ one n) [] [] [] []) q;
       }
 

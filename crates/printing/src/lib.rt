@@ -117,7 +117,7 @@ pub fn print_words(words: &[i32]) {
 
 // Prints the formula of the book that the bytes hold, or its refusal, which is 12 where the book is too
 // long. The words have 64 KiB.
-pub fn print_formula_text(book: &[u8], long: bool) {
+fn print_formula_text(book: &[u8], long: bool) {
     let mut words = [0i32; 16384];
     let mut line = [0u8; 64];
     let opened = open_text(book, long, &mut words, &mut line);
