@@ -1,7 +1,7 @@
 """Formulas: the empty input, document 01's books, books on each limit, a text of more than 64 KiB, rings whose formulas have just as many
 words as the programs lend, one more and far more, smaller rings, random and damaged books. A text of more than a thousand bytes is
-stored as its length and checksum, but of one ring that is stored whole as well. Then as many words lent as there are, and one too few; and
-each refusal of a book, with no word lent."""
+stored as its length and checksum; of one ring, and of the text that is printed in pieces, it is stored whole as well. Then as many words
+lent as there are, and one too few; and each refusal of a book, with no word lent."""
 import itertools
 
 from .. import reference
@@ -74,6 +74,7 @@ def records(rng, note):
     for data in itertools.chain(made_books(), itertools.islice(random_books(rng), BOOKS)):
         yield Record("F" if short(data) else "D", data)
     yield Record("F", ring(*SMALL_RINGS[0]))
+    yield Record("F", long_text())
     for data in (BOOK_L, book_m(0, 0), book_m(0, 1), spec_bytes(LIMITS[3](0))):
         yield from just_enough(data, "F" if short(data) else "D")
     for shape in SMALL_RINGS:

@@ -6,26 +6,26 @@ use Rattle.cabinet.specs.declared.commands.Command.{Command}
 use Rattle.cabinet.specs.declared.commands.Command.the-variants.{PrintFormula, CheckAssignment, CheckPlan, CheckRefutation, Unknown}
 
 -- "print_formula"
-abbrev pub printFormula : Bytes
-printFormula = 112 ∷ 114 ∷ 105 ∷ 110 ∷ 116 ∷ 95 ∷ 102 ∷ 111 ∷ 114 ∷ 109 ∷ 117 ∷ 108 ∷ 97 ∷ []
+abbrev pub printFormulaWord : Bytes
+printFormulaWord = 112 ∷ 114 ∷ 105 ∷ 110 ∷ 116 ∷ 95 ∷ 102 ∷ 111 ∷ 114 ∷ 109 ∷ 117 ∷ 108 ∷ 97 ∷ []
 
 -- "check_assignment"
-abbrev pub checkAssignment : Bytes
-checkAssignment = 99 ∷ 104 ∷ 101 ∷ 99 ∷ 107 ∷ 95 ∷ 97 ∷ 115 ∷ 115 ∷ 105 ∷ 103 ∷ 110 ∷ 109 ∷ 101 ∷ 110 ∷ 116 ∷ []
+abbrev pub checkAssignmentWord : Bytes
+checkAssignmentWord = 99 ∷ 104 ∷ 101 ∷ 99 ∷ 107 ∷ 95 ∷ 97 ∷ 115 ∷ 115 ∷ 105 ∷ 103 ∷ 110 ∷ 109 ∷ 101 ∷ 110 ∷ 116 ∷ []
 
 -- "check_plan"
-abbrev pub checkPlan : Bytes
-checkPlan = 99 ∷ 104 ∷ 101 ∷ 99 ∷ 107 ∷ 95 ∷ 112 ∷ 108 ∷ 97 ∷ 110 ∷ []
+abbrev pub checkPlanWord : Bytes
+checkPlanWord = 99 ∷ 104 ∷ 101 ∷ 99 ∷ 107 ∷ 95 ∷ 112 ∷ 108 ∷ 97 ∷ 110 ∷ []
 
 -- "check_refutation"
-abbrev pub checkRefutation : Bytes
-checkRefutation = 99 ∷ 104 ∷ 101 ∷ 99 ∷ 107 ∷ 95 ∷ 114 ∷ 101 ∷ 102 ∷ 117 ∷ 116 ∷ 97 ∷ 116 ∷ 105 ∷ 111 ∷ 110 ∷ []
+abbrev pub checkRefutationWord : Bytes
+checkRefutationWord = 99 ∷ 104 ∷ 101 ∷ 99 ∷ 107 ∷ 95 ∷ 114 ∷ 101 ∷ 102 ∷ 117 ∷ 116 ∷ 97 ∷ 116 ∷ 105 ∷ 111 ∷ 110 ∷ []
 
 -- a word names the command that has it, and none where no command has
 abbrev pub Names : Bytes → Command → Type 0
-Names word PrintFormula = word ≡ printFormula
-Names word CheckAssignment = word ≡ checkAssignment
-Names word CheckPlan = word ≡ checkPlan
-Names word CheckRefutation = word ≡ checkRefutation
+Names word PrintFormula = word ≡ printFormulaWord
+Names word CheckAssignment = word ≡ checkAssignmentWord
+Names word CheckPlan = word ≡ checkPlanWord
+Names word CheckRefutation = word ≡ checkRefutationWord
 Names word Unknown =
-    (word ≡ printFormula → ⊥) × (word ≡ checkAssignment → ⊥) × (word ≡ checkPlan → ⊥) × (word ≡ checkRefutation → ⊥)
+    (word ≡ printFormulaWord → ⊥) × (word ≡ checkAssignmentWord → ⊥) × (word ≡ checkPlanWord → ⊥) × (word ≡ checkRefutationWord → ⊥)

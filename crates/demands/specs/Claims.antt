@@ -39,7 +39,8 @@ IsRefutation I file steps =
 unfoldable pub LongEnough : Instance → Bytes → Lent → Type 0
 LongEnough I file lent =
     T (formulaFits lent I)
-    × ((steps : List ProofStep) → file ≡ fileOf steps → ((st : ProofStep) → List·Memᴰ st steps → InFields st) → T (clausesFit lent (formula I ++ map (λ st. st .literals) steps)))
+    × ((steps : List ProofStep) → file ≡ fileOf steps → ((st : ProofStep) → List·Memᴰ st steps → InFields st)
+    → T (clausesFit lent (formula I ++ map (λ st. st .literals) steps)))
 
 -- ---- run lists
 
