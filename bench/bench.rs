@@ -1,4 +1,4 @@
-// Times the proved entry points, through the static library that `rt staticlib exports` writes, against the plain Rust of plain.rs and
+// Times the proved entry points, through the static library that `rt staticlib gentupag` writes, against the plain Rust of plain.rs and
 // checks.rs, on the books that make_books.py wrote. The two answers and outputs are compared first. Of interleaved runs the smallest
 // time of each is kept; slices are allocated and touched before.
 //
@@ -14,43 +14,76 @@ use checks::Lent;
 use std::hint::black_box;
 use std::time::Instant;
 
-#[link(name = "exports", kind = "static")]
-unsafe extern "C" {
-    fn gentupag_read_book(book: *const u8, len: usize) -> usize;
-    fn gentupag_write_formula(book: *const u8, len: usize, out: *mut i32, room: usize) -> usize;
-    fn gentupag_check_assignment(book: *const u8, len: usize, s: *const u8, n: usize, out: *mut u8, room: usize) -> usize;
-    fn gentupag_check_plan(book: *const u8, len: usize, s: *const u8, n: usize, out: *mut u8, room: usize) -> usize;
-    fn gentupag_check_refutation(
-        book: *const u8, len: usize, r: *const u8, n: usize, words: *mut i32, w: usize, clauses: *mut usize, c: usize,
-        values: *mut u8, v: usize, trail: *mut usize, t: usize) -> usize;
+// The structs of include/gentupag.h, as far as they are looked at.
+#[repr(C)]
+struct Verdict {
+    number: usize,
+    detail: usize,
 }
 
+#[repr(C)]
+struct Output {
+    number: usize,
+    detail: usize,
+    length: usize,
+}
+
+#[repr(C)]
+struct Totals {
+    number: usize,
+    detail: usize,
+    variables: usize,
+    clauses: usize,
+    words: usize,
+}
+
+#[link(name = "gentupag", kind = "static")]
+unsafe extern "C" {
+    fn gentupag_read_book(book: *const u8, len: usize) -> Verdict;
+    fn gentupag_write_formula(book: *const u8, len: usize, out: *mut i32, room: usize) -> Totals;
+    fn gentupag_check_assignment(book: *const u8, len: usize, s: *const u8, n: usize, out: *mut u8, room: usize) -> Output;
+    fn gentupag_check_plan(book: *const u8, len: usize, s: *const u8, n: usize, out: *mut u8, room: usize) -> Output;
+    fn gentupag_check_refutation(
+        book: *const u8, len: usize, r: *const u8, n: usize, words: *mut i32, w: usize, clauses: *mut usize, c: usize,
+        values: *mut u8, v: usize, trail: *mut usize, t: usize) -> Verdict;
+}
+
+// Each answers a refusal's number and detail, or what was written.
 mod proved {
     use super::*;
 
-    pub fn read_book(book: &[u8]) -> usize {
-        unsafe { gentupag_read_book(book.as_ptr(), book.len()) }
+    fn found<T>(number: usize, detail: usize, result: T) -> Result<T, (usize, usize)> {
+        if number == 0 { Ok(result) } else { Err((number, detail)) }
     }
 
-    pub fn write_formula(book: &[u8], out: &mut [i32]) -> usize {
-        unsafe { gentupag_write_formula(book.as_ptr(), book.len(), out.as_mut_ptr(), out.len()) }
+    pub fn read_book(book: &[u8]) -> Result<(), (usize, usize)> {
+        let r = unsafe { gentupag_read_book(book.as_ptr(), book.len()) };
+        found(r.number, r.detail, ())
     }
 
-    pub fn check_assignment(book: &[u8], s: &[u8], out: &mut [u8]) -> usize {
-        unsafe { gentupag_check_assignment(book.as_ptr(), book.len(), s.as_ptr(), s.len(), out.as_mut_ptr(), out.len()) }
+    pub fn write_formula(book: &[u8], out: &mut [i32]) -> Result<(usize, usize, usize), (usize, usize)> {
+        let r = unsafe { gentupag_write_formula(book.as_ptr(), book.len(), out.as_mut_ptr(), out.len()) };
+        found(r.number, r.detail, (r.variables, r.clauses, r.words))
     }
 
-    pub fn check_plan(book: &[u8], s: &[u8], out: &mut [u8]) -> usize {
-        unsafe { gentupag_check_plan(book.as_ptr(), book.len(), s.as_ptr(), s.len(), out.as_mut_ptr(), out.len()) }
+    pub fn check_assignment(book: &[u8], s: &[u8], out: &mut [u8]) -> Result<usize, (usize, usize)> {
+        let r = unsafe { gentupag_check_assignment(book.as_ptr(), book.len(), s.as_ptr(), s.len(), out.as_mut_ptr(), out.len()) };
+        found(r.number, r.detail, r.length)
     }
 
-    pub fn check_refutation(book: &[u8], r: &[u8], lent: &mut Lent) -> usize {
-        unsafe {
+    pub fn check_plan(book: &[u8], s: &[u8], out: &mut [u8]) -> Result<usize, (usize, usize)> {
+        let r = unsafe { gentupag_check_plan(book.as_ptr(), book.len(), s.as_ptr(), s.len(), out.as_mut_ptr(), out.len()) };
+        found(r.number, r.detail, r.length)
+    }
+
+    pub fn check_refutation(book: &[u8], r: &[u8], lent: &mut Lent) -> Result<(), (usize, usize)> {
+        let r = unsafe {
             gentupag_check_refutation(
                 book.as_ptr(), book.len(), r.as_ptr(), r.len(), lent.words.as_mut_ptr(), lent.words.len(),
                 lent.clauses.as_mut_ptr(), lent.clauses.len(), lent.values.as_mut_ptr(), lent.values.len(),
                 lent.trail.as_mut_ptr(), lent.trail.len())
-        }
+        };
+        found(r.number, r.detail, ())
     }
 }
 
@@ -90,13 +123,13 @@ fn formulas(name: &str) {
     plain::walk(&parts, &plain::tables(&parts), &mut count);
     let (mut ours, mut theirs) = (vec![1i32; count.words], vec![1i32; count.words]);
     plain::write_formula(&book, &mut ours).expect("room enough");
-    assert_eq!(proved::write_formula(&book, &mut theirs), 0);
+    assert_eq!(proved::write_formula(&book, &mut theirs).map(|(_, clauses, words)| (clauses, words)), Ok((count.clauses, count.words)));
     assert!(ours == theirs, "the outputs differ");
     println!("{name}: {} clauses, {} words; outputs are equal", count.clauses, count.words);
     let calls = (20_000_000 / count.words).clamp(1, 10_000);
-    compare("read", 1000, &mut || { black_box(proved::read_book(black_box(&book))); },
+    compare("read", 1000, &mut || { black_box(proved::read_book(black_box(&book))).unwrap(); },
         &mut || { let _ = black_box(plain::read_book(black_box(&book))); });
-    compare("write the formula", calls, &mut || { black_box(proved::write_formula(black_box(&book), &mut theirs)); },
+    compare("write the formula", calls, &mut || { black_box(proved::write_formula(black_box(&book), &mut theirs)).unwrap(); },
         &mut || { black_box(plain::write_formula(black_box(&book), &mut ours)).unwrap(); });
 }
 
@@ -107,17 +140,17 @@ fn judgements(name: &str, plan_name: &str) {
     let n = checks::check_plan(&book, &plan, &mut ours).expect("a good plan");
     ours.truncate(n);
     let mut theirs = vec![9u8; n];
-    assert_eq!(proved::check_plan(&book, &plan, &mut theirs), 0);
+    assert_eq!(proved::check_plan(&book, &plan, &mut theirs), Ok(n));
     assert!(ours == theirs, "the assignments differ");
     let assignment = ours.clone();
     let (mut decoded, mut back) = (vec![9u8; plan.len()], vec![9u8; plan.len()]);
     assert_eq!(checks::check_assignment(&book, &assignment, &mut decoded), Ok(plan.len()));
-    assert_eq!(proved::check_assignment(&book, &assignment, &mut back), 0);
+    assert_eq!(proved::check_assignment(&book, &assignment, &mut back), Ok(plan.len()));
     assert!(decoded == plan && back == plan, "the plans differ");
     println!("{name} with its plan: {n} variables; outputs are equal");
-    compare("check the plan", 10, &mut || { black_box(proved::check_plan(black_box(&book), &plan, &mut theirs)); },
+    compare("check the plan", 10, &mut || { black_box(proved::check_plan(black_box(&book), &plan, &mut theirs)).unwrap(); },
         &mut || { black_box(checks::check_plan(black_box(&book), &plan, &mut ours)).unwrap(); });
-    compare("check the assignment", 1, &mut || { black_box(proved::check_assignment(black_box(&book), &assignment, &mut back)); },
+    compare("check the assignment", 1, &mut || { black_box(proved::check_assignment(black_box(&book), &assignment, &mut back)).unwrap(); },
         &mut || { black_box(checks::check_assignment(black_box(&book), &assignment, &mut decoded)).unwrap(); });
 }
 
@@ -136,12 +169,12 @@ fn refutations(name: &str) {
         let (mut values, mut trail) = (vec![1u8; tables.variables], vec![1usize; tables.variables]);
         let mut lent = Lent { words: &mut words, clauses: &mut clauses, values: &mut values, trail: &mut trail };
         assert_eq!(checks::check_refutation(&book, &r, &mut lent), Ok(()));
-        assert_eq!(proved::check_refutation(&book, &r, &mut lent), 0);
+        assert_eq!(proved::check_refutation(&book, &r, &mut lent), Ok(()));
         println!("{name}: {steps} steps, {hints} hints, {} bytes, {} clauses and {} words in all; both accept", r.len(), lent.clauses.len(), lent.words.len());
         let (mut w2, mut c2) = (lent.words.to_vec(), lent.clauses.to_vec());
         let (mut v2, mut t2) = (lent.values.to_vec(), lent.trail.to_vec());
         let mut other = Lent { words: &mut w2, clauses: &mut c2, values: &mut v2, trail: &mut t2 };
-        compare("check the refutation", 1, &mut || { black_box(proved::check_refutation(black_box(&book), &r, &mut lent)); },
+        compare("check the refutation", 1, &mut || { black_box(proved::check_refutation(black_box(&book), &r, &mut lent)).unwrap(); },
             &mut || { black_box(checks::check_refutation(black_box(&book), &r, &mut other)).unwrap(); });
     }
 }

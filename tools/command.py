@@ -19,6 +19,7 @@ COMMANDS = {
     "samples": ("samples", "test the reference on document 01's examples and by brute force"),
     "compare": ("compare", "hold the definitions against the reference on random inputs"),
     "cases": ("cases.command", "make, check or run the stored cases"),
+    "library": ("library", "hold the library that people link against the reference"),
     "try": ("try_programs", "try the built program as a user would"),
     "fresh": ("fresh", "hold program, reference and solvers together on new random books"),
     "wrong": ("wrong", "try wrong programs, which the proofs must refuse"),

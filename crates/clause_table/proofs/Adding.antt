@@ -20,7 +20,7 @@ use Rattle.clause_table.specs.Kept.{startsFrom, Kept}
 use Rattle.clause_table.proofs.Lookup.{length-starts}
 
 -- a clause behind clauses begins where their words end
-starts-append : (at : ℕ) (cs : List Clause) (c : Clause) → startsFrom at (cs ++ one c) ≡ startsFrom at cs ++ one (at + length (wordsOf cs))
+pub starts-append : (at : ℕ) (cs : List Clause) (c : Clause) → startsFrom at (cs ++ one c) ≡ startsFrom at cs ++ one (at + length (wordsOf cs))
 unfolding startsFrom wordsOf each
 starts-append at [] c = let e : at ≡ at + 0 = omega arith in ap (λ (n : ℕ). one n) e
 starts-append at (d ∷ cs) c =

@@ -1,9 +1,10 @@
 // The clauses that hints may name: their words, each clause closed by 0, and a table of where each
 // begins. Assumes nothing.
+use frames::NUMBER;
 use rows::literal_at;
 ghost use mathlib.Core.Path.{_≡_};
 ghost use mathlib.Core.List.{_++_};
-ghost use Prim.Native.Nat.{_+_, _/_, _≤_};
+ghost use Prim.Native.Nat.{_+_, _≤_};
 ghost use lib.ListN.{length};
 ghost use lib.Seq.{sets};
 ghost use lib.IntN.{pos};
@@ -11,15 +12,15 @@ ghost use Rattle.spec.specs.Lists.{one};
 ghost use Rattle.spec.specs.Formula.{wordsOf};
 ghost use Rattle.spec.specs.Entry.{zeroed};
 ghost use Rattle.spec.specs.Refutation.{clausesOf};
-ghost use Rattle.rows.specs.Rows.{literalsIn};
+ghost use Rattle.rows.specs.Rows.{numberCount, literalsIn};
 ghost use Rattle.clause_table.specs.Kept.{startsFrom};
 
 // Stores the clause of a row of literals, and the 0 behind it, from `at` on.
 pub fn store_clause(row: &[u8], words: &mut [i32], at: usize)
-    requires { ⌜ at + (length (now row) / 4 + 1) ≤ length (now words) ⌝ }
+    requires { ⌜ at + (numberCount (now row) + 1) ≤ length (now words) ⌝ }
     ensures { λ _. ⌜ now (words .exit) ≡ sets (now (words .entry)) at (literalsIn (now (row .entry)) ++ one (pos 0)) ⌝ }
 {
-    let n = row.len() / 4;
+    let n = row.len() / NUMBER;
     let mut i = 0;
     while i < n {
         words[at + i] = literal_at(row, i);

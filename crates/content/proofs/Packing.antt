@@ -11,10 +11,10 @@ use lib.Seq.{length-take-le, take-append-seam, take-at, set-append-seam, append-
 use Rattle.model.specs.declared.Book.{Book as BookStruct}
 use Rattle.model.specs.declared.Train.{Train as TrainStruct}
 use Rattle.spec.specs.Lists.{Bytes, one, firstFault}
-use Rattle.spec.specs.Frames.{Kind, headKind, nodeKind, segmentKind, joinKind, trainKind, callKind, unbreakableKind, timeWidth}
+use Rattle.spec.specs.Frames.{Kind, headKind, nodeKind, segmentKind, joinKind, trainKind, callKind, unbreakableKind}
 use Rattle.spec.specs.Book.{Book, Segment, Join, Train, Call}
 use Rattle.spec.specs.Numbers.{field}
-use Rattle.spec.specs.Read.{kindFaults, add, headOf, segmentIn, joinIn, trainIn, callIn, maxNodes, maxSegments, maxJoins, maxTrains, maxCalls}
+use Rattle.spec.specs.Read.{contentFaults, add, headOf, segmentIn, joinIn, trainIn, callIn, maxNodes, maxSegments, maxJoins, maxTrains, maxCalls}
 use Rattle.spec.specs.Held.{held, packed, padded, heldTrain, packedTrain, CountsFit, NumbersFit, zeroSegment, zeroJoin, zeroTrain, zeroCall}
 use Rattle.content.specs.declared.Checked.the-variants.{Fine, Refused}
 use Rattle.content.specs.declared.Added.{Added}
@@ -136,7 +136,7 @@ module _ (b : BookStruct) (w : Packed b) (p : Bytes) where
         calls = b .calls;
       }
       ≡ packed (add (held b) headKind p)
-  unfolding packed add headOf timeWidth
+  unfolding packed add headOf
   put-head m s t e f g =
       λ i. let o = w .same i in record {
         «segment_metres» = e i;
@@ -356,13 +356,13 @@ module _ (b : BookStruct) (w : Packed b) (p : Bytes) where
 
 -- a refusal: the table's first fault, and the book unchanged
 module _ (k : Kind) {b : BookStruct} (w : Packed b) (p : Bytes) {r : Added} where
-  pub refuses : {n : ℕ} → firstFault (kindFaults (held b) (some k) p) ≡ some n → (r .checked ≡ Refused n) × (r .book ≡ b)
+  pub refuses : {n : ℕ} → firstFault (contentFaults (held b) k p) ≡ some n → (r .checked ≡ Refused n) × (r .book ≡ b)
       → r ≡ added k (held b) p
   unfolding added
   refuses f e = let s = e .1 ∙ w .same in rw f (λ i. record { checked = e .0 i; book = s i })
 
   -- no fault, and the book with what the frame adds
-  pub accepts : {next : BookStruct} → firstFault (kindFaults (held b) (some k) p) ≡ none → next ≡ packed (add (held b) k p)
+  pub accepts : {next : BookStruct} → firstFault (contentFaults (held b) k p) ≡ none → next ≡ packed (add (held b) k p)
       → (r .checked ≡ Fine) × (r .book ≡ next) → r ≡ added k (held b) p
   unfolding added
   accepts f g e = let s = e .1 ∙ g in rw f (λ i. record { checked = e .0 i; book = s i })

@@ -10,20 +10,11 @@ use Rattle.laws.proofs.Numbers.{field-one}
 use Rattle.laws.proofs.Tests.{and-iff, leb-iff, false-of}
 use Rattle.spec.specs.Lists.{Bytes, firstFault}
 use Rattle.spec.specs.Numbers.{field}
-use Rattle.spec.specs.Frames.{Kind, headKind, nodeKind, segmentKind, joinKind, trainKind, callKind, unbreakableKind, lengthFits, timeWidth}
+use Rattle.spec.specs.Frames.{Kind, headKind, nodeKind, segmentKind, joinKind, trainKind, callKind, unbreakableKind}
 use Rattle.spec.specs.Book.{Book, greatestNodeKind, callsOf}
-use Rattle.spec.specs.Read.{kindFaults, contentFaults, headFits, headOf, segmentFits, segmentIn, joinFits, joinIn, joinRepeats, trainFits, trainIn, reachFits, placeFits, callFits, callIn, someHas, mayDivide, maxNodes, maxSegments, maxJoins, maxTrains, maxCalls, maxIntervals, between}
+use Rattle.spec.specs.Read.{contentFaults, headFits, headOf, segmentFits, segmentIn, joinFits, joinIn, joinRepeats, trainFits, trainIn, reachFits, placeFits, callFits, callIn, someHas, mayDivide, maxNodes, maxSegments, maxJoins, maxTrains, maxCalls, maxIntervals, between}
 
 module _ (b : Book) (p : Bytes) where
-  -- the first line of every kind
-  pub length-wrong : (k : Kind) → lengthFits k p ≡ false → firstFault (kindFaults b (some k) p) ≡ some 4
-  unfolding kindFaults firstFault
-  length-wrong k e = simp e
-
-  pub length-right : (k : Kind) → lengthFits k p ≡ true → firstFault (kindFaults b (some k) p) ≡ firstFault (contentFaults b k p)
-  unfolding kindFaults firstFault
-  length-right k e = simp e
-
   -- Node
   pub node-full : maxNodes ≤ length (b .nodes) → firstFault (contentFaults b nodeKind p) ≡ some 5
   unfolding contentFaults firstFault
@@ -40,13 +31,13 @@ module _ (b : Book) (p : Bytes) where
   -- Head
   pub head-wrong : (1 ≤ field p 0 2 → 1 ≤ field p 2 2 → 1 ≤ field p 4 1 → field p 4 1 ≤ maxIntervals → ⊥)
       → firstFault (contentFaults b headKind p) ≡ some 6
-  unfolding contentFaults firstFault headFits headOf between timeWidth
+  unfolding contentFaults firstFault headFits headOf between
   head-wrong h =
       simp (false-of (headFits (headOf b p)) (λ t. let q = simp (and-iff, leb-iff) at t in h (q .0 .0) (q .0 .1) (q .1 .0) (q .1 .1)))
 
   pub head-fine : 1 ≤ field p 0 2 → 1 ≤ field p 2 2 → 1 ≤ field p 4 1 → field p 4 1 ≤ maxIntervals
       → firstFault (contentFaults b headKind p) ≡ none
-  unfolding contentFaults firstFault headFits headOf between timeWidth
+  unfolding contentFaults firstFault headFits headOf between
   head-fine m s t l = simp (le-leb _ _ m, le-leb _ _ s, le-leb _ _ t, le-leb _ _ l)
 
   -- Segment
@@ -149,6 +140,6 @@ module _ (p : Bytes) where
   join-read e = simp (field-one p 0 (omega arith), field-one p 1 (omega arith), field-one p 2 (omega arith))
 
   pub call-read : length p ≡ 4 → record { train = getD p 0 0; segment = getD p 1 0; first = getD p 2 0; last = getD p 3 0 } ≡ callIn p
-  unfolding callIn timeWidth
+  unfolding callIn
   call-read e =
       simp (field-one p 0 (omega arith), field-one p 1 (omega arith), field-one p 2 (omega arith), field-one p 3 (omega arith))

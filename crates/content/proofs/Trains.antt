@@ -2,28 +2,23 @@
 -- Assumes nothing.
 use mathlib.Core.Path.{_≡_, sym, _∙_}
 use mathlib.Core.Bool.{Bool, true, _&&_}
-use Prim.Native.Nat.{ℕ, _+_, _*_, _≤_}
+use Prim.Native.Nat.{ℕ, _*_, _≤_}
 use mathlib.Core.List.{List}
 use lib.ListN.{length, drop}
-use lib.Dec.{T, leb, ltb, eqb}
+use lib.Dec.{T, ltb, eqb}
 use Rattle.laws.proofs.Tests.{and-iff, leb-iff, eqb-iff, from-true}
 use Rattle.spec.specs.Lists.{Bytes, all}
 use Rattle.spec.specs.Numbers.{field}
-use Rattle.spec.specs.Frames.{trainKind, lengthFits, trainCountAt, timeWidth}
+use Rattle.spec.specs.Frames.{trainFixed, timeWidth}
 use Rattle.spec.specs.Book.{Book, Train, lengthInSegments, speedInSegments}
 use Rattle.spec.specs.Runs.{isPath}
 use Rattle.spec.specs.Read.{trainFits, reachFits, placeFits, trainIn, between, maxReach}
 use Rattle.spec.specs.Held.{packedTrain, padded}
 
--- the fixed part is there
-pub train-long : (p : Bytes) → lengthFits trainKind p ≡ true → 6 ≤ length p
-unfolding lengthFits trainCountAt timeWidth
-train-long p e = leb-iff 6 (length p) .0 (and-iff (leb 6 (length p)) (eqb (length p) (6 + field p 5 1)) .0 (from-true e) .0)
-
 module _ (b : Book) where
   -- the row is of directed segments
-  pub train-inside : (p : Bytes) → trainFits b (trainIn p) ≡ true → T (all (λ d. ltb d (2 * length (b .segments))) (drop 6 p))
-  unfolding trainFits trainIn trainCountAt timeWidth
+  pub train-inside : (p : Bytes) → trainFits b (trainIn p) ≡ true → T (all (λ d. ltb d (2 * length (b .segments))) (drop trainFixed p))
+  unfolding trainFits trainIn
   train-inside p e = let q = simp and-iff at (from-true e) in q .1
 
   -- l is at most 8
@@ -42,20 +37,20 @@ module _ (b : Book) where
 
   -- 8, by l and the row
   pub place-same : (p : Bytes) (l : ℕ) → l ≡ lengthInSegments b (trainIn p)
-      → (eqb (length (drop 6 p)) l && isPath b (drop 6 p)) ≡ placeFits b (trainIn p)
-  unfolding placeFits trainIn trainCountAt timeWidth
+      → (eqb (length (drop trainFixed p)) l && isPath b (drop trainFixed p)) ≡ placeFits b (trainIn p)
+  unfolding placeFits trainIn
   place-same p l e = rw e
 
   -- then the row has l directed segments
-  pub place-length : (p : Bytes) (l : ℕ) {r : Bool} → r ≡ (eqb (length (drop 6 p)) l && isPath b (drop 6 p)) → r ≡ true
-      → length (drop 6 p) ≡ l
+  pub place-length : (p : Bytes) (l : ℕ) {r : Bool} → r ≡ (eqb (length (drop trainFixed p)) l && isPath b (drop trainFixed p)) → r ≡ true
+      → length (drop trainFixed p) ≡ l
   place-length p l f e =
-      let q = and-iff (eqb (length (drop 6 p)) l) (isPath b (drop 6 p)) .0 (from-true (sym f ∙ e)) in
-      eqb-iff (length (drop 6 p)) l .0 (q .0)
+      let q = and-iff (eqb (length (drop trainFixed p)) l) (isPath b (drop trainFixed p)) .0 (from-true (sym f ∙ e)) in
+      eqb-iff (length (drop trainFixed p)) l .0 (q .0)
 
 -- the struct that the code fills
 pub train-packed : (p : Bytes) (m s d n : ℕ) (row : List ℕ) → m ≡ field p 0 2 → s ≡ field p 2 2 → d ≡ field p 4 timeWidth
-    → n ≡ length (drop 6 p) → row ≡ padded maxReach 0 (drop 6 p)
+    → n ≡ length (drop trainFixed p) → row ≡ padded maxReach 0 (drop trainFixed p)
     → record { metres = m; speed = s; departure = d; size = n; place = row } ≡ packedTrain (trainIn p)
-unfolding packedTrain trainIn trainCountAt timeWidth
+unfolding packedTrain trainIn
 train-packed p m s d n row e f g h k = λ i. record { metres = e i; speed = f i; departure = g i; size = h i; place = k i }

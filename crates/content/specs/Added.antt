@@ -10,7 +10,7 @@ use Rattle.spec.specs.Lists.{Bytes, all, firstFault}
 use Rattle.spec.specs.Numbers.{field}
 use Rattle.spec.specs.Frames.{Kind, timeWidth}
 use Rattle.spec.specs.Book.{Book, callsOf}
-use Rattle.spec.specs.Read.{kindFaults, add, maxCalls, maxReach, maxTrains}
+use Rattle.spec.specs.Read.{contentFaults, add, maxCalls, maxReach, maxTrains}
 use Rattle.spec.specs.Held.{held, packed, CountsFit, NumbersFit}
 use Rattle.content.specs.declared.Checked.the-variants.{Fine, Refused}
 use Rattle.content.specs.declared.Added.{Added}
@@ -20,9 +20,9 @@ abbrev pub settled : Option ℕ → Book → Book → Added
 settled none b next = record { checked = Fine; book = packed next }
 settled (some n) b next = record { checked = Refused n; book = packed b }
 
--- 4 to 9 of a frame of this kind, and the book after it
+-- 5 to 9 of a frame of this kind, and the book after it
 unfoldable pub added : Kind → Book → Bytes → Added
-added k b p = settled (firstFault (kindFaults b (some k) p)) b (add b k p)
+added k b p = settled (firstFault (contentFaults b k p)) b (add b k p)
 
 -- the struct is the one that holds its book: zeros stand behind each row
 pub record Packed (b : BookStruct) : Type 0 where

@@ -1,6 +1,6 @@
-// The content of a book's frames: 4 to 9 for each kind but End, whose 4 the reader asks, and what the
-// frame adds to the book. Each `add_` takes a payload and answers the refusal's number beside the book
-// unchanged, or the book with what the frame adds. Assumes nothing.
+// The content of a book's frames: 5 to 9 for each kind, and what the frame adds to the book. Each `add_`
+// takes a payload of its kind's length and answers the refusal's number beside the book unchanged, or
+// the book with what the frame adds. Assumes nothing.
 use checks::all_below;
 use checks::calls_of;
 use checks::may_divide;
@@ -77,12 +77,9 @@ fn fine(b: Book) -> Added
 
 // Head: rs, rt at least 1; T 1 to 32.
 pub fn add_head(b: Book, p: &[u8]) -> Added
-    requires { ⌜ Packed b ⌝ }
+    requires { do ⌜ Packed b × (length (now p) ≡ (← ⟦HeadFrame::LEN⟧)) ⌝ }
     ensures { λ r. ⌜ r ≡ added frames.headKind (held b) (now (p .entry)) ⌝ }
 {
-    if p.len() != HeadFrame::LEN {
-        return refused(b, 4);
-    }
     let metres = pair(p, 0);
     let seconds = pair(p, 2);
     let intervals = wide(p[4]);
@@ -98,12 +95,9 @@ pub fn add_head(b: Book, p: &[u8]) -> Added
 
 // Node: border kind 0 to 2, at most 96.
 pub fn add_node(b: Book, p: &[u8]) -> Added
-    requires { ⌜ Packed b ⌝ }
+    requires { do ⌜ Packed b × (length (now p) ≡ (← ⟦NodeFrame::LEN⟧)) ⌝ }
     ensures { λ r. ⌜ r ≡ added frames.nodeKind (held b) (now (p .entry)) ⌝ }
 {
-    if p.len() != NodeFrame::LEN {
-        return refused(b, 4);
-    }
     let at = b.node_count;
     if MAX_NODES <= at {
         return refused(b, 5);
@@ -130,12 +124,9 @@ fn segment_fits(b: Book, s: Segment) -> bool
 
 // Segment: at most 64.
 pub fn add_segment(b: Book, p: &[u8]) -> Added
-    requires { ⌜ Packed b ⌝ }
+    requires { do ⌜ Packed b × (length (now p) ≡ (← ⟦SegmentFrame::LEN⟧)) ⌝ }
     ensures { λ r. ⌜ r ≡ added frames.segmentKind (held b) (now (p .entry)) ⌝ }
 {
-    if p.len() != SegmentFrame::LEN {
-        return refused(b, 4);
-    }
     let at = b.segment_count;
     if MAX_SEGMENTS <= at {
         return refused(b, 5);
@@ -170,12 +161,9 @@ fn join_fits(b: Book, j: Join) -> bool
 
 // Join: at most 128, a pair at one node once.
 pub fn add_join(b: Book, p: &[u8]) -> Added
-    requires { ⌜ Packed b ⌝ }
+    requires { do ⌜ Packed b × (length (now p) ≡ (← ⟦JoinFrame::LEN⟧)) ⌝ }
     ensures { λ r. ⌜ r ≡ added frames.joinKind (held b) (now (p .entry)) ⌝ }
 {
-    if p.len() != JoinFrame::LEN {
-        return refused(b, 4);
-    }
     let at = b.join_count;
     if MAX_JOINS <= at {
         return refused(b, 5);
@@ -220,12 +208,9 @@ fn call_fits(b: Book, c: Call) -> bool
 
 // Unbreakable TTD: one that some segment has, and that no border may divide. It adds nothing.
 pub fn add_unbreakable(b: Book, p: &[u8]) -> Added
-    requires { ⌜ Packed b × T (lists.all (read.segmentFits (held b)) (held b .segments)) ⌝ }
+    requires { do ⌜ Packed b × T (lists.all (read.segmentFits (held b)) (held b .segments)) × (length (now p) ≡ (← ⟦UnbreakableFrame::LEN⟧)) ⌝ }
     ensures { λ r. ⌜ r ≡ added frames.unbreakableKind (held b) (now (p .entry)) ⌝ }
 {
-    if p.len() != UnbreakableFrame::LEN {
-        return refused(b, 4);
-    }
     let ttd = wide(p[0]);
     if !some_has(b, ttd) {
         return refused(b, 6);
@@ -238,12 +223,9 @@ pub fn add_unbreakable(b: Book, p: &[u8]) -> Added
 
 // Call: one to four a train.
 pub fn add_call(b: Book, p: &[u8]) -> Added
-    requires { ⌜ Packed b × CallsFew (held b) ⌝ }
+    requires { do ⌜ Packed b × CallsFew (held b) × (length (now p) ≡ (← ⟦CallFrame::LEN⟧)) ⌝ }
     ensures { λ r. ⌜ r ≡ added frames.callKind (held b) (now (p .entry)) ⌝ }
 {
-    if p.len() != CallFrame::LEN {
-        return refused(b, 4);
-    }
     let c = Call {
         train: p[0],
         segment: p[1],
@@ -263,16 +245,9 @@ pub fn add_call(b: Book, p: &[u8]) -> Added
     fine(next)
 }
 
-// 4 of a Train: n directed segments stand behind the fixed part.
-fn train_length_fits(p: &[u8]) -> bool
-    ensures { λ r. ⌜ r ≡ frames.lengthFits frames.trainKind (now (p .entry)) ⌝ }
-{
-    TrainFrame::LEN <= p.len() && p.len() == TrainFrame::LEN + wide(p[TrainFrame::COUNT_AT])
-}
-
 // 6 of a Train: at least one metre, a departure below T, and directed segments that were read.
 fn train_fits(b: Book, p: &[u8]) -> bool
-    requires { ⌜ CountsFit b × (6 ≤ length (now p)) ⌝ }
+    requires { ⌜ CountsFit b × (frames.trainFixed ≤ length (now p)) ⌝ }
     ensures { λ r. ⌜ r ≡ read.trainFits (held b) (read.trainIn (now (p .entry))) ⌝ }
 {
     1 <= pair(p, 0)
@@ -282,7 +257,7 @@ fn train_fits(b: Book, p: &[u8]) -> bool
 
 // A Train's numbers, without its place.
 fn train_numbers(p: &[u8]) -> Train
-    requires { ⌜ 6 ≤ length (now p) ⌝ }
+    requires { ⌜ frames.trainFixed ≤ length (now p) ⌝ }
     ensures { λ r. ⌜ NumbersOf (now (p .entry)) r ⌝ }
 {
     Train {
@@ -296,20 +271,17 @@ fn train_numbers(p: &[u8]) -> Train
 
 // 8: the row behind a Train's fixed part is a path of l directed segments.
 fn place_fits(b: Book, p: &[u8], l: usize) -> bool
-    requires { ⌜ CountsFit b × (6 ≤ length (now p)) × (l ≤ 8) × T (lists.all (λ d. ltb d (2 * b .«segment_count»)) (drop 6 (now p))) ⌝ }
-    ensures { λ r. ⌜ r ≡ (eqb (length (drop 6 (now (p .entry)))) l && runs.isPath (held b) (drop 6 (now (p .entry)))) ⌝ }
+    requires { ⌜ CountsFit b × (frames.trainFixed ≤ length (now p)) × (l ≤ 8) × T (lists.all (λ d. ltb d (2 * b .«segment_count»)) (drop frames.trainFixed (now p))) ⌝ }
+    ensures { λ r. ⌜ r ≡ (eqb (length (drop frames.trainFixed (now (p .entry)))) l && runs.isPath (held b) (drop frames.trainFixed (now (p .entry)))) ⌝ }
 {
     p.len() - TrainFrame::LEN == l && is_path(b, row_of(p, TrainFrame::LEN), l)
 }
 
-// Train: at most 8; its place is a path of l directed segments.
+// Train: at most 8; its place is a path of l directed segments. The row stands behind the fixed part.
 pub fn add_train(b: Book, p: &[u8]) -> Added
-    requires { ⌜ Packed b × (1 ≤ b .«segment_metres») ⌝ }
+    requires { ⌜ Packed b × (1 ≤ b .«segment_metres») × (frames.trainFixed ≤ length (now p)) ⌝ }
     ensures { λ r. ⌜ r ≡ added frames.trainKind (held b) (now (p .entry)) ⌝ }
 {
-    if !train_length_fits(p) {
-        return refused(b, 4);
-    }
     let at = b.train_count;
     if MAX_TRAINS <= at {
         return refused(b, 5);

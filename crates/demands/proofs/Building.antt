@@ -14,7 +14,7 @@ use lib.Dec.{T, leb, ltb, eqb, eqb→eq, eqb-refl, leb→le, ltb→lt, lit≤}
 use lib.Arith.{le→nltb, lt→nleb}
 use Rattle.spec.specs.Lists.{Bytes, all, any, each, one, only, pick, empty, upTo, accepted}
 use Rattle.spec.specs.Numbers.{littleEndian, number, field}
-use Rattle.spec.specs.Frames.{frame, kindField, Kind, headKind, nodeKind, segmentKind, joinKind, trainKind, callKind, unbreakableKind, endKind, kindNumber, kindOrder, findKind, rankIn, rank, timeWidth, trainCountAt, lengthFits}
+use Rattle.spec.specs.Frames.{frame, kindField, Kind, headKind, nodeKind, segmentKind, joinKind, trainKind, callKind, unbreakableKind, endKind, kindNumber, kindOrder, findKind, rankIn, rank, lengthFits}
 use Rattle.spec.specs.Book.{Book, Segment, Join, Train, Call, noBook, callsOf, segmentAt, greatestNodeKind, joined, startNode, endNode, lengthInSegments, speedInSegments}
 use Rattle.spec.specs.BookFile.{headPayload, nodePayload, segmentPayload, joinPayload, trainPayload, callPayload, unbreakablePayload, framesOf, bookFile, FitsFields}
 use Rattle.spec.specs.Runs.{leadsTo, linked, isPath, runsOf}
@@ -48,7 +48,7 @@ head-back : (b : Book) → b .segmentMetres < 65536 → b .intervalSeconds < 655
       trains = [];
       calls = [];
     }
-unfolding headOf noBook headPayload field number littleEndian timeWidth
+unfolding headOf noBook headPayload field number littleEndian
 head-back b h k l = λ i. record {
   segmentMetres = pair-back (b .segmentMetres) h i;
   intervalSeconds = pair-back (b .intervalSeconds) k i;
@@ -78,7 +78,7 @@ row-back (d ∷ ds) h =
 
 train-back : (t : Train) → t .metres < 65536 → t .speed < 65536 → t .departure < 256 → ((d : ℕ) → List·Memᴰ d (t .place) → d < 256)
     → trainIn (trainPayload t) ≡ t
-unfolding trainIn trainPayload field number littleEndian timeWidth trainCountAt
+unfolding trainIn trainPayload field number littleEndian
 train-back t h k l m = λ i. record {
   metres = pair-back (t .metres) h i;
   speed = pair-back (t .speed) k i;
@@ -87,7 +87,7 @@ train-back t h k l m = λ i. record {
 }
 
 call-back : (c : Call) → c .train < 256 → c .segment < 256 → c .first < 256 → c .last < 256 → callIn (callPayload c) ≡ c
-unfolding callIn callPayload field number littleEndian timeWidth
+unfolding callIn callPayload field number littleEndian
 call-back c h k l m = λ i. record {
   train = byte-back (c .train) h i;
   segment = byte-back (c .segment) k i;
@@ -104,7 +104,7 @@ each-length (d ∷ ds) = ap suc (each-length ds)
 -- a train's payload is as long as its count says
 train-length : (t : Train) → length (t .place) < 256
     → (length (trainPayload t) ≡ 6 + length (t .place)) × T (lengthFits trainKind (trainPayload t))
-unfolding trainPayload field number littleEndian timeWidth trainCountAt lengthFits
+unfolding trainPayload field number littleEndian lengthFits
 train-length t h =
     let e : length (each (t .place) (littleEndian 1)) ≡ length (t .place) = each-length (t .place) in
     (omega arith, simp (and-iff, leb-iff, eqb-iff) (omega arith, omega arith))
@@ -313,7 +313,7 @@ module _ (b : Book) (w : Parts b) where
 
   call-adds : (ys : List Call) (x : Call) (zs : List Call) → b .calls ≡ ys ++ x ∷ zs
       → Adds callKind callPayload (λ cs. with-rows b (b .nodes) (b .segments) (b .joins) (b .trains) cs) ys x
-  unfolding callPayload littleEndian lengthFits timeWidth contentFaults add all passes with-rows callFits callsOf headFits between
+  unfolding callPayload littleEndian lengthFits contentFaults add all passes with-rows callFits callsOf headFits between
   call-adds ys x zs e =
       let f = all-part _ (b .calls) ys x zs e (w .calls) in
       let p = simp (and-iff, ltb-iff, leb-iff) at f in
@@ -427,7 +427,7 @@ head-clear b h q = rw q (simp (and-iff, Bool·not-not) (simp and-iff at h, tt))
 -- the Head frame is read
 head-read : (b : Book) → Parts b → FitsFields b → (rest : Bytes)
     → readFrame readingStart (frame (kindNumber headKind) (headPayload b) ++ rest) ≡ more (record { last = 1; book = with-rows b [] [] [] [] [] }) rest
-unfolding readingStart misplaced isHead isEnd kindNumber rank rankIn kindOrder lengthFits with-rows headPayload littleEndian timeWidth headFits
+unfolding readingStart misplaced isHead isEnd kindNumber rank rankIn kindOrder lengthFits with-rows headPayload littleEndian headFits
     add between
 head-read b w f rest =
     let h = simp (and-iff, leb-iff) at (w .head) in

@@ -13,7 +13,7 @@ use lib.Seq.{take-all, drop-drop}
 use lib.Dec.{T, ltb, eqb, eqb→eq, ltb→lt, nltb→le, T-not}
 use Rattle.spec.specs.Lists.{Bytes, all, each, one, empty, accepted}
 use Rattle.spec.specs.Numbers.{littleEndian, field}
-use Rattle.spec.specs.Frames.{frame, kindField, payloadOf, behind, Kind, headKind, nodeKind, segmentKind, joinKind, trainKind, callKind, unbreakableKind, endKind, kindNumber, kindOrder, findKind, rankIn, rank, timeWidth, trainCountAt, lengthFits}
+use Rattle.spec.specs.Frames.{frame, kindField, payloadOf, behind, Kind, headKind, nodeKind, segmentKind, joinKind, trainKind, callKind, unbreakableKind, endKind, kindNumber, kindOrder, findKind, rankIn, rank, lengthFits}
 use Rattle.spec.specs.Book.{Book, noBook}
 use Rattle.spec.specs.BookFile.{headPayload, nodePayload, segmentPayload, joinPayload, trainPayload, callPayload, unbreakablePayload, framesOf, bookFile, FitsFields}
 use Rattle.spec.specs.Read.{headOf, segmentIn, joinIn, trainIn, callIn, someHas, mayDivide, contentFaults, add, Reading, readingStart, isHead, isEnd, unknownKind, outOfOrder, kindFaults, addFound, pastFrame, readBook, wellFormed}
@@ -40,7 +40,7 @@ module _ (p : Bytes) (at w : ℕ) (b : T (bytes p)) where
 module _ (p : Bytes) (b : T (bytes p)) where
   -- a Head's payload of the right length
   head-forth : (c : Book) → T (lengthFits headKind p) → headPayload (headOf c p) ≡ p
-  unfolding lengthFits headPayload headOf timeWidth
+  unfolding lengthFits headPayload headOf
   head-forth c f =
       let l = eqb→eq (length p) 5 f in
       simp append-assoc (rw (field-end p 4 1 b (sym l), field-front p 2 2 b (omega arith), field-front p 0 2 b (omega arith)))
@@ -56,7 +56,7 @@ module _ (p : Bytes) (b : T (bytes p)) where
 
   -- a Call's
   call-forth : T (lengthFits callKind p) → callPayload (callIn p) ≡ p
-  unfolding lengthFits callPayload callIn timeWidth
+  unfolding lengthFits callPayload callIn
   call-forth f =
       let l = eqb→eq (length p) 4 f in
       simp append-assoc
@@ -64,7 +64,7 @@ module _ (p : Bytes) (b : T (bytes p)) where
 
   -- a Train's, whose row has as many as its count says
   train-forth : T (lengthFits trainKind p) → trainPayload (trainIn p) ≡ p
-  unfolding lengthFits trainPayload trainIn timeWidth trainCountAt
+  unfolding lengthFits trainPayload trainIn
   train-forth f =
       let l = simp (and-iff, leb-iff, eqb-iff) at f in
       let n : length (drop 6 p) ≡ field p 5 1 = rw length-drop (omega arith) in
@@ -196,7 +196,7 @@ module _ (b : Book) (ttds : List ℕ) (p : Bytes) where
 
   -- the numbers of two bytes fit
   fits-more : (k : Kind) → T (bytes p) → T (middle k) → T (lengthFits k p) → FitsFields b → FitsFields (add b k p)
-  unfolding middle isHead isEnd kindNumber add lengthFits trainIn trainCountAt timeWidth all
+  unfolding middle isHead isEnd kindNumber add lengthFits trainIn all
   fits-more headKind y m f h = absurd m
   fits-more nodeKind y m f h = record { metres = h .metres; seconds = h .seconds; trains = h .trains }
   fits-more segmentKind y m f h = record { metres = h .metres; seconds = h .seconds; trains = h .trains }
@@ -290,7 +290,7 @@ module _ (s : Bytes) (r : Reading) (s′ : Bytes) (y : T (bytes s′)) (f : Fine
 
   -- a Head is taken first
   taken-head : r .book ≡ noBook → k ≡ headKind → s ≡ s′ → Taken s (pastKind r k s′) (behind s′)
-  unfolding pastKind add headOf noBook fileUpTo framesOf each kindNumber rank rankIn kindOrder lengthFits timeWidth all
+  unfolding pastKind add headOf noBook fileUpTo framesOf each kindNumber rank rankIn kindOrder lengthFits all
   taken-head e q u =
       let p = payloadOf s′ in
       let z = bytes-payloadOf s′ y in

@@ -1,7 +1,7 @@
--- The book as far as it was read: what holds of it (`Growing`), and that every frame without a fault keeps it, since what
+-- The book as far as it was read: `growing`, part by part (`Growing`), and that every frame without a fault keeps it, since what
 -- fitted the shorter book fits the longer one. Assumes nothing.
 use mathlib.Core.Path.{_≡_, refl, sym}
-use mathlib.Core.Logic.{_≢_, _↔_, inl}
+use mathlib.Core.Logic.{_≢_, _↔_, Iff·rfl, inl}
 use mathlib.Core.Bool.{Bool, true, false, not, _&&_, _||_, Bool·not-not}
 use Prim.Native.Nat.{ℕ, suc, _+_, _*_, _/_, _≤_, _<_}
 use native.Mathlib.Omega.{arith}
@@ -10,19 +10,37 @@ use mathlib.Core.List.{List, [], _∷_, _++_, append-assoc}
 use lib.ListN.{length, getD, take, length-append, List·getD-append}
 use lib.Seq.{take-append-le, take-append-seam, getD-append-seam}
 use lib.Dec.{T, leb, ltb, eqb, nleb→lt, nltb→le, le→leb, eqb→eq}
-use Rattle.spec.specs.Lists.{Bytes, all, any, count, upTo, one, only, pick, empty}
+use Rattle.spec.specs.Lists.{Bytes, all, any, count, upTo, one, only, pick, faultless}
 use Rattle.spec.specs.Numbers.{field}
 use Rattle.spec.specs.Frames.{Kind, headKind, nodeKind, segmentKind, joinKind, trainKind, callKind, unbreakableKind, endKind}
 use Rattle.spec.specs.Book.{Book, Segment, Join, Train, Call, noBook, segmentAt, callsOf, greatestNodeKind, startNode, endNode, segmentOf, joined, lengthInSegments, speedInSegments}
 use Rattle.spec.specs.Runs.{leadsTo, linked, isPath, runsOf}
-use Rattle.spec.specs.Read.{headOf, headFits, segmentFits, joinFits, joinRepeats, trainFits, reachFits, placeFits, callFits, contentFaults, add, bookFaults, joinsOnce, wellFormed, between, maxNodes, maxSegments, maxJoins, maxTrains}
-use Rattle.spec.specs.Reached.{Few, trainAllFits, Growing}
+use Rattle.spec.specs.Read.{headOf, headFits, segmentFits, joinFits, joinRepeats, trainFits, reachFits, placeFits, callFits, contentFaults, add, bookFaults, joinsOnce, few, trainAllFits, growing, wellFormed, maxNodes, maxSegments, maxJoins, maxTrains, maxCalls}
 use Rattle.demands.proofs.Faults.{passes}
 use Rattle.laws.proofs.Tests.{and-iff, or-iff, ltb-iff, leb-iff, all-iff, all-upTo, from-true, neither-iff}
 use Rattle.laws.proofs.Rows.{all-append, any-append}
 
+-- at most n, and each passes the test
+unfoldable pub Few : {A : Type 0} → ℕ → (A → Bool) → List A → Type 0
+Few n f xs = (length xs ≤ n) × T (all f xs)
+
+pub few-iff : {A : Type 0} (n : ℕ) (f : A → Bool) (xs : List A) → T (few n f xs) ↔ Few n f xs
+unfolding few Few
+few-iff n f xs = simp (and-iff, leb-iff) Iff·rfl
+
+-- What `growing` says, part by part. No train has more than four calls, whether it is there or not.
+pub record Growing (b : Book) : Type 0 where
+  pub head : T (headFits b)
+  pub nodes : Few maxNodes (λ k. leb k greatestNodeKind) (b .nodes)
+  pub segments : Few maxSegments (segmentFits b) (b .segments)
+  pub joins : Few maxJoins (joinFits b) (b .joins)
+  pub once : T (joinsOnce (b .joins))
+  pub trains : Few maxTrains (trainAllFits b) (b .trains)
+  pub calls : T (all (callFits b) (b .calls))
+  pub fewCalls : (i : ℕ) → length (callsOf b i) ≤ maxCalls
+
 -- a number that is not above another is at most it
-not-above : (m n : ℕ) → T (not (ltb n m)) → T (leb m n)
+pub not-above : (m n : ℕ) → T (not (ltb n m)) → T (leb m n)
 not-above m n h = le→leb m n (nltb→le n m h)
 
 -- ---- rows that grow
@@ -222,6 +240,44 @@ few-calls {cs} (longer c) k h i = rw (pick-append (λ d. eqb (d .train) i) cs (o
 
 -- ---- the book as far as it was read
 
+-- a train that is not there has no call
+none-of : (n i : ℕ) (cs : List Call) → n ≤ i → T (all (λ c. ltb (c .train) n) cs) → length (ofTrain i cs) ≤ 0
+unfolding ofTrain pick only all
+none-of n i [] l h = omega arith
+none-of n i (c ∷ cs) l h = let p = simp (and-iff, ltb-iff) at h in go (eqb (c .train) i) refl (none-of n i cs l (p .1)) (p .0)
+  where
+    go : (t : Bool) → eqb (c .train) i ≡ t → length (ofTrain i cs) ≤ 0 → c .train < n → length (only t (one c) ++ ofTrain i cs) ≤ 0
+    go true e k m = let same′ = eqb→eq (c .train) i (from-true e) in absurd (omega arith)
+    go false e k m = k
+
+-- `growing`, taken apart and put together
+pub growing-parts : (b : Book) → T (growing b) → Growing b
+unfolding growing callsOf ofTrain callFits
+growing-parts b h =
+    let p = simp (and-iff, few-iff) at h in
+    let known = all-weaken (callFits b) (λ c. ltb (c .train) (length (b .trains))) (b .calls) (λ c q. (simp and-iff at q) .0 .0 .0) (p .1 .0) in
+    record {
+      head = p .0 .0 .0 .0 .0;
+      nodes = p .0 .0 .0 .0 .1;
+      segments = p .0 .0 .0 .1;
+      joins = p .0 .0 .1 .0;
+      once = p .0 .0 .1 .1;
+      trains = p .0 .1;
+      calls = p .1 .0;
+      fewCalls = λ i. elim (decLe (suc i) (length (b .trains))) [
+        | yes l ↦ leb-iff _ _ .0 (all-upTo _ (length (b .trains)) .0 (p .1 .1) i l)
+        | no l ↦ (let k = none-of (length (b .trains)) i (b .calls) (omega arith) known in omega arith)
+      ];
+    }
+
+pub growing-of : (b : Book) → Growing b → T (growing b)
+unfolding growing
+growing-of b w =
+    simp (and-iff, few-iff) (
+      ((((w .head, w .nodes), w .segments), (w .joins, w .once)), w .trains),
+      (w .calls, all-upTo _ (length (b .trains)) .1 (λ i l. leb-iff _ _ .1 (w .fewCalls i))),
+    )
+
 -- a Head alone
 pub growing-head : (p : Bytes) → T (headFits (headOf noBook p)) → Growing (headOf noBook p)
 unfolding headOf noBook Few all joinsOnce upTo count callsOf pick
@@ -338,32 +394,7 @@ none-iff f (x ∷ xs) =
     let both = neither-iff (f x) (any f xs) in let each′ = and-iff (not (f x)) (all (λ x. not (f x)) xs) in
     (λ h. each′ .1 (both .0 h .0, none-iff f xs .0 (both .0 h .1)), λ h. both .1 (each′ .0 h .0, none-iff f xs .1 (each′ .0 h .1)))
 
--- two tests, all along a row
-all-both : {A : Type 0} (f g : A → Bool) (xs : List A) → T (all f xs) → T (all g xs) → T (all (λ x. f x && g x) xs)
-all-both f g xs h k = all-iff _ xs .1 (λ x m. simp and-iff (all-iff f xs .0 h x m, all-iff g xs .0 k x m))
-
--- a row that is not empty has one at least
-not-empty : {A : Type 0} (xs : List A) → T (not (empty xs)) → 1 ≤ length xs
-unfolding empty
-not-empty [] h = absurd h
-not-empty (x ∷ xs) h = omega arith
-
 -- A growing book without a fault of the book is well formed.
 pub growing-whole : (b : Book) → Growing b → T (all passes (bookFaults b)) → T (wellFormed b)
-unfolding wellFormed bookFaults all passes Few trainAllFits between
-growing-whole b w f =
-    let q = simp (and-iff, neither-iff) at f in
-    let runs = all-weaken _ (λ t. leb (length (runsOf b t)) 256) (b .trains) (λ t h. not-above (length (runsOf b t)) 256 h)
-    (none-iff _ (b .trains) .0 (q .1 .0)) in
-    let counts = none-iff (λ i. empty (callsOf b i)) (upTo (length (b .trains))) .0 (q .0 .1) in
-    simp (and-iff, leb-iff) (
-      (
-        (((w .head, (w .nodes .0, w .nodes .1)), (w .segments .0, w .segments .1)), ((w .joins .0, w .joins .1), w .once)),
-        ((w .trains .0, q .0 .0), all-both _ _ (b .trains) (w .trains .1) runs),
-      ),
-      (
-        w .calls,
-        all-weaken _ _ (upTo (length (b .trains)))
-            (λ i h. simp (and-iff, leb-iff) (not-empty (callsOf b i) h, w .fewCalls i)) counts,
-      ),
-    )
+unfolding wellFormed faultless
+growing-whole b w f = and-iff (growing b) (all passes (bookFaults b)) .1 (growing-of b w, f)

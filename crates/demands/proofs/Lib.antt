@@ -22,6 +22,7 @@ pub mod Files
 -- The entry points, and the demands
 pub mod Entries
 pub mod Words
+pub mod Variables
 pub mod Reasons
 pub mod Refusals
 pub mod Demands

@@ -9,7 +9,7 @@ use Rattle.laws.proofs.Tests.{meaning, and-iff, or-iff, all-iff}
 use Rattle.laws.proofs.Rows.{rows, all-append}
 use Rattle.spec.specs.Lists.{all, any, upTo, range, each, only, one}
 use Rattle.spec.specs.Instance.{Instance, inWindow, servedAtDeparture}
-use Rattle.spec.specs.Formula.{Literal, Clause, is, not′, borderVar, runVar, goneVar, claimVar, familyA, familyB, familyC, familyD, familyE, familyF, familyG, familyH, familyI, ownVariables, formula}
+use Rattle.spec.specs.Formula.{Literal, Clause, is, not′, borderVar, runVar, goneVar, claimVar, clausesB, clausesC, clausesD, clausesE, clauseE, followersE, serversF, clausesG, claimsG, clausesH, clausesI, familyA, familyB, familyC, familyD, familyE, familyF, familyG, familyH, familyI, ownVariables, formula}
 use Rattle.spec.specs.Extra.{extraClauses}
 use Rattle.spec.specs.Assignment.{Value, yes′, no′, open′, truth, deny, isYes, valueOf, isTrue, holds, satisfies}
 
@@ -43,7 +43,7 @@ module _ (I : Instance) (α : ℕ → Bool) where
   -- B: nothing before the departure
   pub meansB : T (satisfies α (familyB I)) ↔ ((i : ℕ) → i < I .trains → (t : ℕ) → t < I .departure i
       → ((r : ℕ) → r < I .runs i → T (α (runVar I i t r)) → ⊥) × (T (α (goneVar I i t)) → ⊥))
-  unfolding satisfies holds familyB
+  unfolding satisfies holds familyB clausesB runVar goneVar
   meansB = simp taken Iff·rfl
 
   -- C: one move at least, and no two
@@ -51,14 +51,14 @@ module _ (I : Instance) (α : ℕ → Bool) where
       → (T (any (λ r. α (runVar I i t r)) (upTo (I .runs i))) ⊎ T (α (goneVar I i t)))
       × ((m : ℕ) → m < I .runs i + 1 → (n : ℕ) → m + 1 ≤ n → n < I .runs i + 1
       → T (α (runVar I i t m)) → T (α (runVar I i t n)) → ⊥))
-  unfolding satisfies holds familyC
+  unfolding satisfies holds familyC clausesC runVar goneVar
   meansC = simp taken (simp or-iff Iff·rfl)
 
   -- D: at the departure a run from the given place, and not gone
   pub meansD : T (satisfies α (familyD I)) ↔ ((i : ℕ) → i < I .trains
       → ((r : ℕ) → r < I .runs i → (T (I .given i r) → ⊥) → T (α (runVar I i (I .departure i) r)) → ⊥)
       × (T (α (goneVar I i (I .departure i))) → ⊥))
-  unfolding satisfies holds familyD
+  unfolding satisfies holds familyD clausesD runVar goneVar
   meansD = simp taken Iff·rfl
 
   -- E: a run is followed by one from its end, or by gone where it may leave; gone by gone
@@ -66,33 +66,33 @@ module _ (I : Instance) (α : ℕ → Bool) where
       → ((r : ℕ) → r < I .runs i → T (α (runVar I i t r))
       → T (any (λ q. I .follows i r q && α (runVar I i (t + 1) q)) (upTo (I .runs i))) ⊎ T (I .leaves i r && α (goneVar I i (t + 1))))
       × (T (α (goneVar I i t)) → T (α (goneVar I i (t + 1)))))
-  unfolding satisfies holds familyE
+  unfolding satisfies holds familyE clausesE clauseE followersE runVar goneVar
   meansE = simp taken (simp or-iff Iff·rfl)
 
   -- F: a call that the given place does not serve in time is served by a run's end
   pub meansF : T (satisfies α (familyF I)) ↔ ((i : ℕ) → i < I .trains → (c : ℕ) → c < I .calls i → (T (servedAtDeparture I i c) → ⊥)
       → (t : ℕ) × (I .departure i ≤ t) × (t < I .intervals)
       × (T (inWindow I i c (t + 1)) × ((r : ℕ) × (r < I .runs i) × (T (I .serves i c r) × T (α (runVar I i t r))))))
-  unfolding satisfies holds familyF
+  unfolding satisfies holds familyF serversF runVar
   meansF = simp taken Iff·rfl
 
   -- G: a run claims its segments
   pub meansG : T (satisfies α (familyG I)) ↔ ((i : ℕ) → i < I .trains → (t : ℕ) → t < I .intervals → (r : ℕ) → r < I .runs i
       → (s : ℕ) → List·Memᴰ s (I .path i r) → T (α (runVar I i t r)) → T (α (claimVar I i t s)))
-  unfolding satisfies holds familyG
+  unfolding satisfies holds familyG clausesG claimsG runVar claimVar
   meansG = simp (taken, all-iff) Iff·rfl
 
   -- H: a claim reaches over a node that is no border
   pub meansH : T (satisfies α (familyH I)) ↔ ((i : ℕ) → i < I .trains → (t : ℕ) → t < I .intervals → (n : ℕ) → n < I .nodes
       → (s : ℕ) → s < I .segments → (u : ℕ) → u < I .segments → T (I .meet n s u)
       → T (α (claimVar I i t s)) → T (α (borderVar I n)) ⊎ T (α (claimVar I i t u)))
-  unfolding satisfies holds familyH
+  unfolding satisfies holds familyH clausesH claimVar
   meansH = simp taken (simp or-iff Iff·rfl)
 
   -- I: no segment is claimed by two trains
   pub meansI : T (satisfies α (familyI I)) ↔ ((t : ℕ) → t < I .intervals → (i : ℕ) → i < I .trains → (j : ℕ) → i + 1 ≤ j → j < I .trains
       → (s : ℕ) → s < I .segments → T (α (claimVar I i t s)) → T (α (claimVar I j t s)) → ⊥)
-  unfolding satisfies holds familyI
+  unfolding satisfies holds familyI clausesI
   meansI = simp taken Iff·rfl
 
   -- the whole formula, family by family

@@ -15,9 +15,9 @@ use Rattle.spec.specs.Lists.{Bytes, all, any, firstFault, Verdict, accepted, re
 use Rattle.spec.specs.Frames.{kindField, behind, cutShort, payloadOf, Kind, headKind, nodeKind, segmentKind, joinKind, trainKind, callKind, unbreakableKind, endKind, kindNumber, kindOrder, findKind, rankIn, rank}
 use Rattle.spec.specs.Book.{Book, noBook}
 use Rattle.spec.specs.Read.{Reading, readingStart, isEnd, frameFaults, bookFaults, pastFrame, refuseOr, FrameRead, stop, more, frameReadAt, readFrame, unknownKind, isHead, outOfOrder, kindFaults, addFound, contentFaults, add, readFrom, readBook, wellFormed}
-use Rattle.spec.specs.Reached.{Growing, Reached, nothing, growing}
+use Rattle.spec.specs.Reached.{Reached, atStart, behindHead}
 pub use Rattle.demands.specs.Reasons.{ReadsTo, start, next, Ends, frame, book, pass}
-use Rattle.demands.proofs.Growing.{growing-head, growing-add, growing-whole}
+use Rattle.demands.proofs.Growing.{Growing, growing-parts, growing-of, growing-head, growing-add, growing-whole}
 use Rattle.demands.proofs.Faults.{passes, FirstHolds, first-none, clear-first, first-some, holds-first}
 use Rattle.laws.proofs.Frames.{length-behind}
 use Rattle.laws.proofs.Tests.{and-iff, not-iff, eqb-iff, true-of, denied-of, from-true, from-denied, neither-iff}
@@ -256,21 +256,21 @@ reads-head b k p e q c =
 pub reached-on : (r : Reading) (s : Bytes) → Fine r s → Reached r → Reached (pastFrame r s)
 unfolding pastFrame rank addFound kindFaults all unknownKind Found kindNumber
 reached-on r s f w =
-    growing (rank-not-zero (kindField s) kindOrder)
-    (go (findKind (kindField s) kindOrder) (finds-kind (kindField s) kindOrder) (f .content) w)
+    behindHead (rank-not-zero (kindField s) kindOrder)
+    (growing-of _ (go (findKind (kindField s) kindOrder) (finds-kind (kindField s) kindOrder) (f .content) w))
   where
     go : (o : Option Kind) → Found (kindField s) kindOrder o → T (all passes (kindFaults (r .book) o (payloadOf s))) → Reached r
         → Growing (addFound (r .book) o (payloadOf s))
     go none h c w = absurd (T-not (unknownKind (kindField s)) (f .known) h)
-    go (some k) h c (nothing l e) =
+    go (some k) h c (atStart l e) =
         reads-head (r .book) k (payloadOf s) e (head-number k (sym h ∙ head-first r s (f .inOrder) l)) ((simp and-iff at c) .1)
-    go (some k) h c (growing l w) =
-        growing-add (r .book) k (payloadOf s) (λ q. head-once r s (f .inOrder) l (h ∙ ap kindNumber q)) ((simp and-iff at c) .1) w
+    go (some k) h c (behindHead l w) =
+        growing-add (r .book) k (payloadOf s) (λ q. head-once r s (f .inOrder) l (h ∙ ap kindNumber q)) ((simp and-iff at c) .1) (growing-parts _ w)
 
 -- so wherever the reader comes, it is at the start or in a growing book
 pub reached : {s s′ : Bytes} {r : Reading} → ReadsTo s r s′ → Reached r
 unfolding readingStart
-reached start = nothing refl refl
+reached start = atStart refl refl
 reached (next {r = r} {r″ = r″} {s′ = s′} {s″ = s″} c e) =
     let g = goes-on r s′ r″ s″ e in rw (g .reading) (reached-on r s′ (fine r s′ (g .clear)) (reached c))
 
@@ -281,9 +281,9 @@ read-well-formed s b e = let h = read-accepted-reason s b e in rw (h .6) (go (h 
   where
     go : (r : Reading) (s′ : Bytes) → firstFault (frameFaults r s′) ≡ none → T (isEnd (kindField s′))
         → firstFault (bookFaults (r .book)) ≡ none → Reached r → T (wellFormed (r .book))
-    go r s′ c t d (nothing l n) =
+    go r s′ c t d (atStart l n) =
         let one′ = head-first r s′ (fine r s′ (first-none _ c) .inOrder) l in
         let eight = eqb→eq (kindField s′) 8 t in
         let no′ : ⊥ = omega arith in
         absurd no′
-    go r s′ c t d (growing l w) = growing-whole (r .book) w (first-none _ d)
+    go r s′ c t d (behindHead l w) = growing-whole (r .book) (growing-parts _ w) (first-none _ d)

@@ -8,12 +8,13 @@ use native.Mathlib.Omega.{arith}
 use mathlib.Core.List.{List, [], _∷_, _++_, map, List·Memᴰ, List·Memᴰ·head, List·Memᴰ·tail, Memᴰ·of-map}
 use lib.ListN.{length, getD}
 use lib.Dec.{T, leb, ltb, eqb}
-use Rattle.spec.specs.Lists.{all, upTo, only, one, pick, empty}
+use Rattle.spec.specs.Lists.{all, upTo, only, one, pick, empty, passes, faultless}
 use Rattle.spec.specs.Book.{Book, Train, greatestNodeKind, nodeKindAt, trainAt, callsOf, noCall, deniesBorder, forcesBorder, segmentOf, lengthInSegments}
 use Rattle.spec.specs.Runs.{directed, goesOn, extend, pathsOf, runsOf}
-use Rattle.spec.specs.Read.{wellFormed, headFits, segmentFits, joinFits, joinsOnce, trainFits, reachFits, placeFits, callFits, between, maxNodes, maxSegments, maxJoins, maxTrains, maxCalls, maxRuns}
+use Rattle.spec.specs.Read.{wellFormed, growing, bookFaults, headFits, segmentFits, joinFits, joinsOnce, trainFits, reachFits, placeFits, trainAllFits, callFits, between, maxNodes, maxSegments, maxJoins, maxTrains, maxCalls, maxRuns}
 use Rattle.spec.specs.Instance.{Instance, instanceOf, compile, runLists, runAt, callAt}
-use Rattle.laws.proofs.Tests.{and-iff, eqb-iff, ltb-iff, leb-iff, all-iff, all-upTo, getD-mem, all-at}
+use Rattle.laws.proofs.Tests.{and-iff, neither-iff, eqb-iff, ltb-iff, leb-iff, all-iff, all-upTo, getD-mem, all-at}
+use Rattle.demands.proofs.Growing.{Few, growing-parts, none-iff, all-weaken, not-above}
 use Rattle.laws.proofs.Rows.{all-append, all-cons, all-each}
 
 -- What holds of the instance of a well-formed book.
@@ -46,24 +47,42 @@ pub record Parts (b : Book) : Type 0 where
   pub calls : T (all (callFits b) (b .calls))
   pub counts : T (all (λ i. between 1 maxCalls (length (callsOf b i))) (upTo (length (b .trains))))
 
--- the parts of a well-formed book
+-- two tests, all along a row
+all-both : {A : Type 0} (f g : A → Bool) (xs : List A) → T (all f xs) → T (all g xs) → T (all (λ x. f x && g x) xs)
+all-both f g xs h k = all-iff _ xs .1 (λ x m. simp and-iff (all-iff f xs .0 h x m, all-iff g xs .0 k x m))
+
+-- a row that is not empty has one at least
+not-empty : {A : Type 0} (xs : List A) → T (not (empty xs)) → 1 ≤ length xs
+unfolding empty
+not-empty [] h = absurd h
+not-empty (x ∷ xs) h = omega arith
+
+-- the parts of a well-formed book: those of a growing one, and what 10 and 11 leave
 pub parts : (b : Book) → T (wellFormed b) → Parts b
-unfolding wellFormed
-parts b h = let p = simp (and-iff, leb-iff) at h in record {
-  head = p .0 .0 .0 .0 .0;
-  fewNodes = p .0 .0 .0 .0 .1 .0;
-  nodes = p .0 .0 .0 .0 .1 .1;
-  fewSegments = p .0 .0 .0 .1 .0;
-  segments = p .0 .0 .0 .1 .1;
-  fewJoins = p .0 .0 .1 .0 .0;
-  joins = p .0 .0 .1 .0 .1;
-  once = p .0 .0 .1 .1;
-  fewTrains = p .0 .1 .0 .0;
-  someTrain = p .0 .1 .0 .1;
-  trains = p .0 .1 .1;
-  calls = p .1 .0;
-  counts = p .1 .1;
-}
+unfolding wellFormed faultless bookFaults all passes Few trainAllFits between
+parts b h =
+    let p = and-iff (growing b) (all passes (bookFaults b)) .0 h in
+    let w = growing-parts b (p .0) in
+    let q = simp (and-iff, neither-iff) at (p .1) in
+    let runs = all-weaken _ (λ t. leb (length (runsOf b t)) maxRuns) (b .trains) (λ t h. not-above (length (runsOf b t)) maxRuns h)
+    (none-iff _ (b .trains) .0 (q .1 .0)) in
+    let called = none-iff (λ i. empty (callsOf b i)) (upTo (length (b .trains))) .0 (q .0 .1) in
+    record {
+      head = w .head;
+      fewNodes = w .nodes .0;
+      nodes = w .nodes .1;
+      fewSegments = w .segments .0;
+      segments = w .segments .1;
+      fewJoins = w .joins .0;
+      joins = w .joins .1;
+      once = w .once;
+      fewTrains = w .trains .0;
+      someTrain = q .0 .0;
+      trains = all-both _ _ (b .trains) (w .trains .1) runs;
+      calls = w .calls;
+      counts = all-weaken _ _ (upTo (length (b .trains)))
+          (λ i h. simp (and-iff, leb-iff) (not-empty (callsOf b i) h, w .fewCalls i)) called;
+    }
 
 -- ---- rows
 

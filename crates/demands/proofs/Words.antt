@@ -15,7 +15,7 @@ use Rattle.laws.proofs.Rows.{rows, all-append, all-cons}
 use Rattle.laws.proofs.Parts.{each-append}
 use Rattle.spec.specs.Lists.{all, each, one, sumTo}
 use Rattle.spec.specs.Instance.{Instance}
-use Rattle.spec.specs.Formula.{Literal, Clause, is, not′, width, firstVar, base, borderVar, runVar, goneVar, claimVar, ownVariables, variables, familyA, familyB, familyC, familyD, familyE, familyF, familyG, familyH, familyI, formula, wordsOf}
+use Rattle.spec.specs.Formula.{Literal, Clause, is, not′, width, firstVar, base, borderVar, runVar, goneVar, claimVar, ownVariables, variables, clausesB, clausesC, clausesD, clausesE, clauseE, followersE, serversF, clausesG, claimsG, clausesH, clausesI, familyA, familyB, familyC, familyD, familyE, familyF, familyG, familyH, familyI, formula, wordsOf}
 use Rattle.spec.specs.Extra.{extraClauses}
 use Rattle.spec.specs.Refutation.{variableOf, withWord, clausesOf, inRange}
 use Rattle.demands.proofs.Wellformed.{Sound}
@@ -95,7 +95,7 @@ module _ (I : Instance) where
 
   -- B: moves before the departure, which is before the last time
   keptB : Sound I → Kept (familyB I)
-  unfolding Kept familyB
+  unfolding Kept familyB clausesB runVar goneVar
   keptB sound = simp tested (λ i l t k.
       let d = sound .departs i l in
       let h : t < I .intervals = omega arith in
@@ -103,7 +103,7 @@ module _ (I : Instance) where
 
   -- C: moves from the departure on
   keptC : Kept (familyC I)
-  unfolding Kept familyC
+  unfolding Kept familyC clausesC runVar goneVar
   keptC = simp tested (λ i l t _ h. (
     ((λ r q. run-below i l t h r (omega arith)), gone-below i l t h),
     λ m p n _ q. (run-below i l t h m p, run-below i l t h n q),
@@ -111,14 +111,14 @@ module _ (I : Instance) where
 
   -- D: moves at the departure
   keptD : Sound I → Kept (familyD I)
-  unfolding Kept familyD
+  unfolding Kept familyD clausesD runVar goneVar
   keptD sound = simp tested (λ i l.
       let h = sound .departs i l in
       ((λ r q _. run-below i l (I .departure i) h r (omega arith)), gone-below i l (I .departure i) h))
 
   -- E: moves of two intervals, the second before the last time
   keptE : Kept (familyE I)
-  unfolding Kept familyE
+  unfolding Kept familyE clausesE clauseE followersE runVar goneVar
   keptE = simp tested (λ i l t _ k.
       let h : t < I .intervals = omega arith in
       let h′ : t + 1 < I .intervals = omega arith in (
@@ -131,23 +131,23 @@ module _ (I : Instance) where
 
   -- F: runs from the departure on
   keptF : Kept (familyF I)
-  unfolding Kept familyF
+  unfolding Kept familyF serversF runVar
   keptF = simp tested (λ i l c _ _ t _ h _ r q _. run-below i l t h r (omega arith))
 
   -- G: runs and the claims of their segments, which are the book's
   keptG : Sound I → Kept (familyG I)
-  unfolding Kept familyG
+  unfolding Kept familyG clausesG claimsG runVar claimVar
   keptG sound = simp (tested, all-iff) (λ i l t h r k s m.
       (run-below i l t h r (omega arith), claim-below i l t h s (sound .inside i r l k s m)))
 
   -- H: claims and borders
   keptH : Kept (familyH I)
-  unfolding Kept familyH
+  unfolding Kept familyH clausesH claimVar
   keptH = simp tested (λ i l t h n k s p u q _. (claim-below i l t h s p, (border-below n k, claim-below i l t h u q)))
 
   -- I: claims
   keptI : Kept (familyI I)
-  unfolding Kept familyI
+  unfolding Kept familyI clausesI
   keptI = simp tested (λ t h i l j _ m s k. (claim-below i l t h s k, claim-below j m t h s k))
 
   -- every literal of the formula is of one of its variables

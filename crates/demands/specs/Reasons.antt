@@ -17,9 +17,7 @@ use Rattle.spec.specs.Refutation.{ProofStep, Lent, stepIn, clauseAt, stepFaults
 
 -- ---- tables of refusals
 
--- the condition of a line does not hold
-unfoldable pub passes : Fault → Bool
-passes f = not (f .holds)
+unfoldable pub use Rattle.spec.specs.Lists.{passes}
 
 -- n is the number of a line whose condition holds, and no condition of a line before it does
 pub record FirstHolds (n : ℕ) (faults : List Fault) : Type 0 where

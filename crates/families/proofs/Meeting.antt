@@ -8,11 +8,10 @@ use lib.Seq.{slice}
 use lib.IntN.{ℤ}
 use Rattle.spec.specs.Lists.{Bytes, each, one}
 use Rattle.spec.specs.Instance.{Instance}
-use Rattle.spec.specs.Formula.{Clause, is, not′, wordsOf}
+use Rattle.spec.specs.Formula.{Clause, is, not′, borderVar, wordsOf, clausesH}
 use Rattle.demands.proofs.Words.{words-append}
 use Rattle.meets.specs.Meets.{meetBytes}
 use Rattle.meets.proofs.Triples.{bytes-next, bytes-end, triples, triples-next, triples-end, triples-meet}
-use Rattle.families.specs.Rows.{rowsH}
 
 -- the clause of two segments that meet at a node; the claims lie from x on
 abbrev pub meeting : ℕ → ℕ → ℕ → ℕ → Clause
@@ -45,8 +44,8 @@ module _ (x : ℕ) where
 
 -- all bytes are the rows of family H
 pub behind-all : (I : Instance) (i x n : ℕ) (meets : Bytes) (end : ℕ) → n ≡ I .runs i → take end meets ≡ meetBytes I
-    → behind (x + (n + 1)) meets end 0 ≡ wordsOf (rowsH I i x)
-unfolding rowsH
+    → behind (x + (n + 1)) meets end 0 ≡ wordsOf (clausesH I i x)
+unfolding clausesH borderVar
 behind-all I i x n meets end e f =
     ap₂ (λ (y : ℕ) (bytes : Bytes). wordsOf (clausesOf (x + (y + 1)) bytes)) e f
     ∙ ap wordsOf (triples-meet (meeting (x + (I .runs i + 1))) I)

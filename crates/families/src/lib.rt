@@ -37,14 +37,13 @@ ghost use Rattle.spec.specs.Lists.{upTo, each, only, one};
 ghost use Rattle.spec.specs.Book.{segmentOf};
 ghost use Rattle.spec.specs.Runs.{startPlace, endPlace};
 ghost use Rattle.spec.specs.Instance.{instanceOf, callAt, trainLength, runLists, runAt};
-ghost use Rattle.spec.specs.Formula.{is, not′, familyA, wordsOf};
+ghost use Rattle.spec.specs.Formula.{is, not′, clausesB, clausesC, clausesI, clausesD, clausesE, serversF, clausesG, clausesH, familyA, wordsOf};
 ghost use Rattle.spec.specs.Held.{held};
 ghost use Rattle.clauses.specs.Walked.{Walks};
 ghost use Rattle.places.specs.Placed.{placeAt, runHeld, endAt};
 ghost use Rattle.tables.specs.Tables.{Passed};
 ghost use Rattle.tables.specs.Ready.{RunsHeld, ChainsHeld};
 ghost use Rattle.meets.specs.Meets.{meetBytes};
-ghost use Rattle.families.specs.Rows.{rowsB, rowsC, rowsI, rowsD, rowsE, serversF, rowsG, rowsH};
 ghost use Rattle.families.specs.Chained.{Chained};
 
 // A: the borders that the nodes' kinds deny or force.
@@ -67,7 +66,7 @@ pub fn family_a(b: Book, w: Walk, values: &[u8], out: &mut [i32]) -> Walk
 // B: before its departure a train has no run and is not gone.
 pub fn rows_b(w: Walk, base: usize, n: usize, values: &[u8], out: &mut [i32]) -> Walk
     requires { ⌜ base + n < 999999999 ⌝ }
-    ensures { λ r. ⌜ Walks (now (values .entry)) (wordsOf (rowsB n base)) w (now (out .entry)) r (now (out .exit)) ⌝ }
+    ensures { λ r. ⌜ Walks (now (values .entry)) (wordsOf (clausesB n base)) w (now (out .entry)) r (now (out .exit)) ⌝ }
 {
     deny_all(w, base, n + 1, values, out)
 }
@@ -75,7 +74,7 @@ pub fn rows_b(w: Walk, base: usize, n: usize, values: &[u8], out: &mut [i32]) ->
 // C: from its departure on a train has some run or is gone, and no two of these.
 pub fn rows_c(w: Walk, base: usize, n: usize, values: &[u8], out: &mut [i32]) -> Walk
     requires { ⌜ (base + n < 999999999) × (n ≤ 256) ⌝ }
-    ensures { λ r. ⌜ Walks (now (values .entry)) (wordsOf (rowsC n base)) w (now (out .entry)) r (now (out .exit)) ⌝ }
+    ensures { λ r. ⌜ Walks (now (values .entry)) (wordsOf (clausesC n base)) w (now (out .entry)) r (now (out .exit)) ⌝ }
 {
     let some = some_of(w, base, n + 1, values, out);
     no_two(some, base, n + 1, values, out)
@@ -96,7 +95,7 @@ pub fn rows_d(
     requires { ⌜ Passed b × (train < b .«train_count») × (n ≡ instanceOf (held b) .runs train) × (n ≤ 256) × (base + n < 999999999)
         × (l ≡ trainLength (held b) train) × (l ≤ 8) × (length (now rows) ≡ 4096)
         × ((r : ℕ) → r < n → placeAt (now rows) (16 * r) l ≡ startPlace l (runAt (runLists (held b)) train r)) ⌝ }
-    ensures { λ r. ⌜ Walks (now (values .entry)) (wordsOf (rowsD (instanceOf (held b)) train base)) w (now (out .entry)) r (now (out .exit)) ⌝ }
+    ensures { λ r. ⌜ Walks (now (values .entry)) (wordsOf (clausesD (instanceOf (held b)) train base)) w (now (out .entry)) r (now (out .exit)) ⌝ }
 {
     let t = b.trains[train];
     let mut next = w;
@@ -182,7 +181,7 @@ pub fn rows_e(
     requires { ⌜ Passed b × (train < b .«train_count») × (n ≡ instanceOf (held b) .runs train) × (base + n < 999999999) × (after + n < 999999999)
         × (l ≡ trainLength (held b) train) × (l ≤ 8) × RunsHeld (held b) train (now rows) (now sizes)
         × ChainsHeld (held b) train (now firsts) (now nexts) ⌝ }
-    ensures { λ r. ⌜ Walks (now (values .entry)) (wordsOf (rowsE (instanceOf (held b)) train base after)) w (now (out .entry)) r (now (out .exit)) ⌝ }
+    ensures { λ r. ⌜ Walks (now (values .entry)) (wordsOf (clausesE (instanceOf (held b)) train base after)) w (now (out .entry)) r (now (out .exit)) ⌝ }
 {
     let to = goal(b, train);
     let mut next = w;
@@ -273,7 +272,7 @@ pub fn rows_g(
     requires { ⌜ (n ≡ instanceOf (held b) .runs train) × (n ≤ 256) × (base + n + 1 + 128 < 1000000000)
         × (length (now rows) ≡ 4096) × (length (now sizes) ≡ 256) × ((r : ℕ) → r < n → getD (now sizes) r 0 ≤ 16)
         × ((r : ℕ) → r < n → runHeld (now rows) (now sizes) r ≡ runAt (runLists (held b)) train r) ⌝ }
-    ensures { λ r. ⌜ Walks (now (values .entry)) (wordsOf (rowsG (instanceOf (held b)) train base)) w (now (out .entry)) r (now (out .exit)) ⌝ }
+    ensures { λ r. ⌜ Walks (now (values .entry)) (wordsOf (clausesG (instanceOf (held b)) train base)) w (now (out .entry)) r (now (out .exit)) ⌝ }
 {
     let mut next = w;
     let mut r = 0;
@@ -309,7 +308,7 @@ pub fn rows_h(
 ) -> Walk
     requires { ⌜ (n ≡ instanceOf (held b) .runs train) × (base + n + 1 + 256 < 1000000000)
         × (end ≤ length (now meets)) × (take end (now meets) ≡ meetBytes (instanceOf (held b))) ⌝ }
-    ensures { λ r. ⌜ Walks (now (values .entry)) (wordsOf (rowsH (instanceOf (held b)) train base)) w (now (out .entry)) r (now (out .exit)) ⌝ }
+    ensures { λ r. ⌜ Walks (now (values .entry)) (wordsOf (clausesH (instanceOf (held b)) train base)) w (now (out .entry)) r (now (out .exit)) ⌝ }
 {
     let claims = claims_from(base, n);
     let mut next = w;
@@ -339,7 +338,7 @@ pub fn rows_i(
     out: &mut [i32],
 ) -> Walk
     requires { ⌜ (lower + n < 1000000000) × (higher + n < 1000000000) ⌝ }
-    ensures { λ r. ⌜ Walks (now (values .entry)) (wordsOf (rowsI n lower higher)) w (now (out .entry)) r (now (out .exit)) ⌝ }
+    ensures { λ r. ⌜ Walks (now (values .entry)) (wordsOf (clausesI n (λ s. lower + s) (λ s. higher + s))) w (now (out .entry)) r (now (out .exit)) ⌝ }
 {
     let mut next = w;
     let mut s = 0;

@@ -7,10 +7,9 @@ use native.Mathlib.Omega.{arith}
 use mathlib.Core.List.{List, _∷_, append-nil}
 use Rattle.spec.specs.Lists.{upTo, range, each, one}
 use Rattle.spec.specs.Instance.{Instance}
-use Rattle.spec.specs.Formula.{Clause, not′, width, base, runVar, goneVar, claimVar, borderVar, familyB, familyC, familyD, familyE, familyF, familyG, familyH, familyI}
+use Rattle.spec.specs.Formula.{Clause, not′, width, base, claimVar, clausesB, clausesI, clausesD, clausesE, clausesG, clausesH, familyB, familyC, familyD, familyE, familyF, familyG, familyH, familyI}
 use Rattle.laws.proofs.Parts.{each-mem-same, each-same, map-same}
 use Rattle.clauses.proofs.Turns.{upTo-range, range-next, range-end}
-use Rattle.families.specs.Rows.{rowsB, rowsC, rowsI, rowsD, followersE, clauseE, rowsE, serversF, claimsG, rowsG, rowsH}
 use Rattle.formula.specs.declared.Family.the-variants.{B, C, D, E, G, H}
 use Rattle.formula.specs.Families.{trainRows, familyRows, callRuns, callRows, pairsBehind}
 
@@ -28,16 +27,16 @@ module _ (I : Instance) where
   from-start f n = ap (λ (ks : List ℕ). each ks f) (sym (upTo-range n))
 
   pub shape-b : familyRows I B ≡ familyB I
-  unfolding familyRows trainRows familyB rowsB runVar goneVar
-  shape-b = each-same _ _ (I .trains) (λ i _. from-start (λ t. rowsB (I .runs i) (base I i t)) (I .departure i))
+  unfolding familyRows trainRows familyB
+  shape-b = each-same _ _ (I .trains) (λ i _. from-start (λ t. clausesB (I .runs i) (base I i t)) (I .departure i))
 
   pub shape-c : familyRows I C ≡ familyC I
-  unfolding familyRows trainRows familyC rowsC runVar goneVar
+  unfolding familyRows trainRows familyC
   shape-c = refl
 
   pub shape-d : familyRows I D ≡ familyD I
-  unfolding familyRows trainRows familyD rowsD runVar goneVar each
-  shape-d = each-same _ _ (I .trains) (λ i _. only-one (λ t. rowsD I i (base I i t)) (I .departure i))
+  unfolding familyRows trainRows familyD each
+  shape-d = each-same _ _ (I .trains) (λ i _. only-one (λ t. clausesD I i (base I i t)) (I .departure i))
     where
       only-one : (f : ℕ → List Clause) (d : ℕ) → each (range d (d + 1)) f ≡ f d
       only-one f d =
@@ -45,30 +44,34 @@ module _ (I : Instance) where
           ∙ append-nil (f d)
 
   pub shape-e : familyRows I E ≡ familyE I
-  unfolding familyRows trainRows familyE rowsE clauseE followersE runVar goneVar
+  unfolding familyRows trainRows familyE
   shape-e = each-same _ _ (I .trains) (λ i _.
-      each-mem-same _ _ (range (I .departure i) (I .intervals - 1)) (λ t _. ap (rowsE I i (base I i t)) (sym (base-next i t))))
+      each-mem-same _ _ (range (I .departure i) (I .intervals - 1)) (λ t _. ap (clausesE I i (base I i t)) (sym (base-next i t))))
 
   pub shape-f : (each (upTo (I .trains)) λ i. each (upTo (I .calls i)) λ c. callRows I i c) ≡ familyF I
-  unfolding familyF callRows callRuns serversF runVar
+  unfolding familyF callRows callRuns
   shape-f = refl
 
   pub shape-g : familyRows I G ≡ familyG I
-  unfolding familyRows trainRows familyG rowsG claimsG runVar claimVar
-  shape-g = each-same _ _ (I .trains) (λ i _. from-start (λ t. rowsG I i (base I i t)) (I .intervals))
+  unfolding familyRows trainRows familyG
+  shape-g = each-same _ _ (I .trains) (λ i _. from-start (λ t. clausesG I i (base I i t)) (I .intervals))
 
   pub shape-h : familyRows I H ≡ familyH I
-  unfolding familyRows trainRows familyH rowsH claimVar borderVar
-  shape-h = each-same _ _ (I .trains) (λ i _. from-start (λ t. rowsH I i (base I i t)) (I .intervals))
+  unfolding familyRows trainRows familyH
+  shape-h = each-same _ _ (I .trains) (λ i _. from-start (λ t. clausesH I i (base I i t)) (I .intervals))
+
+  pub shape-i : (each (upTo (I .intervals)) λ t. each (upTo (I .trains)) λ i. pairsBehind I t i) ≡ familyI I
+  unfolding familyI pairsBehind
+  shape-i = refl
 
   -- claims lie one behind the other
   pub claim-shift : (i t s : ℕ) → claimVar I i t 0 + s ≡ claimVar I i t s
   unfolding claimVar
   claim-shift i t s = omega arith
 
-  pub shape-i : (each (upTo (I .intervals)) λ t. each (upTo (I .trains)) λ i. pairsBehind I t i) ≡ familyI I
-  unfolding familyI pairsBehind rowsI
-  shape-i =
-      each-same _ _ (I .intervals) (λ t _. each-same _ _ (I .trains) (λ i _. each-mem-same _ _ (range (i + 1) (I .trains)) (λ j _.
-      map-same _ _ (I .segments) (λ s _.
-      ap₂ (λ (a b : ℕ). not′ a ∷ one (not′ b)) (claim-shift i t s) (claim-shift j t s)))))
+  -- the pairs of two trains' claims, by the first claim of each
+  pub pairs-from : (n i j t lower higher : ℕ) → lower ≡ claimVar I i t 0 → higher ≡ claimVar I j t 0
+      → clausesI n (λ s. lower + s) (λ s. higher + s) ≡ clausesI n (claimVar I i t) (claimVar I j t)
+  unfolding clausesI
+  pairs-from n i j t lower higher e f = map-same _ _ n (λ s _.
+      ap₂ (λ (a b : ℕ). not′ a ∷ one (not′ b)) (ap (λ (x : ℕ). x + s) e ∙ claim-shift i t s) (ap (λ (x : ℕ). x + s) f ∙ claim-shift j t s))

@@ -9,13 +9,12 @@ use lib.ListN.{length, length-append, length-map}
 use lib.IntN.{ℤ, pos}
 use Rattle.spec.specs.Lists.{upTo, range, each, only, one}
 use Rattle.spec.specs.Instance.{Instance, inWindow, servedAtDeparture}
-use Rattle.spec.specs.Formula.{Clause, is, not′, width, base, borderVar, familyA, formula, wordsOf}
+use Rattle.spec.specs.Formula.{Clause, is, not′, width, base, borderVar, familyA, formula, wordsOf, clausesB, clausesC, clausesI, clausesD, followersE, clauseE, clausesE, serversF, claimsG, clausesG, clausesH}
 use Rattle.spec.specs.Extra.{extraClauses}
 use Rattle.laws.proofs.Tests.{upTo-mem}
 use Rattle.laws.proofs.Parts.{length-count, length-upTo}
 use Rattle.clauses.specs.Walked.{most}
 use Rattle.demands.proofs.Words.{words-append}
-use Rattle.families.specs.Rows.{rowsB, rowsC, rowsI, rowsD, followersE, clauseE, rowsE, serversF, claimsG, rowsG, rowsH}
 use Rattle.formula.specs.declared.Family.{Family}
 use Rattle.formula.specs.declared.Family.the-variants.{B, C, D, E, G, H}
 use Rattle.formula.specs.Families.{fromBy, toBy, rowsOf, trainRows, familyRows, callRuns, callRows, pairsBehind}
@@ -124,9 +123,9 @@ module _ (I : Instance) (few : Few I) where
     fewRuns : n ≤ 256
     fewRuns = few .runs i l
 
-    rowsB-small : size (rowsB n x) ≤ 514
-    unfolding rowsB
-    rowsB-small =
+    clausesB-small : size (clausesB n x) ≤ 514
+    unfolding clausesB
+    clausesB-small =
         let s = size-map (upTo n) (λ r. one (not′ (x + r))) 256 2 (up _ _ fewRuns) (λ r _. le-refl 2) in
         omega (arith, size-append (map (λ r. one (not′ (x + r))) (upTo n)) (one (one (not′ (x + n)))), size-one (one (not′ (x + n))))
 
@@ -137,9 +136,9 @@ module _ (I : Instance) (few : Few I) where
     pairs-small = size-each (upTo (n + 1)) _ 257 (257 * 3) (up _ _ (omega (arith, fewRuns))) (λ m _.
         size-map (range (m + 1) (n + 1)) _ 257 3 (below _ _ _ (omega (arith, fewRuns))) (λ k _. le-refl 3))
 
-    rowsC-small : size (rowsC n x) ≤ 198405
-    unfolding rowsC
-    rowsC-small =
+    clausesC-small : size (clausesC n x) ≤ 198405
+    unfolding clausesC
+    clausesC-small =
         let some = map (λ r. is (x + r)) (upTo n) in
         omega (
           arith,
@@ -151,9 +150,9 @@ module _ (I : Instance) (few : Few I) where
           up _ _ fewRuns,
         )
 
-    rowsD-small : size (rowsD I i x) ≤ 514
-    unfolding rowsD
-    rowsD-small =
+    clausesD-small : size (clausesD I i x) ≤ 514
+    unfolding clausesD
+    clausesD-small =
         let starts = each (upTo n) λ r. only (not (I .given i r)) (one (one (not′ (x + r)))) in
         let s = size-each (upTo n) (λ r. only (not (I .given i r)) (one (one (not′ (x + r))))) 256 2 (up _ _ fewRuns) (λ r _.
         omega (arith, size-only (not (I .given i r)) (one (one (not′ (x + r)))), size-one (one (not′ (x + r))))) in
@@ -166,33 +165,33 @@ module _ (I : Instance) (few : Few I) where
         let s = length-rows (upTo n) (λ q. only (I .follows i r q) (one (is (y + q)))) 256 1 (up _ _ fewRuns) (λ q. length-only _ _ 1 (le-refl 1)) in
         omega (arith, length-append runs (only (I .leaves i r) (one (is (y + n)))), length-only (I .leaves i r) (one (is (y + n))) 1 (le-refl 1))
 
-    rowsE-small : (y : ℕ) → size (rowsE I i x y) ≤ 66307
-    unfolding rowsE
-    rowsE-small y =
+    clausesE-small : (y : ℕ) → size (clausesE I i x y) ≤ 66307
+    unfolding clausesE
+    clausesE-small y =
         let s = size-map (upTo n) (clauseE I i x y) 256 259 (up _ _ fewRuns) (λ r _. clauseE-small y r) in
         let last = not′ (x + n) ∷ one (is (y + n)) in
         omega (arith, size-append (map (clauseE I i x y) (upTo n)) (one last), size-one last)
 
-    rowsG-small : size (rowsG I i x) ≤ 256 * (16 * 3)
-    unfolding rowsG claimsG
-    rowsG-small = size-each (upTo n) _ 256 (16 * 3) (up _ _ fewRuns) (λ r m.
+    clausesG-small : size (clausesG I i x) ≤ 256 * (16 * 3)
+    unfolding clausesG claimsG
+    clausesG-small = size-each (upTo n) _ 256 (16 * 3) (up _ _ fewRuns) (λ r m.
         size-map (I .path i r) _ 16 3 (few .paths i r l (inside _ _ m)) (λ s _. le-refl 3))
 
-    rowsH-small : size (rowsH I i x) ≤ 96 * (64 * (64 * 4))
-    unfolding rowsH
-    rowsH-small = size-each (upTo (I .nodes)) _ 96 (64 * (64 * 4)) (up _ _ (few .nodes)) (λ k _.
+    clausesH-small : size (clausesH I i x) ≤ 96 * (64 * (64 * 4))
+    unfolding clausesH
+    clausesH-small = size-each (upTo (I .nodes)) _ 96 (64 * (64 * 4)) (up _ _ (few .nodes)) (λ k _.
         size-each (upTo (I .segments)) _ 64 (64 * 4) (up _ _ (few .segments)) (λ s _.
         size-each (upTo (I .segments)) _ 64 4 (up _ _ (few .segments)) (λ u _.
-        let c = not′ (x + (n + 1 + s)) ∷ is k ∷ one (is (x + (n + 1 + u))) in
+        let c = not′ (x + (n + 1 + s)) ∷ is (borderVar I k) ∷ one (is (x + (n + 1 + u))) in
         omega (arith, size-only (I .meet k s u) (one c), size-one c))))
 
     rows-small : (f : Family) → size (rowsOf I f i x) ≤ 1572864
-    rows-small B = omega (arith, rowsB-small)
-    rows-small C = omega (arith, rowsC-small)
-    rows-small D = omega (arith, rowsD-small)
-    rows-small E = omega (arith, rowsE-small (x + width I i))
-    rows-small G = omega (arith, rowsG-small)
-    rows-small H = omega (arith, rowsH-small)
+    rows-small B = omega (arith, clausesB-small)
+    rows-small C = omega (arith, clausesC-small)
+    rows-small D = omega (arith, clausesD-small)
+    rows-small E = omega (arith, clausesE-small (x + width I i))
+    rows-small G = omega (arith, clausesG-small)
+    rows-small H = omega (arith, clausesH-small)
 
   -- a family ends by the last interval
   to-small : (f : Family) (i : ℕ) → i < I .trains → toBy f (I .departure i) (I .intervals) ≤ 65536
@@ -223,7 +222,7 @@ module _ (I : Instance) (few : Few I) where
       omega (arith, size-only (not (servedAtDeparture I i c)) (one lits), size-one lits)))
 
   sizeI : size (each (upTo (I .intervals)) λ t. each (upTo (I .trains)) λ i. pairsBehind I t i) ≤ 65536 * (8 * (8 * (64 * 3)))
-  unfolding pairsBehind rowsI
+  unfolding pairsBehind clausesI
   sizeI = size-each (upTo (I .intervals)) _ 65536 (8 * (8 * (64 * 3))) (up _ _ (few .intervals)) (λ t _.
       size-each (upTo (I .trains)) _ 8 (8 * (64 * 3)) (up _ _ (few .trains)) (λ i _.
       size-each (range (i + 1) (I .trains)) _ 8 (64 * 3) (below _ _ _ (few .trains)) (λ j _.

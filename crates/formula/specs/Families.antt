@@ -7,8 +7,7 @@ use mathlib.Core.List.{List}
 use lib.IntN.{ℤ}
 use Rattle.spec.specs.Lists.{upTo, range, each, only, one}
 use Rattle.spec.specs.Instance.{Instance, inWindow, servedAtDeparture}
-use Rattle.spec.specs.Formula.{Clause, width, base, claimVar}
-use Rattle.families.specs.Rows.{rowsB, rowsC, rowsD, rowsE, serversF, rowsG, rowsH, rowsI}
+use Rattle.spec.specs.Formula.{Clause, width, base, claimVar, clausesB, clausesC, clausesD, clausesE, serversF, clausesG, clausesH, clausesI}
 use Rattle.formula.specs.declared.Family.{Family}
 use Rattle.formula.specs.declared.Family.the-variants.{B, C, D, E, G, H}
 
@@ -31,12 +30,12 @@ toBy H d T = T
 
 -- the rows of an interval whose first variable is x
 abbrev pub rowsOf : Instance → Family → ℕ → ℕ → List Clause
-rowsOf I B i x = rowsB (I .runs i) x
-rowsOf I C i x = rowsC (I .runs i) x
-rowsOf I D i x = rowsD I i x
-rowsOf I E i x = rowsE I i x (x + width I i)
-rowsOf I G i x = rowsG I i x
-rowsOf I H i x = rowsH I i x
+rowsOf I B i x = clausesB (I .runs i) x
+rowsOf I C i x = clausesC (I .runs i) x
+rowsOf I D i x = clausesD I i x
+rowsOf I E i x = clausesE I i x (x + width I i)
+rowsOf I G i x = clausesG I i x
+rowsOf I H i x = clausesH I i x
 
 -- the rows of a train
 unfoldable pub trainRows : Instance → Family → ℕ → List Clause
@@ -57,4 +56,4 @@ callRows I i c = only (not (servedAtDeparture I i c)) (one (callRuns I i c))
 
 -- a train and each behind it, in an interval
 unfoldable pub pairsBehind : Instance → ℕ → ℕ → List Clause
-pairsBehind I t i = each (range (i + 1) (I .trains)) λ j. rowsI (I .segments) (claimVar I i t 0) (claimVar I j t 0)
+pairsBehind I t i = each (range (i + 1) (I .trains)) λ j. clausesI (I .segments) (claimVar I i t) (claimVar I j t)

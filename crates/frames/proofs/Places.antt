@@ -9,12 +9,21 @@ use lib.Dec.{T}
 use Rattle.laws.proofs.Tests.{decide, true-of, denied-of}
 use Rattle.laws.proofs.Numbers.{field-drop}
 use Rattle.laws.proofs.Frames.{whole-iff}
-use Rattle.spec.specs.Lists.{Bytes}
+use Rattle.spec.specs.Lists.{Bytes, one, _when_, firstFault}
 use Rattle.spec.specs.Numbers.{field}
 use Rattle.spec.specs.Frames.{cutShort, kindField, payloadLength}
 use Rattle.frames.specs.declared.Framed.{Framed}
 use Rattle.frames.specs.declared.Framed.the-variants.{Whole, Cut}
-use Rattle.frames.specs.Framed.{framedAt}
+use Rattle.frames.specs.Framed.{framedAt, wholeOr, framedRefusal}
+
+-- a case's number is the one of its line in the file's table
+pub refusal-of : (t : Bytes) (f : Framed) → f ≡ framedAt t → (f ≡ framedAt t) × ((n : ℕ) → framedRefusal n f ≡ firstFault (one (n when cutShort t)))
+unfolding framedAt firstFault
+refusal-of t f e = (e, λ n. ap (framedRefusal n) e ∙ go n (cutShort t))
+  where
+    go : (n : ℕ) (cut : Bool) → framedRefusal n (wholeOr cut (Whole (kindField t) (payloadLength t))) ≡ firstFault (one (n when cut))
+    go n true = refl
+    go n false = refl
 
 -- the length and the kind that a frame at a place says
 pub length-at : (s : Bytes) (at : ℕ) → payloadLength (drop at s) ≡ field s at 2

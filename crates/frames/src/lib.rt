@@ -3,11 +3,12 @@
 // payload; its constructor `cursor` gives the stretch of a file that the payload's fixed part takes.
 // Assumes nothing.
 ghost use mathlib.Core.Path.{_≡_};
-ghost use Prim.Native.Nat.{_+_, _≤_, _<_};
+ghost use Prim.Native.Nat.{ℕ, _+_, _≤_, _<_};
 ghost use lib.ListN.{length, drop};
 ghost use Rattle.spec.specs.Frames as frames;
+ghost use Rattle.spec.specs.Lists.{one, _when_, firstFault};
 ghost use Rattle.spec.specs.Numbers.{field};
-ghost use Rattle.frames.specs.Framed.{framedAt, outOfOrderBy};
+ghost use Rattle.frames.specs.Framed.{framedAt, framedRefusal, kindSaid, outOfOrderBy};
 
 // How many bytes a frame has ahead of its payload: the payload's length and the kind.
 pub const OPENING: usize = 4;
@@ -214,10 +215,12 @@ pub enum Framed {
     Cut,
 }
 
-// The frame at a place: 1 and 17 refuse where it is cut.
+// The frame at a place. A cut one is refused by the number n that its file's table gives it: 1 in a
+// book, 17 in a refutation.
 pub fn frame_at(s: &[u8], at: usize) -> Framed
     requires { ⌜ at ≤ length (now s) ⌝ }
-    ensures { λ r. ⌜ r ≡ framedAt (drop at (now (s .entry))) ⌝ }
+    ensures { λ r. ⌜ (r ≡ framedAt (drop at (now (s .entry))))
+        × ((n : ℕ) → framedRefusal n r ≡ firstFault (one (n when frames.cutShort (drop at (now (s .entry)))))) ⌝ }
 {
     if s.len() - at < OPENING {
         return Framed::Cut;
@@ -231,38 +234,69 @@ pub fn frame_at(s: &[u8], at: usize) -> Framed
     }
 }
 
+// The kinds of a book's frames, and what a number that is no kind's stands for.
+pub enum Kind {
+    Head,
+    Node,
+    Segment,
+    Join,
+    Train,
+    Call,
+    Unbreakable,
+    End,
+    Unknown,
+}
+
+// The kind that a number says.
+pub fn kind_of(number: usize) -> Kind
+    ensures { λ r. ⌜ r ≡ kindSaid (frames.findKind number frames.kindOrder) ⌝ }
+{
+    if number == HeadFrame::KIND {
+        return Kind::Head;
+    }
+    if number == NodeFrame::KIND {
+        return Kind::Node;
+    }
+    if number == SegmentFrame::KIND {
+        return Kind::Segment;
+    }
+    if number == JoinFrame::KIND {
+        return Kind::Join;
+    }
+    if number == TrainFrame::KIND {
+        return Kind::Train;
+    }
+    if number == CallFrame::KIND {
+        return Kind::Call;
+    }
+    if number == UnbreakableFrame::KIND {
+        return Kind::Unbreakable;
+    }
+    if number == EndFrame::KIND {
+        return Kind::End;
+    }
+    Kind::Unknown
+}
+
 // What `rank` answers for a number that is no kind's.
 pub const NO_RANK: usize = 9;
 
-// The place of a kind in the order of kinds, from 1, or NO_RANK.
-pub fn rank(kind: usize) -> usize
-    ensures { λ r. ⌜ r ≡ frames.rank kind ⌝ }
+// The place of a kind's number in the order of kinds, from 1, or NO_RANK.
+pub fn rank(number: usize) -> usize
+    ensures { λ r. ⌜ r ≡ frames.rank number ⌝ }
 {
-    if kind == HeadFrame::KIND {
-        return 1;
+    let kind = kind_of(number);
+    match kind {
+        Kind::Head => 1,
+        Kind::Node => 2,
+        Kind::Segment => 3,
+        Kind::Join => 4,
+        Kind::Train => 5,
+        Kind::Call => 6,
+        Kind::Unbreakable => 7,
+        Kind::End => 8,
+        Kind::Unknown => NO_RANK,
     }
-    if kind == NodeFrame::KIND {
-        return 2;
-    }
-    if kind == SegmentFrame::KIND {
-        return 3;
-    }
-    if kind == JoinFrame::KIND {
-        return 4;
-    }
-    if kind == TrainFrame::KIND {
-        return 5;
-    }
-    if kind == CallFrame::KIND {
-        return 6;
-    }
-    if kind == UnbreakableFrame::KIND {
-        return 7;
-    }
-    if kind == EndFrame::KIND {
-        return 8;
-    }
-    NO_RANK
 }
 
 // 3: whether a frame is out of order, after a kind's rank (0 before the first frame) and with so many

@@ -1,28 +1,28 @@
--- Paths by their length: extending in two steps is extending at once, so the paths of one length are those of the length before, each
--- extended by one segment; what is listed is read back from the rows. Assumes nothing.
+-- Paths by their length: extending in two steps is extending at once, so the paths of a further length are the places, each extended
+-- by what is missing; the places are read back from the rows. Assumes nothing.
 use mathlib.Core.Path.{_≡_, refl, sym, ap, ap₂, _∙_, subst}
 use mathlib.Core.Logic.{_↔_}
 use mathlib.Core.Bool.{Bool, true, false, _&&_}
 use Prim.Native.Nat.{ℕ, zero, suc, _+_, _*_, _-_, _≤_, _<_}
-use native.Mathlib.Nat.{add-zero, zero-add, suc-add}
+use native.Mathlib.Nat.{zero-add, suc-add}
 use native.Mathlib.Omega.{arith}
 use mathlib.Core.List.{List, [], _∷_, _++_, map, append-nil, append-assoc}
 use lib.ListN.{length, getD, replicate, length-append, length-map}
 use lib.Seq.{ext-getD}
 use lib.Dec.{T, eqb, ltb, leb, leb→le}
-use Rattle.spec.specs.Lists.{Bytes, upTo, count, each, one, all, has, lastOr}
+use Rattle.spec.specs.Lists.{Bytes, upTo, each, one, all, has, lastOr}
 use Rattle.spec.specs.Book.{Book, Train, segmentOf, lengthInSegments, speedInSegments}
 use Rattle.spec.specs.Held.{padded}
 use Rattle.spec.specs.Runs.{runsOf, pathsOf}
 use Rattle.laws.proofs.Tests.{and-iff, eqb-iff, ltb-iff, leb-iff, all-iff, all-at, all-upTo}
 use Rattle.laws.proofs.Rows.{all-one, all-each, all-map}
-use Rattle.laws.proofs.Parts.{Part, part-here, part-behind, part-in, each-append, each-mem-same, length-upTo, map-at}
-use Rattle.listing.specs.Listed.{successorsBy, SuccessorsHeld, extendBy, pathsBy}
-use Rattle.listing.specs.Listed.{runIn, runsIn, longerBy, furtherBy, rowsAfter, countAfter}
+use Rattle.laws.proofs.Parts.{Part, part-here, part-behind, part-in, each-append, each-mem-same, length-upTo, map-at, map-same}
+use Rattle.listing.specs.Listed.{successorsBy, SuccessorsHeld, Covered, extendBy, pathsBy}
+use Rattle.listing.specs.Listed.{runIn, placesIn, PlacesCovered, longerBy, furtherBy, rowsAfter, countAfter}
 use Rattle.listing.proofs.Leaves.{last-append, part-sets, part-slice}
 use Rattle.listing.proofs.Lists.{short, unless, unless-all, onward, each-nothing, each-next, each-short, extend-short}
-use Rattle.listing.proofs.Lists.{kept-first, length-padded, length-rows}
-use Rattle.listing.proofs.Successors.{paths-same, successors-below, run-short, run-long}
+use Rattle.listing.proofs.Lists.{kept-first, length-padded, length-rows, Listed}
+use Rattle.listing.proofs.Successors.{paths-same, successors-below, run-short, run-stays}
 
 -- ---- rows of rows
 
@@ -78,63 +78,23 @@ module _ (table fans : Bytes) where
       (λ d. each (extendBy table fans (l - 1) (one d)) (extendBy table fans j)) (upTo n) (λ d _. extend-add (l - 1) j (one d))
       ∙ sym (each-each (upTo n) (λ d. extendBy table fans (l - 1) (one d)) (extendBy table fans j))
 
-  -- the paths that extend paths by j segments
-  abbrev pub level : List (List ℕ) → ℕ → List (List ℕ)
-  level paths j = each paths (extendBy table fans j)
-
-  pub level-none : (paths : List (List ℕ)) → level paths 0 ≡ paths
-  unfolding extendBy each
-  level-none [] = refl
-  level-none (p ∷ ps) = ap (λ (l : List (List ℕ)). p ∷ l) (level-none ps)
-
-  pub level-next : (paths : List (List ℕ)) (j : ℕ) → longerBy table fans (level paths j) ≡ level paths (j + 1)
-  unfolding longerBy
-  level-next paths j =
-      each-each paths (extendBy table fans j) (extendBy table fans 1)
-      ∙ each-mem-same (λ p. each (extendBy table fans j p) (extendBy table fans 1)) (extendBy table fans (j + 1)) paths
-      (λ p _. sym (extend-add j 1 p))
-
-  -- where no path is so long, none is longer
-  later-none : (paths : List (List ℕ)) (j i : ℕ) → level paths j ≡ [] → level paths (j + i) ≡ []
-  unfolding longerBy each
-  later-none paths j zero e = ap (level paths) (add-zero j) ∙ e
-  later-none paths j (suc i) e =
-      let s : j + suc i ≡ j + i + 1 = omega arith in
-      ap (level paths) s ∙ sym (level-next paths (j + i)) ∙ empty (later-none paths j i e)
-    where
-      empty : {ps : List (List ℕ)} → ps ≡ [] → longerBy table fans ps ≡ []
-      empty h = ap (longerBy table fans) h
-
-  further-more : (paths : List (List ℕ)) (j i : ℕ) → level paths j ≡ [] → furtherBy table fans paths j ≡ furtherBy table fans paths (j + i)
-  unfolding furtherBy
-  further-more paths j zero e = ap (furtherBy table fans paths) (sym (add-zero j))
-  further-more paths j (suc i) e =
-      let s : j + i + 1 ≡ j + suc i = omega arith in
-      further-more paths j i e
-      ∙ sym (append-nil (furtherBy table fans paths (j + i)))
-      ∙ ap (λ (l : List (List ℕ)). furtherBy table fans paths (j + i) ++ l)
-      (sym (ap (level paths) s ∙ later-none paths j (suc i) e))
-      ∙ sym (each-next (λ n. level paths (n + 1)) (j + i))
-      ∙ ap (furtherBy table fans paths) s
-
-  pub further-end : (paths : List (List ℕ)) (j k : ℕ) → j ≤ k → level paths j ≡ []
-      → furtherBy table fans paths j ≡ furtherBy table fans paths k
-  further-end paths j k h e =
-      let s : j + (k - j) ≡ k = omega arith in
-      further-more paths j (k - j) e ∙ ap (furtherBy table fans paths) s
+  pub longer-none : (places : List (List ℕ)) → longerBy table fans places 0 ≡ places
+  unfolding longerBy extendBy each
+  longer-none [] = refl
+  longer-none (p ∷ ps) = ap (λ (l : List (List ℕ)). p ∷ l) (longer-none ps)
 
 -- a train's runs: the paths of l segments, and further
 pub runs-further : {b : Book} {table fans : Bytes} → SuccessorsHeld b table fans → (t : Train) (n l k : ℕ) → n ≡ 2 * length (b .segments)
     → l ≡ lengthInSegments b t → k ≡ speedInSegments b t → 1 ≤ l
     → runsOf b t ≡ pathsBy table fans n l ++ furtherBy table fans (pathsBy table fans n l) k
-unfolding runsOf furtherBy
+unfolding runsOf furtherBy longerBy
 runs-further {b} {table} {fans} h t n l k en el ek some =
-    let first = pathsBy table fans n l in
+    let places = pathsBy table fans n l in
     ap₂ (λ (a m : ℕ). each (upTo (m + 1)) (λ j. pathsOf b (a + j))) (sym el) (sym ek)
-    ∙ each-mem-same (λ j. pathsOf b (l + j)) (level table fans first) (upTo (k + 1))
+    ∙ each-mem-same (λ j. pathsOf b (l + j)) (longerBy table fans places) (upTo (k + 1))
     (λ j _. sym (paths-same h (l + j) n en) ∙ paths-add table fans n l j some)
-    ∙ each-first (level table fans first) k
-    ∙ ap (λ (runs : List (List ℕ)). runs ++ furtherBy table fans first k) (level-none table fans first)
+    ∙ each-first (longerBy table fans places) k
+    ∙ ap (λ (runs : List (List ℕ)). runs ++ furtherBy table fans places k) (longer-none table fans places)
 
 -- ---- what listed paths are like
 
@@ -166,11 +126,15 @@ module _ {b : Book} {table fans : Bytes} (h : SuccessorsHeld b table fans) where
       (all-upTo (λ d. all (fits b l) (extendBy table fans (l - 1) (one d))) n .1
       (λ d k. extend-fits (l - 1) l (one d) (omega arith) (omega arith)))
 
-  pub level-fits : (l j : ℕ) (paths : List (List ℕ)) → T (all (fits b l) paths) → T (all (fits b (l + j)) (level table fans paths j))
-  level-fits l j paths k =
-      rw all-each
-      (all-iff (λ p. all (fits b (l + j)) (extendBy table fans j p)) paths .1
-      (λ p mem. let q = fits-iff b l p .0 (all-iff (fits b l) paths .0 k p mem) in extend-fits j (l + j) p (omega arith) (q .1)))
+  -- places that fit may be followed from their last segments on
+  pub places-covered : (rows : Bytes) (l n : ℕ) → T (all (fits b l) (placesIn rows l n)) → (r : ℕ) → r < n
+      → Covered table fans (lastOr 0 (runIn rows l r))
+  unfolding placesIn
+  places-covered rows l n k r m = record {
+    book = b;
+    held = h;
+    below = fits-iff b l (runIn rows l r) .0 (all-upTo (λ r. fits b l (runIn rows l r)) n .0 (rw all-map at k) r m) .1;
+  }
 
 -- what such paths pass
 module _ (b : Book) (n : ℕ) (paths : List (List ℕ)) (h : T (all (fits b n) paths)) where
@@ -180,51 +144,41 @@ module _ (b : Book) (n : ℕ) (paths : List (List ℕ)) (h : T (all (fits b n) p
   pub fits-long : T (all (λ p. eqb (length p) n) paths)
   fits-long = each-fits (λ p. eqb (length p) n) (λ p e _. eqb-iff (length p) n .1 e)
 
-  pub fits-below : T (all (λ p. ltb (lastOr 0 p) (2 * length (b .segments))) paths)
-  fits-below = each-fits (λ p. ltb (lastOr 0 p) (2 * length (b .segments))) (λ p _ l. ltb-iff (lastOr 0 p) (2 * length (b .segments)) .1 l)
-
   pub fits-short : n ≤ 16 → T (all short paths)
   fits-short k = each-fits short (λ p e _. leb-iff (length p) 16 .1 (omega arith))
 
--- the runs in the rows
-module _ (rows : Bytes) (size first last : ℕ) where
-  pub runs-short : T (all (λ p. leb (length p) size) (runsIn rows size first last))
-  unfolding runsIn
-  runs-short =
-      rw all-map
-      (all-upTo (λ i. leb (length (runIn rows size (first + i))) size) (last - first) .1
-      (λ i _. leb-iff (length (runIn rows size (first + i))) size .1 (run-short rows size (first + i))))
+-- the first runs stay where further ones are listed behind them, and so may be followed still
+module _ {n : ℕ} {rows₀ sizes₀ : Bytes} {runs : List (List ℕ)} {found : ℕ} {rows sizes : Bytes}
+    (more : Listed n rows₀ sizes₀ runs found rows sizes) (l : ℕ) (fit : l ≤ 16) where
+  pub listed-stays : (r : ℕ) → r < n → runIn rows l r ≡ runIn rows₀ l r
+  listed-stays r h = ap (λ (rows : Bytes). runIn rows l r) (more .filled) ∙ run-stays n runs rows₀ l r fit h
 
-  pub runs-fit : (b : Book) → length rows ≡ 4096 → size ≤ 16 → last ≤ 256
-      → T (all (λ p. ltb (lastOr 0 p) (2 * length (b .segments))) (runsIn rows size first last))
-      → T (all (fits b size) (runsIn rows size first last))
-  unfolding runsIn
-  runs-fit b room h few k =
-      rw all-map
-      (all-upTo (λ i. fits b size (runIn rows size (first + i))) (last - first) .1
-      (λ i m. fits-iff b size (runIn rows size (first + i)) .1 (
-        run-long rows size (first + i) (omega arith),
-        ltb-iff (lastOr 0 (runIn rows size (first + i))) (2 * length (b .segments)) .0
-            (all-upTo (λ i. ltb (lastOr 0 (runIn rows size (first + i))) (2 * length (b .segments))) (last - first) .0
-            (rw all-map at k) i m),
-      )))
+  pub places-stay : placesIn rows l n ≡ placesIn rows₀ l n
+  unfolding placesIn
+  places-stay = map-same (runIn rows l) (runIn rows₀ l) n listed-stays
 
-  pub runs-none : last ≤ first → runsIn rows size first last ≡ []
-  unfolding runsIn upTo count
-  runs-none h = let e : last - first ≡ 0 = omega arith in ap (λ (n : ℕ). map (λ i. runIn rows size (first + i)) (upTo n)) e
+  pub covered-stay : {table fans : Bytes} → PlacesCovered table fans rows₀ l n → PlacesCovered table fans rows l n
+  covered-stay c few r h = rw (listed-stays r h) (c few r h)
 
--- further paths are short
-pub further-short : (table fans : Bytes) (paths : List (List ℕ)) (l j : ℕ) → l + j ≤ 16 → T (all (λ p. leb (length p) l) paths)
-    → T (all short (furtherBy table fans paths j))
-unfolding furtherBy
-further-short table fans paths l j h k =
-    each-short (λ i. level table fans paths (i + 1)) j
-    (λ i m.
-    rw all-each
-    (all-iff (λ p. all short (extendBy table fans (i + 1) p)) paths .1
-    (λ p mem.
-    let e = leb-iff (length p) l .0 (all-iff (λ p. leb (length p) l) paths .0 k p mem) in
-    extend-short table fans (i + 1) p (omega arith))))
+-- the paths that extend places
+module _ (table fans rows : Bytes) (l : ℕ) where
+  -- by j segments, the place with a number
+  abbrev pub from : ℕ → ℕ → List (List ℕ)
+  from j r = extendBy table fans j (runIn rows l r)
+
+  pub longer-from : (n j : ℕ) → longerBy table fans (placesIn rows l n) j ≡ each (upTo n) (from j)
+  unfolding longerBy placesIn
+  longer-from n j = each-map (upTo n) (runIn rows l) (extendBy table fans j)
+
+  pub from-short : (n j : ℕ) → l + j ≤ 16 → T (all short (each (upTo n) (from j)))
+  from-short n j h =
+      each-short (from j) n (λ r _. extend-short table fans j (runIn rows l r) (omega (arith, run-short rows l r)))
+
+  pub further-short : (n k : ℕ) → l + k ≤ 16 → T (all short (furtherBy table fans (placesIn rows l n) k))
+  unfolding furtherBy
+  further-short n k h =
+      each-short (λ j. longerBy table fans (placesIn rows l n) (j + 1)) k
+      (λ j m. rw (longer-from n (j + 1)) (from-short n (j + 1) (omega arith)))
 
 -- ---- what is kept is read back
 
@@ -251,18 +205,18 @@ module _ (n : ℕ) (runs : List (List ℕ)) (rows : Bytes) (room : length rows �
       let e : n * 16 + 16 * r + 0 ≡ 16 * (n + r) = omega arith in
       rw (kept-first n runs [] few) (rw e at here)
 
-  -- the runs that were kept are read back, where they are of one length
-  pub read-back : (size : ℕ) → T (all (λ run. eqb (length run) size) runs)
-      → runsIn (rowsAfter n runs rows) size n (countAfter n runs) ≡ runs
-  unfolding runsIn runIn countAfter
-  read-back size long =
-      let e : countAfter n runs - n ≡ length runs = omega arith in
-      let f : ℕ → List ℕ = λ i. runIn (rowsAfter n runs rows) size (n + i) in
-      let m = length-map (upTo (length runs)) f ∙ length-upTo (length runs) in
-      ap (λ (k : ℕ). map f (upTo k)) e
-      ∙ ext-getD [] (map f (upTo (length runs))) runs m
-      (λ r h.
-      let l : r < length runs = omega arith in
-      map-at f (length runs) r [] l
-      ∙ part-slice size (part-kept r l)
-      (eqb-iff (length (getD runs r [])) size .0 (all-at (λ run. eqb (length run) size) runs r [] long l)))
+-- runs that were kept from the first row on are read back, where they are of one length
+pub read-back : (runs : List (List ℕ)) (rows : Bytes) (l : ℕ) → length rows ≡ 4096 → length runs ≤ 256 → T (all short runs)
+    → T (all (λ run. eqb (length run) l) runs) → placesIn (rowsAfter 0 runs rows) l (countAfter 0 runs) ≡ runs
+unfolding placesIn runIn countAfter
+read-back runs rows l room few fit long =
+    let e : countAfter 0 runs ≡ length runs = omega arith in
+    let place : ℕ → List ℕ = runIn (rowsAfter 0 runs rows) l in
+    let m = length-map (upTo (length runs)) place ∙ length-upTo (length runs) in
+    ap (λ (k : ℕ). map place (upTo k)) e
+    ∙ ext-getD [] (map place (upTo (length runs))) runs m
+    (λ r h.
+    let k : r < length runs = omega arith in
+    map-at place (length runs) r [] k
+    ∙ part-slice l (rw zero-add at (part-kept 0 runs rows room (omega arith) fit r k))
+    (eqb-iff (length (getD runs r [])) l .0 (all-at (λ run. eqb (length run) l) runs r [] long k)))

@@ -6,8 +6,7 @@ use Prim.Native.Nat.{ℕ, zero, suc, _+_, _*_, _-_, _≤_, _<_, min}
 use mathlib.Core.List.{List, [], _++_, map}
 use lib.ListN.{length, getD, take}
 use lib.Seq.{sets, slice}
-use lib.Dec.{T, ltb}
-use Rattle.spec.specs.Lists.{Bytes, upTo, each, one, all, pick, has, lastOr}
+use Rattle.spec.specs.Lists.{Bytes, upTo, each, one, pick, has, lastOr}
 use Rattle.spec.specs.Book.{Book, segmentOf}
 use Rattle.spec.specs.Runs.{leadsTo, directed}
 use Rattle.spec.specs.Held.{padded}
@@ -73,23 +72,21 @@ pathsBy table fans n size = each (upTo n) λ d. extendBy table fans (size - 1) (
 unfoldable pub runIn : Bytes → ℕ → ℕ → List ℕ
 runIn rows size r = slice (16 * r) (16 * r + size) rows
 
--- the runs `first` to `count` - 1 there, of `size` segments each
-unfoldable pub runsIn : Bytes → ℕ → ℕ → ℕ → List (List ℕ)
-runsIn rows size first count = map (λ i. runIn rows size (first + i)) (upTo (count - first))
+-- the places: the first n runs there, of l segments each
+unfoldable pub placesIn : Bytes → ℕ → ℕ → List (List ℕ)
+placesIn rows l n = map (runIn rows l) (upTo n)
 
 -- where there are at most 256 of them, each ends over a directed segment of a book whose successors the tables hold
-pub record RunsCovered (table fans rows : Bytes) (size first count : ℕ) : Type 0 where
-  pub book : Book
-  pub held : SuccessorsHeld book table fans
-  pub below : count ≤ 256 → T (all (λ run. ltb (lastOr 0 run) (2 * length (book .segments))) (runsIn rows size first count))
+abbrev pub PlacesCovered : Bytes → Bytes → Bytes → ℕ → ℕ → Type 0
+PlacesCovered table fans rows l n = n ≤ 256 → (r : ℕ) → r < n → Covered table fans (lastOr 0 (runIn rows l r))
 
--- the paths that extend paths by one segment
-unfoldable pub longerBy : Bytes → Bytes → List (List ℕ) → List (List ℕ)
-longerBy table fans paths = each paths (extendBy table fans 1)
+-- the paths that extend places by j segments
+unfoldable pub longerBy : Bytes → Bytes → List (List ℕ) → ℕ → List (List ℕ)
+longerBy table fans places j = each places (extendBy table fans j)
 
--- the paths that extend paths by 1 to k segments, by their number
+-- the paths that extend places by 1 to k segments, by their number
 unfoldable pub furtherBy : Bytes → Bytes → List (List ℕ) → ℕ → List (List ℕ)
-furtherBy table fans paths k = each (upTo k) λ j. each paths (extendBy table fans (j + 1))
+furtherBy table fans places k = each (upTo k) λ j. longerBy table fans places (j + 1)
 
 -- ---- the tables of runs
 

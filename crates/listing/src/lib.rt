@@ -1,8 +1,8 @@
 // Run lists. A train's runs are listed by rising number of segments and, within that, in dictionary
-// order, each path extended one segment at a time. They are kept in lent tables, a row of 16 bytes and
-// a length a run, so that a run is found by its number at once; at most 256 are kept, and the listing
-// stops at the 257th. A table that is filled once a book has the successors of each directed segment.
-// Assumes nothing.
+// order, each path extended one segment at a time, every length by one recursion. They are kept in lent
+// tables, a row of 16 bytes and a length a run, so that a run is found by its number at once; at most
+// 256 are kept, and the listing stops at the 257th. A table that is filled once a book has the
+// successors of each directed segment. Assumes nothing.
 use model::Book;
 use model::MAX_REACH;
 use model::MAX_RUNS;
@@ -27,7 +27,7 @@ ghost use Rattle.spec.specs.Read.{reachFits};
 ghost use Rattle.spec.specs.Held.{held, heldTrain, CountsFit, NumbersFit};
 ghost use Rattle.listing.specs.Listed.{pathOf, packedPath, successors, successorRows, fansOf, SuccessorsHeld, Covered};
 ghost use Rattle.listing.specs.Listed.{rowsAfter, sizesAfter, countAfter};
-ghost use Rattle.listing.specs.Listed.{extendBy, pathsBy, runIn, runsIn, RunsCovered, longerBy, furtherBy};
+ghost use Rattle.listing.specs.Listed.{extendBy, pathsBy, runIn, placesIn, PlacesCovered, longerBy, furtherBy};
 
 // A run has at most l + k segments: the bytes of its row.
 pub const RUN_BYTES: usize = 2 * MAX_REACH;
@@ -199,24 +199,22 @@ fn extend(
     found
 }
 
-// Lists the paths of `size` segments behind the first `count`; answers how many runs there are then,
-// as far as 257.
+// Lists the paths of `size` segments; answers how many there are, as far as 257.
 fn list_paths(
     table: &[u8],
     fans: &[u8],
     directed: usize,
     rows: &mut [u8],
     sizes: &mut [u8],
-    count: usize,
     size: usize,
 ) -> usize
     requires { ⌜ ((d : ℕ) → d < directed → Covered (now table) (now fans) d) × (length (now rows) ≡ 4096) × (length (now sizes) ≡ 256)
-        × (directed ≤ 128) × (count ≤ 257) × (1 ≤ size) × (size ≤ 16) ⌝ }
-    ensures { λ r. ⌜ (r ≡ countAfter count (pathsBy (now (table .entry)) (now (fans .entry)) directed size))
-        × (now (rows .exit) ≡ rowsAfter count (pathsBy (now (table .entry)) (now (fans .entry)) directed size) (now (rows .entry)))
-        × (now (sizes .exit) ≡ sizesAfter count (pathsBy (now (table .entry)) (now (fans .entry)) directed size) (now (sizes .entry))) ⌝ }
+        × (directed ≤ 128) × (1 ≤ size) × (size ≤ 16) ⌝ }
+    ensures { λ r. ⌜ (r ≡ countAfter 0 (pathsBy (now (table .entry)) (now (fans .entry)) directed size))
+        × (now (rows .exit) ≡ rowsAfter 0 (pathsBy (now (table .entry)) (now (fans .entry)) directed size) (now (rows .entry)))
+        × (now (sizes .exit) ≡ sizesAfter 0 (pathsBy (now (table .entry)) (now (fans .entry)) directed size) (now (sizes .entry))) ⌝ }
 {
-    let mut found = count;
+    let mut found = 0;
     let mut d = 0;
     while d < directed && found < STOP {
         let mut path = Path {
@@ -230,71 +228,71 @@ fn list_paths(
     found
 }
 
-// Extends each of the runs `first` to `count` - 1, of `size` segments each, by one segment, and lists
-// what comes of it behind them; answers how many runs there are then, as far as 257. What is written
-// stands behind what is read.
+// Lists the paths that extend the places, the first runs in the rows, of l segments each, by `missing`
+// segments, behind the first `count`; answers how many runs there are then, as far as 257. The places
+// stand in dictionary order, so these paths do. What is written stands behind what is read.
 fn list_longer(
     table: &[u8],
     fans: &[u8],
     rows: &mut [u8],
     sizes: &mut [u8],
-    first: usize,
+    places: usize,
     count: usize,
-    size: usize,
+    l: usize,
+    missing: usize,
 ) -> usize
-    requires { ⌜ (length (now rows) ≡ 4096) × (length (now sizes) ≡ 256) × (first ≤ count) × (count ≤ 257) × (1 ≤ size) × (size < 16)
-        × RunsCovered (now table) (now fans) (now rows) size first count ⌝ }
-    ensures { λ r. ⌜ (r ≡ countAfter count (longerBy (now (table .entry)) (now (fans .entry)) (runsIn (now (rows .entry)) size first count)))
+    requires { ⌜ (length (now rows) ≡ 4096) × (length (now sizes) ≡ 256) × (places ≤ count) × (count ≤ 257) × (1 ≤ l)
+        × (l + missing ≤ 16) × PlacesCovered (now table) (now fans) (now rows) l places ⌝ }
+    ensures { λ r. ⌜ (r ≡ countAfter count
+        (longerBy (now (table .entry)) (now (fans .entry)) (placesIn (now (rows .entry)) l places) missing))
         × (now (rows .exit) ≡ rowsAfter count
-        (longerBy (now (table .entry)) (now (fans .entry)) (runsIn (now (rows .entry)) size first count)) (now (rows .entry)))
+        (longerBy (now (table .entry)) (now (fans .entry)) (placesIn (now (rows .entry)) l places) missing) (now (rows .entry)))
         × (now (sizes .exit) ≡ sizesAfter count
-        (longerBy (now (table .entry)) (now (fans .entry)) (runsIn (now (rows .entry)) size first count)) (now (sizes .entry))) ⌝ }
+        (longerBy (now (table .entry)) (now (fans .entry)) (placesIn (now (rows .entry)) l places) missing) (now (sizes .entry))) ⌝ }
 {
-    let n = count - first;
     let mut found = count;
-    let mut i = 0;
-    while i < n && found < STOP {
-        let path = path_at(rows, first + i, size);
-        found = extend(table, fans, rows, sizes, found, path, 1);
-        i += 1;
+    let mut place = 0;
+    while place < places && found < STOP {
+        let path = path_at(rows, place, l);
+        found = extend(table, fans, rows, sizes, found, path, missing);
+        place += 1;
     }
     found
 }
 
-// Lists behind the first `count` runs, of l segments each, the paths that extend them by 1 to k
-// segments, each length from the runs of the length before: where there is none, none is longer.
-// Answers how many runs there are then, as far as 257.
+// Lists the paths that extend the places, of l segments each, by 1 to k segments, behind them; answers
+// how many runs there are then, as far as 257. So no path shorter than l is walked again, and what a
+// listing passes through are runs that were listed before it.
 fn list_further(
     table: &[u8],
     fans: &[u8],
     rows: &mut [u8],
     sizes: &mut [u8],
-    count: usize,
+    places: usize,
     l: usize,
     k: usize,
 ) -> usize
-    requires { ⌜ (length (now rows) ≡ 4096) × (length (now sizes) ≡ 256) × (count ≤ 257) × (1 ≤ l) × (l + k ≤ 16)
-        × RunsCovered (now table) (now fans) (now rows) l 0 count ⌝ }
-    ensures { λ r. ⌜ (r ≡ countAfter count (furtherBy (now (table .entry)) (now (fans .entry)) (runsIn (now (rows .entry)) l 0 count) k))
-        × (now (rows .exit) ≡ rowsAfter count
-        (furtherBy (now (table .entry)) (now (fans .entry)) (runsIn (now (rows .entry)) l 0 count) k) (now (rows .entry)))
-        × (now (sizes .exit) ≡ sizesAfter count
-        (furtherBy (now (table .entry)) (now (fans .entry)) (runsIn (now (rows .entry)) l 0 count) k) (now (sizes .entry))) ⌝ }
+    requires { ⌜ (length (now rows) ≡ 4096) × (length (now sizes) ≡ 256) × (places ≤ 257) × (1 ≤ l) × (l + k ≤ 16)
+        × PlacesCovered (now table) (now fans) (now rows) l places ⌝ }
+    ensures { λ r. ⌜ (r ≡ countAfter places
+        (furtherBy (now (table .entry)) (now (fans .entry)) (placesIn (now (rows .entry)) l places) k))
+        × (now (rows .exit) ≡ rowsAfter places
+        (furtherBy (now (table .entry)) (now (fans .entry)) (placesIn (now (rows .entry)) l places) k) (now (rows .entry)))
+        × (now (sizes .exit) ≡ sizesAfter places
+        (furtherBy (now (table .entry)) (now (fans .entry)) (placesIn (now (rows .entry)) l places) k) (now (sizes .entry))) ⌝ }
 {
-    let mut first = 0;
-    let mut found = count;
+    let mut found = places;
     let mut j = 0;
-    while j < k && first < found {
-        let next = list_longer(table, fans, rows, sizes, first, found, l + j);
-        first = found;
-        found = next;
+    while j < k {
         j += 1;
+        found = list_longer(table, fans, rows, sizes, places, found, l, j);
     }
     found
 }
 
-// Lists a train's runs: the paths of l segments, then those of l + 1, .. l + k. The tables hold the
-// successors of the book's directed segments. Answers how many runs there are, as far as 257.
+// Lists a train's runs: the paths of l segments, which are its places, then those of l + 1, .. l + k.
+// The tables hold the successors of the book's directed segments. Answers how many runs there are, as
+// far as 257.
 pub fn list_runs(
     b: Book,
     t: Train,
@@ -313,6 +311,6 @@ pub fn list_runs(
     let l = length_in_segments(b, t);
     let k = speed_in_segments(b, t);
     let directed = 2 * b.segment_count;
-    let found = list_paths(table, fans, directed, rows, sizes, 0, l);
-    list_further(table, fans, rows, sizes, found, l, k)
+    let places = list_paths(table, fans, directed, rows, sizes, l);
+    list_further(table, fans, rows, sizes, places, l, k)
 }

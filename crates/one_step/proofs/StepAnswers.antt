@@ -3,7 +3,7 @@
 use mathlib.Core.Path.{_≡_, sym, ap, _∙_}
 use mathlib.Core.Bool.{Bool, true, false, not, _&&_}
 use mathlib.Core.List.{List, _++_}
-use Prim.Native.Nat.{ℕ, _+_, _-_, _/_, _≤_, _<_}
+use Prim.Native.Nat.{ℕ, _+_, _-_, _≤_, _<_}
 use native.Mathlib.Omega.{arith}
 use lib.ListN.{length, take, set, length-set}
 use lib.Seq.{sets, length-sets, length-take-le}
@@ -15,8 +15,9 @@ use Rattle.spec.specs.Lists.{Bytes, one}
 use Rattle.spec.specs.Frames.{payloadOf}
 use Rattle.spec.specs.Formula.{Clause, wordsOf}
 use Rattle.spec.specs.Refutation.{ProofStep, stepIn, literalsFit, hintsFit, hintBytes, clausesFit, followsRule, clausesOf, isBad}
-use Rattle.rows.specs.Rows.{numbersIn, literalsIn}
+use Rattle.rows.specs.Rows.{numberCount, numbersIn, literalsIn}
 use Rattle.steps.specs.Found.{stepFound, literalBytes}
+use Rattle.propagation.specs.Known.{LeftOnTrail}
 use Rattle.one_step.specs.Checked.{Ready, stepChecked, lentBy, Leaves}
 use Rattle.steps.specs.declared.Step.the-variants.{Whole}
 use Rattle.one_step.specs.declared.StepAnswer.{StepAnswer}
@@ -63,7 +64,7 @@ module _ {used count n h : ℕ} {words : List ℤ} {starts : List ℕ} {values :
   hints-are = hints-row s (given .whole) .0 ∙ ap numbersIn (sym (given .hintRow))
 
   -- n literals
-  in-row : length ls / 4 ≡ n
+  in-row : numberCount ls ≡ n
   in-row = omega (arith, ap length (given .literalRow), literals-row s (given .whole) .1)
 
   in-step : length (step .literals) ≡ n
@@ -116,7 +117,7 @@ module _ {used count n h : ℕ} {words : List ℤ} {starts : List ℕ} {values :
       no-entry e = refused-12 (simp (lt-leb (count + 1) (length starts) (omega (arith, eqb-true (length starts) count e)), and-false))
 
   -- where there is room for the words
-  pub words-room : n < length words - used → used + (length ls / 4 + 1) ≤ length words
+  pub words-room : n < length words - used → used + (numberCount ls + 1) ≤ length words
   words-room w = omega (arith, in-row)
 
   -- and for the entry
@@ -138,9 +139,9 @@ module _ {used count n h : ℕ} {words : List ℤ} {starts : List ℕ} {values :
     -- no fault: the answer, and what the step leaves
     pub step-proved : {r : Bool} {words′ : List ℤ} {starts′ : List ℕ} {values′ : Bytes} {trail′ : List ℕ} → r ≡ ruled → not r ≡ false
         → words′ ≡ sets words used (literalsIn ls ++ one (pos 0)) → starts′ ≡ set starts count used → values′ ≡ values
-        → length trail′ ≡ length trail
-        → Answer (Proved n h) × Leaves (Proved n h) s used count words starts values words′ starts′ values′ trail′
-    step-proved a t stored entered kept-values kept-length =
+        → length trail′ ≡ length trail → LeftOnTrail (length values) trail trail′
+        → Answer (Proved n h) × Leaves (Proved n h) s used count words starts values trail words′ starts′ values′ trail′
+    step-proved a t stored entered kept-values kept-length left =
         let r = given .ready in
         let stored′ = stored ∙ ap (λ (c : Clause). sets words used (c ++ one (pos 0))) (sym literals-are) in
         let p = rw in-step at (kept-added words starts (step .literals) (r .kept) (r .wordsRoom) (r .startsRoom)
@@ -161,5 +162,6 @@ module _ {used count n h : ℕ} {words : List ℤ} {starts : List ℕ} {values :
             stored′,
             entered,
             kept-values,
+            left,
           ),
         )

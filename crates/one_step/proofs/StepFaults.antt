@@ -1,13 +1,13 @@
 -- What `stepChecked` is for each outcome of a step's five tests, as an answer of the check of one step. Assumes nothing.
 use mathlib.Core.Path.{_≡_, refl, sym, ap₂, ap, _∙_}
 use mathlib.Core.Bool.{Bool, true, false, not, _&&_}
-use mathlib.Core.List.{List, [], _∷_, _++_}
+use mathlib.Core.List.{List, _∷_, _++_}
 use Prim.Native.Nat.{ℕ, _+_}
 use native.Mathlib.Omega.{arith}
 use lib.ListN.{length, length-append}
 use lib.IntN.{ℤ, pos}
 use lib.Dec.{leb}
-use Rattle.spec.specs.Lists.{Bytes, one, each, _when_, firstFault}
+use Rattle.spec.specs.Lists.{Bytes, one, _when_, firstFault}
 use Rattle.spec.specs.Frames.{payloadOf}
 use Rattle.spec.specs.Formula.{Clause, wordsOf}
 use Rattle.spec.specs.Refutation.{stepIn, literalsFit, hintsFit, clausesFit, followsRule, stepFaults, literalCount, hintCount, isBad}
@@ -23,7 +23,7 @@ answer bad literals hints room rule p =
     (17 when bad ∷ 18 when not literals ∷ 19 when not hints ∷ 12 when not room ∷ one (20 when not rule))) p
 
 -- the words of clauses and of one more
-words-added : (cs : List Clause) (c : Clause) → length (wordsOf (cs ++ one c)) ≡ length (wordsOf cs) + (length c + 1)
+pub words-added : (cs : List Clause) (c : Clause) → length (wordsOf (cs ++ one c)) ≡ length (wordsOf cs) + (length c + 1)
 words-added cs c =
     ap length (words-append cs (one c) ∙ ap (λ (ws : List ℤ). wordsOf cs ++ ws) (sym (words-one c)))
     ∙ omega (arith, length-append (wordsOf cs) (c ++ one (pos 0)), length-append c (one (pos 0)))

@@ -12,6 +12,7 @@ use Rattle.spec.specs.Formula.{Clause}
 use Rattle.spec.specs.Refutation.{Lent, stepIn, literalCount, hintCount, stepFaults, clausesOf}
 use Rattle.spec.specs.Entry.{zeroed}
 use Rattle.clause_table.specs.Kept.{Kept}
+use Rattle.propagation.specs.Known.{LeftOnTrail}
 use Rattle.one_step.specs.declared.StepAnswer.{StepAnswer}
 use Rattle.one_step.specs.declared.StepAnswer.the-variants.{Proved, Refused}
 
@@ -39,11 +40,12 @@ stepChecked wordsLent clausesLent variables cs s =
     stepAnswer (firstFault (stepFaults (lentBy wordsLent clausesLent) variables cs s)) (payloadOf s)
 
 -- What a step leaves in the slices: a proved one adds its clause behind those before, and nothing else; a refused one changes
--- nothing. What it leaves on the trail is free.
-abbrev pub Leaves : StepAnswer → Bytes → ℕ → ℕ → List ℤ → List ℕ → Bytes → List ℤ → List ℕ → Bytes → List ℕ → Type 0
-Leaves (Proved n h) s used count words starts values words′ starts′ values′ trail′ =
+-- nothing. Which variables either leaves on the trail is free, and what is behind them there stays.
+abbrev pub Leaves : StepAnswer → Bytes → ℕ → ℕ → List ℤ → List ℕ → Bytes → List ℕ → List ℤ → List ℕ → Bytes → List ℕ → Type 0
+Leaves (Proved n h) s used count words starts values trail words′ starts′ values′ trail′ =
     Ready (used + (n + 1)) (count + 1) words′ starts′ values′ trail′
     × (clausesOf (take (used + (n + 1)) words′) ≡ clausesOf (take used words) ++ one (stepIn (payloadOf s) .literals))
     × (words′ ≡ sets words used (stepIn (payloadOf s) .literals ++ one (pos 0))) × (starts′ ≡ set starts count used) × (values′ ≡ values)
-Leaves (Refused n) s used count words starts values words′ starts′ values′ trail′ =
-    (words′ ≡ words) × (starts′ ≡ starts) × (values′ ≡ values)
+    × LeftOnTrail (length values) trail trail′
+Leaves (Refused n) s used count words starts values trail words′ starts′ values′ trail′ =
+    (words′ ≡ words) × (starts′ ≡ starts) × (values′ ≡ values) × LeftOnTrail (length values) trail trail′

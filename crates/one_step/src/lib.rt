@@ -24,7 +24,7 @@ pub enum StepAnswer {
 }
 
 // 18, 19, 12 and 20 of a whole step at a place. The first `used` words are the `count` clauses before
-// it. What is left on the trail is free.
+// it.
 fn check_whole(
     r: &[u8],
     at: usize,
@@ -41,7 +41,9 @@ fn check_whole(
         × Ready used count (now words) (now starts) (now values) (now trail) ⌝ }
     ensures { λ a. ⌜ (a ≡ stepChecked (length (now (words .entry))) (length (now (starts .entry))) (length (now (values .entry)))
         (clausesOf (take used (now (words .entry)))) (drop at (now (r .entry))))
-        × Leaves a (drop at (now (r .entry))) used count (now (words .entry)) (now (starts .entry)) (now (values .entry)) (now (words .exit)) (now (starts .exit)) (now (values .exit)) (now (trail .exit)) ⌝ }
+        × Leaves a (drop at (now (r .entry))) used count
+        (now (words .entry)) (now (starts .entry)) (now (values .entry)) (now (trail .entry))
+        (now (words .exit)) (now (starts .exit)) (now (values .exit)) (now (trail .exit)) ⌝ }
 {
     let ls = literals_at(r, at, literals, hints);
     let hs = hints_at(r, at, literals, hints);
@@ -64,7 +66,7 @@ fn check_whole(
 }
 
 // Whether the step at a place is proved, with its clause kept, or the number that refuses it. The first
-// `used` words are the `count` clauses before it. What is left on the trail is free.
+// `used` words are the `count` clauses before it. Which variables are left on the trail is free.
 pub fn check_step(
     r: &[u8],
     at: usize,
@@ -78,7 +80,9 @@ pub fn check_step(
     requires { ⌜ (at ≤ length (now r)) × Ready used count (now words) (now starts) (now values) (now trail) ⌝ }
     ensures { λ a. ⌜ (a ≡ stepChecked (length (now (words .entry))) (length (now (starts .entry))) (length (now (values .entry)))
         (clausesOf (take used (now (words .entry)))) (drop at (now (r .entry))))
-        × Leaves a (drop at (now (r .entry))) used count (now (words .entry)) (now (starts .entry)) (now (values .entry)) (now (words .exit)) (now (starts .exit)) (now (values .exit)) (now (trail .exit)) ⌝ }
+        × Leaves a (drop at (now (r .entry))) used count
+        (now (words .entry)) (now (starts .entry)) (now (values .entry)) (now (trail .entry))
+        (now (words .exit)) (now (starts .exit)) (now (values .exit)) (now (trail .exit)) ⌝ }
 {
     match step_at(r, at) {
         Step::Bad => StepAnswer::Refused(17),

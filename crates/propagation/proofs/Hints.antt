@@ -3,33 +3,32 @@
 use mathlib.Core.Path.{_≡_, refl, sym, ap, _∙_}
 use mathlib.Core.Bool.{Bool, false}
 use mathlib.Core.List.{List, _∷_}
-use Prim.Native.Nat.{ℕ, zero, suc, _+_, _-_, _/_, _≤_, _<_}
+use Prim.Native.Nat.{ℕ, zero, suc, _+_, _-_, _≤_, _<_}
 use native.Mathlib.Numerals.{add-one}
 use native.Mathlib.Omega.{arith}
-use lib.ListN.{length, getD, drop, set, length-map, length-drop, length-set, drop-of-length-le}
+use lib.ListN.{length, getD, drop, set, length-drop, length-set, drop-of-length-le}
 use lib.Seq.{drop-cons}
 use lib.IntN.{ℤ, pos, negsuc}
 use lib.Dec.{T, eqb}
 use mir.Syntax.{w32}
 use mir.Val.{toZ}
-use Rattle.spec.specs.Lists.{Bytes, empty, upTo}
+use Rattle.spec.specs.Lists.{Bytes, empty}
 use Rattle.spec.specs.Formula.{Literal, Clause}
 use Rattle.spec.specs.Assignment.{Value, open′, yes′, no′, deny, truth}
 use Rattle.spec.specs.Refutation.{variableOf, Values, makeTrue, clauseAt, notFalse, clausesOf}
 use Rattle.spec.specs.Refutation.{Hinted, proves, makes, useless, hinted, hintsFit, goThrough}
 use Rattle.laws.proofs.Tests.{and-iff, eqb-iff, leb-iff, all-at, empty-length, bool-ext}
-use Rattle.laws.proofs.Parts.{length-upTo}
 use Rattle.propagation.specs.Known.{valueIn, valuesIn, trueByte, Trailed}
 use Rattle.clause_table.specs.Kept.{Kept}
-use Rattle.rows.specs.Rows.{numbersIn}
+use Rattle.rows.specs.Rows.{numberCount, numbersIn}
 use Rattle.propagation.proofs.Values.{made-true, zero-byte}
 use Rattle.clause_table.proofs.Lookup.{clause-found, clause-ranged}
 use Rattle.rows.proofs.Rows.{numbers-length}
 use Rattle.propagation.proofs.Scan.{OpenOne, Scanning, begins}
-use Rattle.propagation.proofs.Trail.{pushed, trail-room}
+use Rattle.propagation.proofs.Trail.{pushed, trail-room, behind-next}
 
 -- a hint of a step names a clause
-pub hint-fits : (own : ℕ) (row : Bytes) (k : ℕ) → T (hintsFit own (numbersIn row)) → k < length row / 4
+pub hint-fits : (own : ℕ) (row : Bytes) (k : ℕ) → T (hintsFit own (numbersIn row)) → k < numberCount row
     → (1 ≤ getD (numbersIn row) k 0) × (getD (numbersIn row) k 0 < own)
 unfolding hintsFit
 hint-fits own row k t h =
@@ -96,19 +95,21 @@ true-byte (negsuc n) e = omega arith
 
 -- ---- the hints so far
 
--- What the hints before number k leave: values and a trail as long as at first, and nothing is proved yet, so the step is proved
--- if and only if the hints from k on prove it from the values now.
-pub record Gone (words : List ℤ) (hints : Bytes) (values₀ : Bytes) (trail₀ : List ℕ) (values : Bytes) (trail : List ℕ) (set : ℕ)
-    (proved : Bool) (k : ℕ) : Type 0 where
+-- What the hints before number k leave: values and a trail as long as at first, on the trail no fewer variables and behind them what it
+-- had, and nothing is proved yet, so the step is proved if and only if the hints from k on prove it from the values now.
+pub record Gone (words : List ℤ) (hints : Bytes) (values₀ : Bytes) (trail₀ : List ℕ) (first : ℕ) (values : Bytes) (trail : List ℕ)
+    (set : ℕ) (proved : Bool) (k : ℕ) : Type 0 where
   pub sameValues : length values ≡ length values₀
   pub sameTrail : length trail ≡ length trail₀
   pub trailed : Trailed values trail set
+  pub grown : first ≤ set
+  pub behind : drop set trail ≡ drop set trail₀
   pub unproved : proved ≡ false
   pub onward : goThrough (clausesOf words) (valuesIn values₀) (numbersIn hints)
       ≡ goThrough (clausesOf words) (valuesIn values) (drop k (numbersIn hints))
 
-module _ {words : List ℤ} {hints values₀ : Bytes} {trail₀ : List ℕ} {values : Bytes} {trail : List ℕ} {set′ : ℕ}
-    {proved : Bool} {k : ℕ} (g : Gone words hints values₀ trail₀ values trail set′ proved k) where
+module _ {words : List ℤ} {hints values₀ : Bytes} {trail₀ : List ℕ} {first : ℕ} {values : Bytes} {trail : List ℕ} {set′ : ℕ}
+    {proved : Bool} {k : ℕ} (g : Gone words hints values₀ trail₀ first values trail set′ proved k) where
   -- what the whole rule says
   abbrev rule : Bool
   rule = goThrough (clausesOf words) (valuesIn values₀) (numbersIn hints)
@@ -118,7 +119,7 @@ module _ {words : List ℤ} {hints values₀ : Bytes} {trail₀ : List ℕ} {val
   does = hinted (valuesIn values) (notFalse (valuesIn values) (clauseAt (clausesOf words) (getD (numbersIn hints) k 0)))
 
   -- where the hints run out, nothing is proved
-  pub runs-out : length hints / 4 ≤ k → proved ≡ rule
+  pub runs-out : numberCount hints ≤ k → proved ≡ rule
   unfolding goThrough
   runs-out h =
       let n : length (numbersIn hints) ≤ k = omega (arith, numbers-length hints) in
@@ -139,7 +140,7 @@ module _ {words : List ℤ} {hints values₀ : Bytes} {trail₀ : List ℕ} {val
       trail-room (g .trailed) (variableOf (toZ w32 unit) - 1) (omega (arith, o .low, o .high))
       (open-byte values (toZ w32 unit) (o .low) (o .isOpen))
 
-  module _ (h : k < length hints / 4) where
+  module _ (h : k < numberCount hints) where
     -- there is such a hint
     named : k < length (numbersIn hints)
     named = omega (arith, numbers-length hints)
@@ -153,7 +154,7 @@ module _ {words : List ℤ} {hints values₀ : Bytes} {trail₀ : List ℕ} {val
     refuses e = g .unproved ∙ sym (onto ∙ hint-useless _ _ _ _ e)
 
     -- a hint that proves must be the last
-    pub concludes : does ≡ proves → eqb (k + 1) (length hints / 4) ≡ rule
+    pub concludes : does ≡ proves → eqb (k + 1) (numberCount hints) ≡ rule
     concludes e =
         ap (eqb (k + 1)) (sym (numbers-length hints)) ∙ sym (onto ∙ hint-proves _ _ _ _ e ∙ none-behind (numbersIn hints) k named)
 
@@ -162,7 +163,7 @@ module _ {words : List ℤ} {hints values₀ : Bytes} {trail₀ : List ℕ} {val
         → does ≡ makes (toZ w32 unit)
         → values′ ≡ set values (variableOf (toZ w32 unit) - 1) (trueByte (toZ w32 unit))
         → trail′ ≡ set trail set′ (variableOf (toZ w32 unit) - 1)
-        → Gone words hints values₀ trail₀ values′ trail′ (set′ + 1) proved (k + 1)
+        → Gone words hints values₀ trail₀ first values′ trail′ (set′ + 1) proved (k + 1)
     goes-on {unit} {values′} {trail′} o e a b =
         let l = toZ w32 unit in
         rw (a, b) (record {
@@ -171,6 +172,8 @@ module _ {words : List ℤ} {hints values₀ : Bytes} {trail₀ : List ℕ} {val
           trailed =
               pushed (g .trailed) (variableOf l - 1) (trueByte l) (omega (arith, o .low, o .high))
               (open-byte values l (o .low) (o .isOpen)) (true-byte l);
+          grown = omega (arith, g .grown);
+          behind = behind-next set′ (variableOf l - 1) trail trail₀ (g .behind);
           unproved = g .unproved;
           onward =
               onto
@@ -181,5 +184,13 @@ module _ {words : List ℤ} {hints values₀ : Bytes} {trail₀ : List ℕ} {val
 
 -- before the first hint
 pub sets-out : {values : Bytes} {trail : List ℕ} {set′ : ℕ} (words : List ℤ) (hints : Bytes) → Trailed values trail set′
-    → Gone words hints values trail values trail set′ false 0
-sets-out words hints t = record { sameValues = refl; sameTrail = refl; trailed = t; unproved = refl; onward = refl }
+    → Gone words hints values trail set′ values trail set′ false 0
+sets-out words hints t = record {
+  sameValues = refl;
+  sameTrail = refl;
+  trailed = t;
+  grown = omega arith;
+  behind = refl;
+  unproved = refl;
+  onward = refl;
+}

@@ -1,25 +1,23 @@
 -- The literals of a row are taken false, the last one first: i of them are, and their variables are on the trail. Since the literals
 -- rise by variable, the variable of the next one is open. Assumes nothing.
 use mathlib.Core.Path.{_≡_, refl, sym, ap, _∙_, subst}
-use Prim.Native.Nat.{ℕ, zero, suc, _+_, _-_, _/_, _≤_, _<_}
+use Prim.Native.Nat.{ℕ, zero, suc, _+_, _-_, _≤_, _<_}
 use native.Mathlib.Omega.{arith}
 use mathlib.Core.List.{List, [], _∷_}
-use lib.ListN.{length, getD, set, drop, length-set, length-map, drop-of-length-le}
+use lib.ListN.{length, getD, set, drop, length-set, drop-of-length-le}
 use lib.Seq.{drop-cons}
 use lib.IntN.{pos, negsuc}
 use lib.Dec.{T}
 use borrow.Author.Tests.{ne-eqb}
-use Rattle.spec.specs.Lists.{Bytes, upTo}
+use Rattle.spec.specs.Lists.{Bytes}
 use Rattle.spec.specs.Formula.{Literal, Clause}
 use Rattle.spec.specs.Assignment.{open′}
 use Rattle.spec.specs.Refutation.{Values, variableOf, risesFrom, literalsFit, makeFalse, refuting}
 use Rattle.spec.specs.Entry.{zeroed}
 use Rattle.laws.proofs.Tests.{and-iff, ltb-iff, leb-iff}
-use Rattle.laws.proofs.Parts.{length-upTo}
-use Rattle.rows.specs.Rows.{numbersIn, literalsIn}
-use Rattle.propagation.specs.Known.{valueIn, valuesIn, falseByte, Trailed}
+use Rattle.propagation.specs.Known.{valuesIn, falseByte, Trailed}
 use Rattle.propagation.proofs.Values.{made-false, all-open, zero-byte}
-use Rattle.propagation.proofs.Trail.{pushed, trail-room, nothing-set}
+use Rattle.propagation.proofs.Trail.{pushed, trail-room, nothing-set, behind-next}
 
 -- ---- rising literals
 
@@ -58,25 +56,28 @@ unfolding falseByte
 false-some (pos n) e = omega arith
 false-some (negsuc n) e = omega arith
 
--- The last i literals are false, every other variable is open, and the trail has theirs; the slices are as long as at first.
-pub record Taking (ls : Clause) (vars room′ : ℕ) (values : Bytes) (trail : List ℕ) (i : ℕ) : Type 0 where
+-- The last i literals are false, every other variable is open, and the trail has theirs; what is behind those on the trail is as it was,
+-- and the slices are as long as at first.
+pub record Taking (ls : Clause) (vars : ℕ) (trail₀ : List ℕ) (values : Bytes) (trail : List ℕ) (i : ℕ) : Type 0 where
   pub within : i ≤ length ls
   pub size : length values ≡ vars
-  pub space : length trail ≡ room′
+  pub space : length trail ≡ length trail₀
   pub holds : valuesIn values ≡ refuting (drop (length ls - i) ls)
   pub trailed : Trailed values trail i
+  pub behind : drop i trail ≡ drop i trail₀
 
 pub taking-start : (ls : Clause) (values : Bytes) (trail : List ℕ) → values ≡ zeroed 0 (length values) → length values ≤ length trail
-    → Taking ls (length values) (length trail) values trail 0
+    → Taking ls (length values) trail values trail 0
 taking-start ls values trail e h = record {
   within = omega arith;
   size = refl;
   space = refl;
   holds = ap valuesIn e ∙ all-open (length values) ∙ ap refuting (sym (drop-of-length-le ls {i = length ls - 0} (omega arith)));
   trailed = subst (λ (vs : Bytes). Trailed vs trail 0) (sym e) (nothing-set (length values) trail h);
+  behind = refl;
 }
 
-module _ {ls : Clause} {vars room′ : ℕ} {values : Bytes} {trail : List ℕ} {i : ℕ} (t : Taking ls vars room′ values trail i) where
+module _ {ls : Clause} {vars : ℕ} {trail₀ : List ℕ} {values : Bytes} {trail : List ℕ} {i : ℕ} (t : Taking ls vars trail₀ values trail i) where
   module _ (fit : T (literalsFit vars ls)) (less : i < length ls) where
     -- the next literal, from the end
     abbrev pub next : Literal
@@ -86,19 +87,19 @@ module _ {ls : Clause} {vars room′ : ℕ} {values : Bytes} {trail : List ℕ} 
     unfolding literalsFit
     rises = rises-at vars 0 ls (length ls - 1 - i) fit (omega arith)
 
-    behind : suc (length ls - 1 - i) ≡ length ls - i
-    behind = omega arith
+    later : suc (length ls - 1 - i) ≡ length ls - i
+    later = omega arith
 
     one-more : drop (length ls - (i + 1)) ls ≡ next ∷ drop (length ls - i) ls
     one-more =
         let e : length ls - (i + 1) ≡ length ls - 1 - i = omega arith in
-        ap (λ (k : ℕ). drop k ls) e ∙ drop-cons ls (length ls - 1 - i) (pos 0) (omega arith) ∙ ap (λ (k : ℕ). next ∷ drop k ls) behind
+        ap (λ (k : ℕ). drop k ls) e ∙ drop-cons ls (length ls - 1 - i) (pos 0) (omega arith) ∙ ap (λ (k : ℕ). next ∷ drop k ls) later
 
     -- its variable is open
     unset : getD values (variableOf next - 1) 0 ≡ 0
     unfolding valuesIn
     unset = zero-byte _ (ap (λ (k : Values). k (variableOf next - 1)) (t .holds)
-        ∙ open-below vars (variableOf next) _ (variableOf next - 1) (rw behind at (rises .2)) (omega (arith, rises .0)))
+        ∙ open-below vars (variableOf next) _ (variableOf next - 1) (rw later at (rises .2)) (omega (arith, rises .0)))
 
     -- it has a variable, and the trail has room for it
     pub taking-here : (1 ≤ variableOf next) × (variableOf next ≤ length values) × (i < length trail)
@@ -109,7 +110,7 @@ module _ {ls : Clause} {vars room′ : ℕ} {values : Bytes} {trail : List ℕ} 
     )
 
     pub taking-next : {values′ : Bytes} {trail′ : List ℕ} → values′ ≡ set values (variableOf next - 1) (falseByte next)
-        → trail′ ≡ set trail i (variableOf next - 1) → Taking ls vars room′ values′ trail′ (i + 1)
+        → trail′ ≡ set trail i (variableOf next - 1) → Taking ls vars trail₀ values′ trail′ (i + 1)
     unfolding refuting
     taking-next e f = record {
       within = omega arith;
@@ -121,11 +122,16 @@ module _ {ls : Clause} {vars room′ : ℕ} {values : Bytes} {trail : List ℕ} 
           ∙ sym (ap refuting one-more);
       trailed = rw (e, f) (pushed (t .trailed) (variableOf next - 1) (falseByte next)
           (omega (arith, taking-here .0, taking-here .1)) unset (false-some next));
+      behind = ap (drop (i + 1)) f ∙ behind-next i (variableOf next - 1) trail trail₀ (t .behind);
     }
 
   -- behind the first literal
-  pub taking-done : length ls ≤ i → (valuesIn values ≡ refuting ls) × Trailed values trail (length ls)
+  pub taking-done : length ls ≤ i
+      → (valuesIn values ≡ refuting ls) × Trailed values trail (length ls) × (drop (length ls) trail ≡ drop (length ls) trail₀)
   taking-done h =
       let e : i ≡ length ls = omega (arith, t .within) in
-      let z : length ls - i ≡ 0 = omega arith in
-      (t .holds ∙ ap (λ (k : ℕ). refuting (drop k ls)) z, subst (Trailed values trail) e (t .trailed))
+      let z : length ls - i ≡ 0 = omega arith in (
+        t .holds ∙ ap (λ (k : ℕ). refuting (drop k ls)) z,
+        subst (Trailed values trail) e (t .trailed),
+        subst (λ (k : ℕ). drop k trail ≡ drop k trail₀) e (t .behind),
+      )

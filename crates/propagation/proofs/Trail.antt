@@ -1,17 +1,18 @@
 -- The trail of the variables that have a value: where an open variable gets one, the trail has room and the variable goes on it;
--- at first nothing is on it. Assumes nothing.
+-- at first nothing is on it. What is left there once the variables are open again (`left-here`), and after several checks in a row
+-- (`left-both`). Assumes nothing.
 use mathlib.Core.Path.{_≡_, refl, sym, ap, _∙_}
 use mathlib.Core.Logic.{inl, inr}
-use Prim.Native.Nat.{ℕ, zero, suc, _+_, _≤_, _<_}
+use Prim.Native.Nat.{ℕ, zero, suc, _+_, _-_, _≤_, _<_}
 use native.Mathlib.Omega.{arith}
 use mathlib.Core.List.{List, [], _∷_}
-use lib.ListN.{length, getD, set, length-set, length-replicate}
-use lib.Seq.{getD-set-same, getD-set-other}
+use lib.ListN.{length, getD, drop, set, length-set, length-replicate}
+use lib.Seq.{getD-set-same, getD-set-other, getD-drop, drop-drop, drop-set-lt}
 use lib.Dec.{eqb}
 use Rattle.spec.specs.Lists.{Bytes, pick, only}
 use Rattle.spec.specs.Entry.{zeroed}
-use Rattle.laws.proofs.Tests.{eqb-iff, decide, false-of, not-iff}
-use Rattle.propagation.specs.Known.{known, Trailed}
+use Rattle.laws.proofs.Tests.{eqb-iff, decide, false-of, not-iff, le-or-lt}
+use Rattle.propagation.specs.Known.{known, Trailed, LeftOnTrail}
 use Rattle.propagation.proofs.Values.{getD-zeroed}
 
 -- an entry that is 0 is not counted, any other is
@@ -94,3 +95,53 @@ nothing-set n trail h = record {
   below = λ j k. absurd (omega arith);
   onTrail = λ v k. inl (getD-zeroed n v);
 }
+
+-- ---- what stays behind, and what is left
+
+-- what is behind n entries is behind more
+pub behind-more : (n m : ℕ) (new old : List ℕ) → n ≤ m → drop n new ≡ drop n old → drop m new ≡ drop m old
+behind-more n m new old h e =
+    let there : n + (m - n) ≡ m = omega arith in
+    rw (← there) (sym (drop-drop (m - n) n new) ∙ ap (drop (m - n)) e ∙ drop-drop (m - n) n old)
+
+-- one more entry is written
+pub behind-next : (i v : ℕ) (new old : List ℕ) → drop i new ≡ drop i old → drop (i + 1) (set new i v) ≡ drop (i + 1) old
+behind-next i v new old e = drop-set-lt (i + 1) new i v (omega arith) ∙ behind-more i (i + 1) new old (omega arith) e
+
+-- what is left, where so many variables have a value
+pub left-here : {values : Bytes} {trail trail′ : List ℕ} {set′ n : ℕ} → Trailed values trail′ set′ → length values ≡ n
+    → drop set′ trail′ ≡ drop set′ trail → LeftOnTrail n trail trail′
+left-here {values} {set′ = set′} t e b = record {
+  written = set′;
+  most = omega (arith, t .counted, known-all values);
+  inFront = λ j h. omega (arith, t .below j h);
+  behind = b;
+}
+
+-- nothing was written
+pub left-alone : {n : ℕ} {trail : List ℕ} → LeftOnTrail n trail trail
+left-alone = record { written = 0; most = omega arith; inFront = λ j h. absurd (omega arith); behind = refl }
+
+-- what is left after two checks, one behind the other
+pub left-both : {n : ℕ} {trail trail′ trail″ : List ℕ} → LeftOnTrail n trail trail′ → LeftOnTrail n trail′ trail″ → LeftOnTrail n trail trail″
+left-both {n} {trail} {trail′} {trail″} a b = elim (le-or-lt (a .written) (b .written)) [
+  | inl l ↦ record {
+    written = b .written;
+    most = b .most;
+    inFront = b .inFront;
+    behind = b .behind ∙ behind-more (a .written) (b .written) trail′ trail l (a .behind);
+  }
+  | inr l ↦ record {
+    written = a .written;
+    most = a .most;
+    inFront = λ j h. elim (le-or-lt (b .written) j) [
+      | inl k ↦ (let there : b .written + (j - b .written) ≡ j = omega arith in
+          let same = ap (λ (l : List ℕ). getD l (j - b .written) 0) (b .behind) in
+          let old = getD-drop (b .written) trail′ (j - b .written) 0 in
+          let new = getD-drop (b .written) trail″ (j - b .written) 0 in
+          omega (arith, a .inFront j h, rw there at (sym new ∙ same ∙ old)))
+      | inr k ↦ b .inFront j k
+    ];
+    behind = behind-more (b .written) (a .written) trail″ trail′ (omega arith) (b .behind) ∙ a .behind;
+  }
+]

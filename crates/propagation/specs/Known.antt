@@ -5,7 +5,7 @@ use mathlib.Core.Bool.{not}
 use Prim.Native.Nat.{ℕ, zero, suc, _≤_, _<_}
 use mathlib.Core.List.{List, [], _∷_}
 use mathlib.Core.Option.{Option, none, some}
-use lib.ListN.{length, getD}
+use lib.ListN.{length, getD, drop}
 use lib.IntN.{ℤ, pos, negsuc}
 use lib.Dec.{eqb}
 use Rattle.spec.specs.Lists.{Bytes, pick}
@@ -50,6 +50,14 @@ pub record Trailed (values : Bytes) (trail : List ℕ) (set : ℕ) : Type 0 wher
   pub room : length values ≤ length trail
   pub below : (j : ℕ) → j < set → getD trail j 0 < length values
   pub onTrail : (v : ℕ) → v < length values → (getD values v 0 ≡ 0) ⊎ ((j : ℕ) × (j < set) × (getD trail j 0 ≡ v))
+
+-- What is left on the trail where there are so many variables: the entries in front, no more than these, are variables, each below
+-- their number; those behind are as they were. Which variables, and in what order, is free.
+pub record LeftOnTrail (variables : ℕ) (trail trail′ : List ℕ) : Type 0 where
+  pub written : ℕ
+  pub most : written ≤ variables
+  pub inFront : (j : ℕ) → j < written → getD trail′ j 0 < variables
+  pub behind : drop written trail′ ≡ drop written trail
 
 -- What a clause does, literal by literal, where one open literal was found or none: left at the first true literal or second
 -- open one.

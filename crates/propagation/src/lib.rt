@@ -1,20 +1,21 @@
 // The step rule: unit propagation by hints. What is known of a variable is a byte, 0 open, 1 true, 2
 // false; the trail has the variables that were set, so that a step costs what it sets and not the
 // number of variables. Assumes nothing.
+use frames::NUMBER;
 use rows::literal_at;
 use rows::number_at;
 use rows::variable;
 ghost use mathlib.Core.Path.{_≡_};
 ghost use Prim.Native.Nat.{_+_, _-_, _≤_, _<_};
 ghost use lib.ListN as lists;
-ghost use lib.ListN.{length};
+ghost use lib.ListN.{length, drop};
 ghost use lib.Dec.{T};
 ghost use Rattle.spec.specs.Assignment as spec;
 ghost use Rattle.spec.specs.Refutation.{variableOf, literalsFit, hintsFit, refuting, goThrough, followsRule, clausesOf};
 ghost use Rattle.spec.specs.Entry.{zeroed};
 ghost use Rattle.rows.specs.Rows.{numbersIn, literalsIn};
 ghost use Rattle.clause_table.specs.Kept.{Kept};
-ghost use Rattle.propagation.specs.Known.{valuesIn, answered, trueByte, falseByte, Trailed};
+ghost use Rattle.propagation.specs.Known.{valuesIn, answered, trueByte, falseByte, Trailed, LeftOnTrail};
 
 // The truth of a literal: open, true or false.
 pub enum Value {
@@ -62,14 +63,14 @@ fn make_false(values: &mut [u8], trail: &mut [usize], set: usize, l: i32)
 }
 
 // Takes each literal of a row false where all variables are open, the last literal first. Answers how
-// many variables it set. The order of the trail is free.
+// many variables it set. They are on the trail, in an order that is free, and what is behind them stays.
 fn take_false(row: &[u8], values: &mut [u8], trail: &mut [usize]) -> usize
     requires { ⌜ T (literalsFit (length (now values)) (literalsIn (now row))) × (now values ≡ zeroed 0 (length (now values)))
         × (length (now values) ≤ length (now trail)) × (length (now values) < 2147483648) ⌝ }
     ensures { λ r. ⌜ (valuesIn (now (values .exit)) ≡ refuting (literalsIn (now (row .entry))))
-        × Trailed (now (values .exit)) (now (trail .exit)) r ⌝ }
+        × Trailed (now (values .exit)) (now (trail .exit)) r × (drop r (now (trail .exit)) ≡ drop r (now (trail .entry))) ⌝ }
 {
-    let n = row.len() / 4;
+    let n = row.len() / NUMBER;
     let mut i = 0;
     while i < n {
         make_false(values, trail, i, literal_at(row, n - 1 - i));
@@ -87,7 +88,7 @@ struct Tried {
 // Goes through the hints, from what is known and with so many variables set: a hint with all literals
 // false must be the last, and proves the step; one with a single literal not false, and that one open,
 // makes it true; at any other, a true literal or a second open one, the step is refused. Which variables
-// have values after it is free; they are those on the trail.
+// have values after it is free; they are those on the trail, and what is behind them there stays.
 fn try_hints(
     hints: &[u8],
     words: &[i32],
@@ -99,9 +100,10 @@ fn try_hints(
     requires { ⌜ Kept (length (now values)) (now words) (now starts) × T (hintsFit (length (now starts) + 1) (numbersIn (now hints)))
         × Trailed (now values) (now trail) first × (length (now values) < 2147483648) ⌝ }
     ensures { λ r. ⌜ (r .proved ≡ goThrough (clausesOf (now (words .entry))) (valuesIn (now (values .entry))) (numbersIn (now (hints .entry))))
-        × Trailed (now (values .exit)) (now (trail .exit)) (r .set) ⌝ }
+        × Trailed (now (values .exit)) (now (trail .exit)) (r .set)
+        × (first ≤ r .set) × (drop (r .set) (now (trail .exit)) ≡ drop (r .set) (now (trail .entry))) ⌝ }
 {
-    let n = hints.len() / 4;
+    let n = hints.len() / NUMBER;
     let mut set = first;
     let mut proved = false;
     let mut k = 0;
@@ -146,7 +148,8 @@ fn undo(values: &mut [u8], trail: &[usize], set: usize)
 }
 
 // 20: whether a step of these literals and hints follows the step rule, where all variables are open.
-// They are open again after it; what it leaves on the trail is left free.
+// They are open again after it. Which variables it leaves on the trail is free; it writes no other
+// numbers there, and nothing behind them.
 pub fn follows_rule(
     literals: &[u8],
     hints: &[u8],
@@ -160,7 +163,8 @@ pub fn follows_rule(
         × (length (now values) ≤ length (now trail)) × (length (now values) < 2147483648) ⌝ }
     ensures { λ r. ⌜ (r ≡ followsRule (clausesOf (now (words .entry)))
         (record { literals = literalsIn (now (literals .entry)); hints = numbersIn (now (hints .entry)) }))
-        × (now (values .exit) ≡ now (values .entry)) ⌝ }
+        × (now (values .exit) ≡ now (values .entry))
+        × LeftOnTrail (length (now (values .entry))) (now (trail .entry)) (now (trail .exit)) ⌝ }
 {
     let first = take_false(literals, values, trail);
     let tried = try_hints(hints, words, starts, values, trail, first);

@@ -15,13 +15,13 @@ use Rattle.model.specs.declared.Train.{Train as TrainStruct}
 use Rattle.spec.specs.Lists.{all, any, upTo, empty, _when_, firstFault, one, refused}
 use Rattle.spec.specs.Book.{Book, Train, callsOf}
 use Rattle.spec.specs.Runs.{runsOf}
-use Rattle.spec.specs.Read.{headFits, reachFits, bookFaults, refuseOr, maxRuns}
+use Rattle.spec.specs.Read.{growing, trainAllFits, headFits, reachFits, bookFaults, refuseOr, maxRuns}
 use Rattle.spec.specs.Held.{held, heldTrain}
 use Rattle.spec.specs.BookFile.{FitsFields}
 use Rattle.track.proofs.Walks.{all-take-at}
 use Rattle.content.specs.Added.{Packed}
 use Rattle.listing.specs.Listed.{countAfter}
-use Rattle.spec.specs.Reached.{Few, trainAllFits, Growing}
+use Rattle.demands.proofs.Growing.{Few, growing-parts}
 use Rattle.reading.proofs.FrameTests.{fault-here, fault-next}
 use Rattle.reading.specs.declared.Answer.the-variants.{Accepted}
 use Rattle.reading.specs.declared.BookRead.{BookRead}
@@ -75,17 +75,17 @@ pub count-few : (n : ℕ) (rs : List (List ℕ)) → n ≡ countAfter 0 rs → n
 unfolding countAfter
 count-few n rs e h = false-of (ltb 256 (length rs)) (λ t. let l = ltb-iff 256 (length rs) .0 t in omega arith)
 
-module _ (b : BookStruct) (g : Growing (held b)) where
+module _ (b : BookStruct) (g : T (growing (held b))) where
   -- a segment's metres are 1 at least
   pub metres-some : 1 ≤ b .«segment_metres»
   unfolding headFits held
-  metres-some = let p = simp (and-iff, leb-iff) at (g .head) in p .0 .0
+  metres-some = let p = simp (and-iff, leb-iff) at (growing-parts _ g .head) in p .0 .0
 
   module _ (i : ℕ) (d : TrainStruct) (l : i < b .«train_count») (fits : b .«train_count» ≤ length (b .trains)) where
     -- a train's l and k fit
     pub reach-here : T (reachFits (held b) (heldTrain (getD (b .trains) i d)))
     unfolding Few trainAllFits
-    reach-here = let p = simp and-iff at (train-passes (trainAllFits (held b)) b i d l fits (g .trains .1)) in p .0 .1
+    reach-here = let p = simp and-iff at (train-passes (trainAllFits (held b)) b i d l fits (growing-parts _ g .trains .1)) in p .0 .1
 
     -- and its numbers are those of two bytes
     pub numbers-here : FitsFields (held b) → (getD (b .trains) i d .metres < 65536) × (getD (b .trains) i d .speed < 65536)

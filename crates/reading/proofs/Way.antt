@@ -17,10 +17,11 @@ use Rattle.spec.specs.Lists.{Bytes, all, Verdict, accepted, refused, firstFault
 use Rattle.spec.specs.Frames.{cutShort, kindField, payloadLength, behind, rank, kindNumber}
 use Rattle.spec.specs.Book.{Book, noBook}
 use Rattle.spec.specs.BookFile.{FitsFields}
-use Rattle.spec.specs.Read.{Reading, readingStart, frameFaults, bookFaults, refuseOr, isEnd, pastFrame, readBook, headFits, between, outOfOrder}
+use Rattle.spec.specs.Read.{growing, Reading, readingStart, frameFaults, bookFaults, refuseOr, isEnd, pastFrame, readBook, headFits, between, outOfOrder}
 use Rattle.spec.specs.Held.{held, packed}
 use Rattle.demands.proofs.Faults.{first-none}
-use Rattle.spec.specs.Reached.{Few, Growing, Reached, nothing, growing}
+use Rattle.spec.specs.Reached.{Reached, atStart, behindHead}
+use Rattle.demands.proofs.Growing.{Few, Growing, growing-parts}
 use Rattle.demands.proofs.Reading.{ReadsTo, start, reached, fine}
 use Rattle.demands.proofs.Exact.{reads-fit}
 use Rattle.content.specs.Added.{Packed}
@@ -50,11 +51,12 @@ few-intervals b g = let h = leb-iff (b .intervals) 32 .0 ((simp and-iff at (g .h
 -- the struct of a book as far as it was read holds it
 packed-reached : (r : Reading) → Reached r → (r .last ≢ 0 → FitsFields (r .book)) → Packed (packed (r .book))
 unfolding Few noBook
-packed-reached r (nothing l e) f =
+packed-reached r (atStart l e) f =
     subst (λ (b : Book). Packed (packed b)) (sym e)
     (packed-fits noBook (omega arith) (omega arith) (omega arith) (omega arith) (omega arith) (omega arith) (omega arith) (omega arith))
-packed-reached r (growing l g) f =
-    packed-fits (r .book) (g .nodes .0) (g .segments .0) (g .joins .0) (g .trains .0) (calls-fit (r .book) (growing-calls (r .book) g))
+packed-reached r (behindHead l t) f =
+    let g = growing-parts (r .book) t in
+    packed-fits (r .book) (g .nodes .0) (g .segments .0) (g .joins .0) (g .trains .0) (calls-fit (r .book) (growing-calls (r .book) t))
     (f l .metres) (f l .seconds) (few-intervals (r .book) g)
 
 -- no End is in order before the Head
@@ -111,14 +113,14 @@ module _ (s : Bytes) (book : BookStruct) (last at : ℕ) (w : OnWay s book last 
         ∙ ap (λ (r : Reading). refuseOr (firstFault (bookFaults (r .book))) (r .book)) (sym here-is)
 
     -- the End stands behind the Head
-    pub way-growing : st .next ≡ End → (w .reading .last ≢ 0) × Growing (w .reading .book)
+    pub way-growing : st .next ≡ End → (w .reading .last ≢ 0) × T (growing (w .reading .book))
     way-growing e = go (reached (w .way))
       where
-        go : Reached (w .reading) → (w .reading .last ≢ 0) × Growing (w .reading .book)
-        go (nothing l n) =
+        go : Reached (w .reading) → (w .reading .last ≢ 0) × T (growing (w .reading .book))
+        go (atStart l n) =
             let f = fine (w .reading) (drop at s) (first-none _ (at-end e .0)) in
             no-end (w .reading .last) (drop at s) l (at-end e .1) (f .inOrder)
-        go (growing l g) = (l, g)
+        go (behindHead l g) = (l, g)
 
     pub way-more : (a l : ℕ) → st .next ≡ More a l → OnWay s (st .book) l a × (at < a)
     unfolding pastFrame
@@ -138,10 +140,10 @@ module _ (s : Bytes) (book : BookStruct) (last at : ℕ) (w : OnWay s book last 
         )
 
     -- what the book's own refusals ask, at the End
-    pub way-finish : st .next ≡ End → Packed book × Growing (held book) × FitsFields (held book)
+    pub way-finish : st .next ≡ End → Packed book × T (growing (held book)) × FitsFields (held book)
     way-finish e =
         let g = way-growing e in (
           way-packed,
-          subst (λ (r : Reading). Growing (r .book)) (sym here-is) (g .1),
+          subst (λ (r : Reading). T (growing (r .book))) (sym here-is) (g .1),
           subst (λ (r : Reading). FitsFields (r .book)) (sym here-is) (reads-fit (w .isBytes) (w .way) (g .0)),
         )

@@ -11,19 +11,21 @@ use lib.ListN.{length, take, drop, length-drop}
 use lib.Seq.{drop-drop}
 use Rattle.model.specs.declared.Book.{Book as BookStruct}
 use Rattle.spec.specs.Lists.{Bytes, firstFault}
-use lib.Dec.{eqb}
+use lib.Dec.{T, eqb}
 use Rattle.laws.proofs.Tests.{decide, true-of, false-of, denied-of, from-denied, eqb-iff}
 use Rattle.laws.proofs.Frames.{whole-iff}
-use Rattle.spec.specs.Reached.{Growing, Reached, nothing, growing}
-use Rattle.frames.proofs.Order.{not-first}
-use Rattle.spec.specs.Frames.{Kind, kindNumber, rankIn, kindOrder, findKind, cutShort, kindField, payloadLength, payloadOf, behind, rank}
+use Rattle.spec.specs.Reached.{Reached, atStart, behindHead}
+use Rattle.frames.proofs.Order.{not-first, in-said}
+use Rattle.spec.specs.Frames.{kindNumber, kindOrder, findKind, cutShort, kindField, payloadLength, payloadOf, behind, rank}
 use Rattle.spec.specs.Book.{Book}
-use Rattle.spec.specs.Read.{Reading, frameFaults, kindFaults, outOfOrder, unknownKind, isEnd, pastFrame, addFound}
+use Rattle.spec.specs.Read.{growing, Reading, frameFaults, kindFaults, outOfOrder, unknownKind, isEnd, pastFrame, addFound}
 use Rattle.spec.specs.Held.{held, packed}
 use Rattle.content.specs.declared.Added.{Added}
 use Rattle.content.specs.declared.Checked.the-variants.{Fine, Refused}
 use Rattle.content.specs.Added.{Packed, settled}
-use Rattle.frames.specs.Framed.{framedAt, outOfOrderBy}
+use Rattle.frames.specs.Framed.{framedAt, kindSaid, kindIn, outOfOrderBy}
+use Rattle.frames.specs.declared.Kind.{Kind as KindCase}
+use Rattle.frames.specs.declared.Kind.the-variants.{Head}
 use Rattle.frames.specs.declared.Framed.the-variants.{Whole, Cut}
 use Rattle.reading.specs.BookAnswers.{addedFound, steppedAt}
 use Rattle.reading.specs.declared.Stepped.{Stepped}
@@ -97,14 +99,18 @@ module _ (b : BookStruct) (w : Packed b) (last : ℕ) (s : Bytes) (at kind len :
       ∙ step-more here (drop at s) at f (false-of (eqb (kindField (drop at s)) 8) (λ t. h (sym (says .1) ∙ eqb-iff (kindField (drop at s)) 8 .0 t)))
 
   module _ (known : rank kind ≢ 9) (order : outOfOrderBy last kind (length s - (at + 4 + len)) ≡ false)
-      (a : Added) (answer : a ≡ addedFound (held b) (findKind kind kindOrder) (take (at + 4 + len - (at + 4)) (drop (at + 4) s))) where
+      (a : Added) (k : KindCase) (found : k ≡ kindSaid (findKind kind kindOrder))
+      (answer : a ≡ addedFound (held b) (kindIn k) (take (at + 4 + len - (at + 4)) (drop (at + 4) s))) where
     content : firstFault (frameFaults here (drop at s))
         ≡ firstFault (kindFaults (held b) (findKind (kindField (drop at s)) kindOrder) (payloadOf (drop at s)))
     content = first-content here (drop at s) (says .0) (known-here known) (order-here ∙ order)
 
     -- the answer, by the frame's own words
     answered : a ≡ addedFound (held b) (findKind (kindField (drop at s)) kindOrder) (payloadOf (drop at s))
-    answered = answer ∙ ap₂ (λ (k : ℕ) (p : Bytes). addedFound (held b) (findKind k kindOrder) p) (sym (says .1)) payload-here
+    answered =
+        answer
+        ∙ ap₂ (addedFound (held b)) (ap kindIn found ∙ in-said (findKind kind kindOrder) ∙ ap (λ n. findKind n kindOrder) (sym (says .1)))
+        payload-here
 
     pub refused-here : (n : ℕ) → a .checked ≡ Refused n → firstFault (frameFaults here (drop at s)) ≡ some n
     unfolding addedFound
@@ -127,23 +133,16 @@ module _ (b : BookStruct) (w : Packed b) (last : ℕ) (s : Bytes) (at kind len :
 
 -- ---- what the content asks
 
-rank-most : (n : ℕ) (ks : List Kind) → rankIn n ks ≤ suc (length ks)
-unfolding rankIn
-rank-most n [] = omega arith
-rank-most n (k ∷ ks) = decide (eqb n (kindNumber k))
-    (λ t. rw (true-of (eqb n (kindNumber k)) t, rankIn) (omega arith))
-    (λ f. let m = rank-most n ks in rw (denied-of (eqb n (kindNumber k)) f, rankIn) (omega arith))
-
--- a rank that is not 9 is below it
-pub rank-below : (n : ℕ) → rank n ≢ 9 → rank n < 9
-unfolding rank kindOrder
-rank-below n h = let m = rank-most n kindOrder in omega arith
+-- a number that says a kind that is no Head is not the Head's
+pub number-no-head : (n : ℕ) (k : KindCase) → k ≡ kindSaid (findKind n kindOrder) → k ≢ Head → n ≢ 1
+unfolding findKind kindOrder kindNumber
+number-no-head n k e h f = h (e ∙ ap (λ m. kindSaid (findKind m kindOrder)) f)
 
 -- behind the Head the book is growing
 pub growing-here : (last kind left : ℕ) (b : Book) → Reached (record { last = last; book = b }) → outOfOrderBy last kind left ≡ false
-    → kind ≢ 1 → Growing b
-growing-here last kind left b (nothing l e) f h = let z = not-first last kind left l h ∙ f in never cc
-growing-here last kind left b (growing l g) f h = g
+    → kind ≢ 1 → T (growing b)
+growing-here last kind left b (atStart l e) f h = let z = not-first last kind left l h ∙ f in never cc
+growing-here last kind left b (behindHead l g) f h = g
 
 -- ---- at a place of a file
 

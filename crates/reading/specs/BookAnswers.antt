@@ -6,7 +6,7 @@ use Prim.Native.Nat.{ℕ, _+_}
 use mathlib.Core.List.{[]}
 use lib.Dec.{ltb, eqb}
 use Rattle.spec.specs.Lists.{Bytes, Verdict, accepted, refused, firstFault}
-use Rattle.spec.specs.Frames.{Kind, kindOrder, findKind, kindField, payloadLength, payloadOf, rank}
+use Rattle.spec.specs.Frames.{frameHead, Kind, kindOrder, findKind, kindField, payloadLength, payloadOf, rank}
 use Rattle.spec.specs.Book.{Book, noBook}
 use Rattle.spec.specs.Read.{Reading, frameFaults, pastFrame, isHead, isEnd, kindFaults, addFound}
 use Rattle.spec.specs.Held.{held, packed}
@@ -37,7 +37,7 @@ addedFound b o p = settled (firstFault (kindFaults b o p)) b (addFound b o p)
 abbrev pub steppedBy : Option ℕ → Bool → Reading → Bytes → ℕ → Stepped
 steppedBy (some n) isLast r s at = record { next = Stop n; book = packed (r .book) }
 steppedBy none true r s at = record { next = End; book = packed (r .book) }
-steppedBy none false r s at = record { next = More (at + (4 + payloadLength s)) (rank (kindField s)); book = packed (pastFrame r s .book) }
+steppedBy none false r s at = record { next = More (at + (frameHead + payloadLength s)) (rank (kindField s)); book = packed (pastFrame r s .book) }
 
 unfoldable pub steppedAt : Reading → Bytes → ℕ → Stepped
 steppedAt r s at = steppedBy (firstFault (frameFaults r s)) (isEnd (kindField s)) r s at

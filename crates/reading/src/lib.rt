@@ -16,6 +16,7 @@ use frames::EndFrame;
 use frames::Framed;
 use frames::HeadFrame;
 use frames::JoinFrame;
+use frames::Kind;
 use frames::NO_RANK;
 use frames::NodeFrame;
 use frames::OPENING;
@@ -23,6 +24,7 @@ use frames::SegmentFrame;
 use frames::TrainFrame;
 use frames::UnbreakableFrame;
 use frames::frame_at;
+use frames::kind_of;
 use frames::out_of_order;
 use frames::rank;
 use listing::FAN_BYTES;
@@ -42,22 +44,23 @@ use model::MAX_SEGMENTS;
 use model::MAX_TRAINS;
 use model::Segment;
 use model::Train;
+use track::wide;
 ghost use mathlib.Core.Path.{_≡_};
 ghost use mathlib.Core.Logic.{_≢_};
 ghost use mathlib.Core.Bool.{not, _||_};
-ghost use Prim.Native.Nat.{_+_, _≤_, _<_};
-ghost use lib.ListN.{length, drop};
-ghost use lib.Dec.{ltb};
+ghost use Prim.Native.Nat.{_+_, _-_, _≤_};
+ghost use lib.ListN.{length, take, drop};
+ghost use lib.Dec.{T, ltb};
 ghost use Rattle.spec.specs.Lists.{any, upTo, empty, firstFault, refused};
-ghost use Rattle.spec.specs.Frames.{rank, findKind, kindOrder};
+ghost use Rattle.spec.specs.Frames.{frameHead};
 ghost use Rattle.spec.specs.Book.{noBook, callsOf};
 ghost use Rattle.spec.specs.BookFile.{FitsFields};
 ghost use Rattle.spec.specs.Runs.{runsOf};
-ghost use Rattle.spec.specs.Read.{readBook, refuseOr, bookFaults, maxRuns};
+ghost use Rattle.spec.specs.Read.{growing, readBook, refuseOr, bookFaults, maxRuns};
 ghost use Rattle.spec.specs.Held.{held, packed, CountsFit};
 ghost use Rattle.content.specs.Added.{Packed};
-ghost use Rattle.frames.specs.Framed.{framedAt};
-ghost use Rattle.spec.specs.Reached.{Growing, Reached};
+ghost use Rattle.frames.specs.Framed.{framedAt, kindIn};
+ghost use Rattle.spec.specs.Reached.{Reached};
 ghost use Rattle.reading.specs.BookAnswers.{bookReadOf, addedFound, steppedAt};
 
 // A verdict: accepted, or a refusal's number and detail.
@@ -118,41 +121,89 @@ fn refused_book(number: usize) -> BookRead
     }
 }
 
-// 4 to 9 of a frame, by its kind, and the book after it.
-fn add_frame(b: Book, kind: usize, p: &[u8]) -> Added
-    requires { ⌜ Packed b × (rank kind < 9) × (kind ≢ 1 → Growing (held b)) ⌝ }
-    ensures { λ r. ⌜ r ≡ addedFound (held b) (findKind kind kindOrder) (now (p .entry)) ⌝ }
+// 4, beside the book unchanged.
+fn wrong_length(b: Book) -> Added
+    ensures { λ r. ⌜ (r .checked ≡ Checked.Refused 4) × (r .book ≡ b) ⌝ }
 {
-    if kind == HeadFrame::KIND {
-        return add_head(b, p);
+    Added {
+        checked: Checked::Refused(4),
+        book: b,
     }
-    if kind == NodeFrame::KIND {
-        return add_node(b, p);
-    }
-    if kind == SegmentFrame::KIND {
-        return add_segment(b, p);
-    }
-    if kind == JoinFrame::KIND {
-        return add_join(b, p);
-    }
-    if kind == TrainFrame::KIND {
-        return add_train(b, p);
-    }
-    if kind == CallFrame::KIND {
-        return add_call(b, p);
-    }
-    if kind == UnbreakableFrame::KIND {
-        return add_unbreakable(b, p);
-    }
-    if p.len() != EndFrame::LEN {
-        return Added {
-            checked: Checked::Refused(4),
-            book: b,
-        };
-    }
+}
+
+// The book of a frame that adds nothing.
+fn unchanged(b: Book) -> Added
+    ensures { λ r. ⌜ (r .checked ≡ Checked.Fine) × (r .book ≡ b) ⌝ }
+{
     Added {
         checked: Checked::Fine,
         book: b,
+    }
+}
+
+// 4 to 9 of a frame whose payload stands from `at` up to `end`, by its kind, and the book after it. The
+// kind's cursor says where its payload, or the part ahead of a Train's row, has to end: 4.
+fn add_frame(b: Book, kind: Kind, s: &[u8], at: usize, end: usize) -> Added
+    requires { ⌜ Packed b × (at ≤ end) × (end ≤ length (now s)) × (kind ≢ Kind.Head → T (growing (held b))) ⌝ }
+    ensures { λ r. ⌜ r ≡ addedFound (held b) (kindIn kind) (take (end - at) (drop at (now (s .entry)))) ⌝ }
+{
+    match kind {
+        Kind::Head => {
+            let to = HeadFrame::cursor(at).end;
+            if to != end {
+                return wrong_length(b);
+            }
+            add_head(b, &s[at..to])
+        }
+        Kind::Node => {
+            let to = NodeFrame::cursor(at).end;
+            if to != end {
+                return wrong_length(b);
+            }
+            add_node(b, &s[at..to])
+        }
+        Kind::Segment => {
+            let to = SegmentFrame::cursor(at).end;
+            if to != end {
+                return wrong_length(b);
+            }
+            add_segment(b, &s[at..to])
+        }
+        Kind::Join => {
+            let to = JoinFrame::cursor(at).end;
+            if to != end {
+                return wrong_length(b);
+            }
+            add_join(b, &s[at..to])
+        }
+        Kind::Train => {
+            let fixed = TrainFrame::cursor(at).end;
+            if end < fixed || end != fixed + wide(s[at + TrainFrame::COUNT_AT]) {
+                return wrong_length(b);
+            }
+            add_train(b, &s[at..end])
+        }
+        Kind::Call => {
+            let to = CallFrame::cursor(at).end;
+            if to != end {
+                return wrong_length(b);
+            }
+            add_call(b, &s[at..to])
+        }
+        Kind::Unbreakable => {
+            let to = UnbreakableFrame::cursor(at).end;
+            if to != end {
+                return wrong_length(b);
+            }
+            add_unbreakable(b, &s[at..to])
+        }
+        Kind::End => {
+            if EndFrame::cursor(at).end != end {
+                return wrong_length(b);
+            }
+            unchanged(b)
+        }
+        Kind::Unknown => unchanged(b),
     }
 }
 
@@ -181,7 +232,7 @@ fn stopped(b: Book, number: usize) -> Stepped
 // A whole frame at a place: 2 to 9, and how reading goes on.
 fn step_whole(b: Book, last: usize, s: &[u8], at: usize, kind: usize, len: usize) -> Stepped
     requires { ⌜ Packed b × Reached (record { last = last; book = held b }) × (framedAt (drop at (now s)) ≡ Framed.Whole kind len)
-        × (at + (4 + len) ≤ length (now s)) ⌝ }
+        × (at + (frameHead + len) ≤ length (now s)) ⌝ }
     ensures { λ r. ⌜ r ≡ steppedAt (record { last = last; book = held b }) (drop at (now (s .entry))) at ⌝ }
 {
     let start = at + OPENING;
@@ -193,7 +244,7 @@ fn step_whole(b: Book, last: usize, s: &[u8], at: usize, kind: usize, len: usize
     if out_of_order(last, kind, s.len() - end) {
         return stopped(b, 3);
     }
-    let a = add_frame(b, kind, &s[start..end]);
+    let a = add_frame(b, kind_of(kind), s, start, end);
     let checked = a.checked;
     let next = a.book;
     match checked {
@@ -246,7 +297,7 @@ fn all_called(b: Book) -> bool
 
 // 11: no train has over 256 runs.
 fn few_runs(b: Book) -> bool
-    requires { ⌜ Packed b × Growing (held b) × FitsFields (held b) ⌝ }
+    requires { ⌜ Packed b × T (growing (held b)) × FitsFields (held b) ⌝ }
     ensures { λ r. ⌜ r ≡ not (any (λ t. ltb maxRuns (length (runsOf (held b) t))) (held b .trains)) ⌝ }
 {
     let n = b.train_count;
@@ -268,7 +319,7 @@ fn few_runs(b: Book) -> bool
 
 // The book's own refusals, 10 and 11, after its End.
 fn finish(b: Book) -> BookRead
-    requires { ⌜ Packed b × Growing (held b) × FitsFields (held b) ⌝ }
+    requires { ⌜ Packed b × T (growing (held b)) × FitsFields (held b) ⌝ }
     ensures { λ r. ⌜ r ≡ bookReadOf (refuseOr (firstFault (bookFaults (held b))) (held b)) ⌝ }
 {
     if !all_called(b) {

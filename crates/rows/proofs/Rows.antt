@@ -2,7 +2,7 @@
 -- one of them. Assumes nothing.
 use mathlib.Core.Path.{_≡_, refl, ap, _∙_}
 use mathlib.Core.Bool.{true, _&&_}
-use Prim.Native.Nat.{ℕ, suc, _+_, _*_, _/_, _≤_, _<_}
+use Prim.Native.Nat.{ℕ, suc, _+_, _*_, _≤_, _<_}
 use native.Mathlib.Numerals.{add-one}
 use native.Mathlib.Omega.{arith}
 use mathlib.Core.List.{List}
@@ -10,6 +10,7 @@ use lib.ListN.{length, getD, drop, length-map, drop-of-length-le, List·getD-map
 use lib.Seq.{drop-cons}
 use lib.IntN.{ℤ, pos}
 use lib.Dec.{ltb, leb}
+use Rattle.spec.specs.Frames.{numberWidth}
 use Rattle.spec.specs.Lists.{Bytes, upTo}
 use Rattle.spec.specs.Numbers.{field, signed}
 use Rattle.spec.specs.Formula.{Clause}
@@ -17,7 +18,7 @@ use Rattle.spec.specs.Refutation.{variableOf, risesFrom, hintsFit}
 use Rattle.checks.proofs.Rests.{all-drop-next, all-drop-end}
 use Rattle.laws.proofs.Numbers.{field-next, field-two}
 use Rattle.laws.proofs.Parts.{length-upTo, map-at}
-use Rattle.rows.specs.Rows.{numbersIn, literalsIn}
+use Rattle.rows.specs.Rows.{numberCount, numbersIn, literalsIn}
 
 -- a field of four bytes is two of two
 pub field-four : (s : Bytes) (at : ℕ) → at + 4 ≤ length s → field s at 4 ≡ field s at 2 + 65536 * field s (at + 2) 2
@@ -28,23 +29,23 @@ field-four s at h =
     rw (field-next s at 3 (omega arith), all-but-one, field-two s at (omega arith), one-on, two-on) (omega arith)
 
 -- how many numbers and literals there are
-pub numbers-length : (row : Bytes) → length (numbersIn row) ≡ length row / 4
+pub numbers-length : (row : Bytes) → length (numbersIn row) ≡ numberCount row
 unfolding numbersIn
-numbers-length row = length-map (upTo (length row / 4)) (λ i. field row (4 * i) 4) ∙ length-upTo (length row / 4)
+numbers-length row = length-map (upTo (numberCount row)) (λ i. field row (numberWidth * i) numberWidth) ∙ length-upTo (numberCount row)
 
-pub literals-length : (row : Bytes) → length (literalsIn row) ≡ length row / 4
+pub literals-length : (row : Bytes) → length (literalsIn row) ≡ numberCount row
 unfolding literalsIn
-literals-length row = length-map (numbersIn row) (signed 4) ∙ numbers-length row
+literals-length row = length-map (numbersIn row) (signed numberWidth) ∙ numbers-length row
 
 -- a number is a field
-pub number-of : (row : Bytes) (i : ℕ) → i < length row / 4 → getD (numbersIn row) i 0 ≡ field row (4 * i) 4
+pub number-of : (row : Bytes) (i : ℕ) → i < numberCount row → getD (numbersIn row) i 0 ≡ field row (numberWidth * i) numberWidth
 unfolding numbersIn
-number-of row i h = map-at (λ i. field row (4 * i) 4) (length row / 4) i 0 h
+number-of row i h = map-at (λ i. field row (numberWidth * i) numberWidth) (numberCount row) i 0 h
 
 -- and a literal is what a number stands for
-pub literal-of : (row : Bytes) (i : ℕ) → getD (literalsIn row) i (pos 0) ≡ signed 4 (getD (numbersIn row) i 0)
+pub literal-of : (row : Bytes) (i : ℕ) → getD (literalsIn row) i (pos 0) ≡ signed numberWidth (getD (numbersIn row) i 0)
 unfolding literalsIn signed
-literal-of row i = List·getD-map (signed 4) (numbersIn row) i 0
+literal-of row i = List·getD-map (signed numberWidth) (numbersIn row) i 0
 
 -- the literals that are left: one, and those behind it
 module _ (vars low i : ℕ) (ls : Clause) where

@@ -4,12 +4,17 @@ use mathlib.Core.List.{List, map}
 use lib.ListN.{length}
 use Rattle.spec.specs.Lists.{Bytes, upTo}
 use Rattle.spec.specs.Numbers.{field, signed}
+use Rattle.spec.specs.Frames.{numberWidth}
 use Rattle.spec.specs.Formula.{Clause}
 
--- the numbers of a row, four bytes each
+-- how many numbers a row has
+abbrev pub numberCount : Bytes → ℕ
+numberCount row = length row / numberWidth
+
+-- the numbers of a row
 unfoldable pub numbersIn : Bytes → List ℕ
-numbersIn row = map (λ i. field row (4 * i) 4) (upTo (length row / 4))
+numbersIn row = map (λ i. field row (numberWidth * i) numberWidth) (upTo (numberCount row))
 
 -- and as literals
 unfoldable pub literalsIn : Bytes → Clause
-literalsIn row = map (signed 4) (numbersIn row)
+literalsIn row = map (signed numberWidth) (numbersIn row)

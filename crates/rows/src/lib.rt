@@ -4,17 +4,18 @@ use frames::NUMBER;
 use frames::pair;
 ghost use mathlib.Core.Path.{_≡_};
 ghost use mathlib.Core.Bool.{_&&_};
-ghost use Prim.Native.Nat.{_/_, _<_};
-ghost use lib.ListN.{length, getD};
+ghost use Prim.Native.Nat.{_<_};
+ghost use lib.ListN.{getD};
 ghost use lib.IntN.{pos};
 ghost use lib.Dec.{ltb, leb};
+ghost use Rattle.spec.specs.Frames.{numberWidth};
 ghost use Rattle.spec.specs.Numbers.{signed};
 ghost use Rattle.spec.specs.Refutation.{variableOf, literalsFit, hintsFit};
-ghost use Rattle.rows.specs.Rows.{numbersIn, literalsIn};
+ghost use Rattle.rows.specs.Rows.{numberCount, numbersIn, literalsIn};
 
 // A number of a row.
 pub fn number_at(row: &[u8], i: usize) -> usize
-    requires { ⌜ i < length (now row) / 4 ⌝ }
+    requires { ⌜ i < numberCount (now row) ⌝ }
     ensures { λ r. ⌜ (r ≡ getD (numbersIn (now (row .entry))) i 0) × (r < 4294967296) ⌝ }
 {
     let at = NUMBER * i;
@@ -26,7 +27,7 @@ pub fn number_at(row: &[u8], i: usize) -> usize
 // The literal that a number of four bytes stands for.
 fn literal(n: usize) -> i32
     requires { ⌜ n < 4294967296 ⌝ }
-    ensures { λ r. ⌜ r ≡ signed 4 n ⌝ }
+    ensures { λ r. ⌜ r ≡ signed numberWidth n ⌝ }
 {
     if n < 2147483648 {
         n as i32
@@ -37,7 +38,7 @@ fn literal(n: usize) -> i32
 
 // A literal of a row.
 pub fn literal_at(row: &[u8], i: usize) -> i32
-    requires { ⌜ i < length (now row) / 4 ⌝ }
+    requires { ⌜ i < numberCount (now row) ⌝ }
     ensures { λ r. ⌜ r ≡ getD (literalsIn (now (row .entry))) i (pos 0) ⌝ }
 {
     literal(number_at(row, i))

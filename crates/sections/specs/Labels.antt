@@ -2,17 +2,12 @@
 use mathlib.Core.Path.{_≡_}
 use mathlib.Core.Bool.{cond}
 use Prim.Native.Nat.{ℕ, _<_, min, max}
-use mathlib.Core.List.{List, map}
+use mathlib.Core.List.{List}
 use lib.ListN.{length, getD}
 use lib.Dec.{eqb}
-use Rattle.spec.specs.Lists.{upTo}
 use Rattle.spec.specs.Instance.{Instance}
 use Rattle.spec.specs.Sections.{Borders, together}
-use Rattle.tables.specs.Tables.{leastFrom}
-
--- the label of each segment
-unfoldable pub sectionLabels : Instance → Borders → List ℕ
-sectionLabels I border = map (λ s. leastFrom (together I border s) 0 (I .segments)) (upTo (I .segments))
+unfoldable pub use Rattle.spec.specs.Sections.{sectionLabels}
 
 -- what a table of labels says: two segments have the same label exactly where they are together
 pub record LabelsHeld (I : Instance) (border : Borders) (labels : List ℕ) : Type 0 where

@@ -24,6 +24,31 @@ is v = pos (suc v)
 abbrev pub not′ : ℕ → Literal
 not′ v = negsuc v
 
+-- "by train and interval: its runs, gone, and one claim a segment": the variables of an interval whose first one is x, of a
+-- train with n runs. A claim (document 01's term): the train keeps the segment to itself in the interval.
+abbrev pub runIn : ℕ → ℕ → ℕ
+runIn x r = x + r
+
+abbrev pub goneIn : ℕ → ℕ → ℕ
+goneIn n x = x + n
+
+abbrev pub claimIn : ℕ → ℕ → ℕ → ℕ
+claimIn n x s = x + (n + 1 + s)
+
+-- B, of an interval: "no run, not gone"
+unfoldable pub clausesB : ℕ → ℕ → List Clause
+clausesB n x = map (λ r. one (not′ (runIn x r))) (upTo n) ++ one (one (not′ (goneIn n x)))
+
+-- C, of an interval: "some run or gone; then no two (pairs in order)". Gone's variable is the one behind the runs'.
+unfoldable pub clausesC : ℕ → ℕ → List Clause
+clausesC n x =
+    one (map (λ r. is (runIn x r)) (upTo n) ++ one (is (goneIn n x)))
+    ++ each (upTo (n + 1)) λ m. map (λ k. not′ (runIn x m) ∷ one (not′ (runIn x k))) (range (m + 1) (n + 1))
+
+-- "not both", of n pairs of variables
+unfoldable pub clausesI : ℕ → (ℕ → ℕ) → (ℕ → ℕ) → List Clause
+clausesI n v w = map (λ s. not′ (v s) ∷ one (not′ (w s))) (upTo n)
+
 module _ (I : Instance) where
   -- ---- "Variables: node borders 1 to N; then by train and interval: its runs, gone, and one claim a segment."
 
@@ -43,14 +68,13 @@ module _ (I : Instance) where
   borderVar n = n
 
   unfoldable pub runVar : ℕ → ℕ → ℕ → ℕ
-  runVar i t r = base i t + r
+  runVar i t r = runIn (base i t) r
 
   unfoldable pub goneVar : ℕ → ℕ → ℕ
-  goneVar i t = base i t + I .runs i
+  goneVar i t = goneIn (I .runs i) (base i t)
 
-  -- A claim (document 01's term): the train keeps the segment to itself in the interval.
   unfoldable pub claimVar : ℕ → ℕ → ℕ → ℕ
-  claimVar i t s = base i t + (I .runs i + 1 + s)
+  claimVar i t s = claimIn (I .runs i) (base i t) s
 
   -- the variables of the nine families, and all variables
   unfoldable pub ownVariables : ℕ
@@ -59,6 +83,42 @@ module _ (I : Instance) where
   unfoldable pub variables : ℕ
   variables = ownVariables + extraVariables I
 
+  -- ---- the clauses of one interval of train i; x is its first variable
+
+  -- D: "not a run that starts elsewhere; not gone"
+  unfoldable pub clausesD : ℕ → ℕ → List Clause
+  clausesD i x =
+      (each (upTo (I .runs i)) λ r. only (not (I .given i r)) (one (one (not′ (runIn x r)))))
+      ++ one (one (not′ (goneIn (I .runs i) x)))
+
+  -- E, of one run: it "implies a run starting at its end, in list order, or, last, gone if its end contains the goal"; y is the
+  -- first variable of the next interval
+  unfoldable pub followersE : ℕ → ℕ → ℕ → List ℤ
+  followersE i y r = each (upTo (I .runs i)) λ q. only (I .follows i r q) (one (is (runIn y q)))
+
+  unfoldable pub clauseE : ℕ → ℕ → ℕ → ℕ → Clause
+  clauseE i x y r = not′ (runIn x r) ∷ (followersE i y r ++ only (I .leaves i r) (one (is (goneIn (I .runs i) y))))
+
+  -- E: each run so; "then gone implies gone"
+  unfoldable pub clausesE : ℕ → ℕ → ℕ → List Clause
+  clausesE i x y = map (clauseE i x y) (upTo (I .runs i)) ++ one (not′ (goneIn (I .runs i) x) ∷ one (is (goneIn (I .runs i) y)))
+
+  -- F: the runs of an interval that serve call c
+  unfoldable pub serversF : ℕ → ℕ → ℕ → List ℤ
+  serversF i c x = each (upTo (I .runs i)) λ r. only (I .serves i c r) (one (is (runIn x r)))
+
+  -- G: "a run implies the claim of each of its segments, in path order"
+  unfoldable pub claimsG : ℕ → ℕ → ℕ → List Clause
+  claimsG i x r = map (λ s. not′ (runIn x r) ∷ one (is (claimIn (I .runs i) x s))) (I .path i r)
+
+  unfoldable pub clausesG : ℕ → ℕ → List Clause
+  clausesG i x = each (upTo (I .runs i)) λ r. claimsG i x r
+
+  -- H: "by node, then ordered pair of segments of one TTD there: claim of the first implies border or claim of the second"
+  unfoldable pub clausesH : ℕ → ℕ → List Clause
+  clausesH i x = each (upTo (I .nodes)) λ n. each (upTo (I .segments)) λ s. each (upTo (I .segments)) λ u.
+      only (I .meet n s u) (one (not′ (claimIn (I .runs i) x s) ∷ is (borderVar n) ∷ one (is (claimIn (I .runs i) x u))))
+
   -- ---- the families
 
   -- "A. kind 0: not border; kind 2: border."
@@ -66,56 +126,40 @@ module _ (I : Instance) where
   familyA = each (upTo (I .nodes)) λ n.
       only (I .denied n) (one (one (not′ (borderVar n)))) ++ only (I .forced n) (one (one (is (borderVar n))))
 
-  -- "B. before d: no run, not gone."
+  -- "B. before d"
   unfoldable pub familyB : List Clause
-  familyB = each (upTo (I .trains)) λ i. each (upTo (I .departure i)) λ t.
-      map (λ r. one (not′ (runVar i t r))) (upTo (I .runs i)) ++ one (one (not′ (goneVar i t)))
+  familyB = each (upTo (I .trains)) λ i. each (upTo (I .departure i)) λ t. clausesB (I .runs i) (base i t)
 
-  -- "C. from d on: some run or gone; then no two (pairs in order)." Gone's variable is the one behind the runs'.
+  -- "C. from d on"
   unfoldable pub familyC : List Clause
-  familyC = each (upTo (I .trains)) λ i. each (range (I .departure i) (I .intervals)) λ t.
-      one (map (λ r. is (runVar i t r)) (upTo (I .runs i)) ++ one (is (goneVar i t)))
-      ++ each (upTo (I .runs i + 1)) λ m. map (λ n. not′ (runVar i t m) ∷ one (not′ (runVar i t n))) (range (m + 1) (I .runs i + 1))
+  familyC = each (upTo (I .trains)) λ i. each (range (I .departure i) (I .intervals)) λ t. clausesC (I .runs i) (base i t)
 
-  -- "D. interval d: not a run that starts elsewhere; not gone."
+  -- "D. interval d"
   unfoldable pub familyD : List Clause
-  familyD = each (upTo (I .trains)) λ i.
-      (each (upTo (I .runs i)) λ r. only (not (I .given i r)) (one (one (not′ (runVar i (I .departure i) r)))))
-      ++ one (one (not′ (goneVar i (I .departure i))))
+  familyD = each (upTo (I .trains)) λ i. clausesD i (base i (I .departure i))
 
-  -- "E. after d: each run of the interval before implies a run starting at its end, in list order, or, last, gone if its end
-  -- contains the goal; then gone implies gone." Here t is the interval before.
+  -- "E. after d": t is the interval before
   unfoldable pub familyE : List Clause
-  familyE = each (upTo (I .trains)) λ i. each (range (I .departure i) (I .intervals - 1)) λ t.
-      map (λ r. not′ (runVar i t r)
-          ∷ ((each (upTo (I .runs i)) λ q. only (I .follows i r q) (one (is (runVar i (t + 1) q))))
-          ++ only (I .leaves i r) (one (is (goneVar i (t + 1))))))
-          (upTo (I .runs i))
-      ++ one (not′ (goneVar i t) ∷ one (is (goneVar i (t + 1))))
+  familyE = each (upTo (I .trains)) λ i. each (range (I .departure i) (I .intervals - 1)) λ t. clausesE i (base i t) (base i (t + 1))
 
   -- "F. each call, by train, then in file order: the runs of rule 5, by time; no clause if d is from first to last and the
   -- place at d serves. This clause may be empty." Here t is the interval before the time.
   unfoldable pub familyF : List Clause
   familyF = each (upTo (I .trains)) λ i. each (upTo (I .calls i)) λ c.
       only (not (servedAtDeparture I i c))
-          (one (each (range (I .departure i) (I .intervals)) λ t. only (inWindow I i c (t + 1))
-              (each (upTo (I .runs i)) λ r. only (I .serves i c r) (one (is (runVar i t r))))))
+          (one (each (range (I .departure i) (I .intervals)) λ t. only (inWindow I i c (t + 1)) (serversF i c (base i t))))
 
-  -- "G (like H, in every interval). a run implies the claim of each of its segments, in path order."
+  -- "G (like H, in every interval)"
   unfoldable pub familyG : List Clause
-  familyG = each (upTo (I .trains)) λ i. each (upTo (I .intervals)) λ t. each (upTo (I .runs i)) λ r.
-      map (λ s. not′ (runVar i t r) ∷ one (is (claimVar i t s))) (I .path i r)
+  familyG = each (upTo (I .trains)) λ i. each (upTo (I .intervals)) λ t. clausesG i (base i t)
 
-  -- "H. by node, then ordered pair of segments of one TTD there: claim of the first implies border or claim of the second."
   unfoldable pub familyH : List Clause
-  familyH = each (upTo (I .trains)) λ i. each (upTo (I .intervals)) λ t. each (upTo (I .nodes)) λ n.
-      each (upTo (I .segments)) λ s. each (upTo (I .segments)) λ u.
-      only (I .meet n s u) (one (not′ (claimVar i t s) ∷ is (borderVar n) ∷ one (is (claimVar i t u))))
+  familyH = each (upTo (I .trains)) λ i. each (upTo (I .intervals)) λ t. clausesH i (base i t)
 
   -- "I. by interval, train pair, segment: not both claims."
   unfoldable pub familyI : List Clause
   familyI = each (upTo (I .intervals)) λ t. each (upTo (I .trains)) λ i. each (range (i + 1) (I .trains)) λ j.
-      map (λ s. not′ (claimVar i t s) ∷ one (not′ (claimVar j t s))) (upTo (I .segments))
+      clausesI (I .segments) (claimVar i t) (claimVar j t)
 
   -- "Clauses, families outermost"; clause c of the text is at c - 1
   unfoldable pub formula : List Clause

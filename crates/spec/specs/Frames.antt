@@ -9,11 +9,15 @@ use lib.Dec.{leb, ltb, eqb}
 use Rattle.spec.specs.Lists.{Bytes, any}
 use Rattle.spec.specs.Numbers.{littleEndian, field}
 
+-- "two-byte length of the payload, two-byte kind, payload": how many bytes a frame has ahead of its payload
+abbrev pub frameHead : ℕ
+frameHead = 4
+
 -- "two-byte length of the payload, two-byte kind, payload; all little-endian"
 unfoldable pub frame : ℕ → Bytes → Bytes
 frame kind payload = littleEndian 2 (length payload) ++ littleEndian 2 kind ++ payload
 
--- The frame at the start of s: what its first four bytes say, its payload, and what stands behind it.
+-- The frame at the start of s: what its head says, its payload, and what stands behind it.
 unfoldable pub payloadLength : Bytes → ℕ
 payloadLength s = field s 0 2
 
@@ -21,14 +25,14 @@ unfoldable pub kindField : Bytes → ℕ
 kindField s = field s 2 2
 
 unfoldable pub payloadOf : Bytes → Bytes
-payloadOf s = take (payloadLength s) (drop 4 s)
+payloadOf s = take (payloadLength s) (drop frameHead s)
 
 unfoldable pub behind : Bytes → Bytes
-behind s = drop (4 + payloadLength s) s
+behind s = drop (frameHead + payloadLength s) s
 
 -- refusals 1 and 17: "under 4 bytes left, or payload past the end"
 unfoldable pub cutShort : Bytes → Bool
-cutShort s = ltb (length s) 4 || ltb (length s) (4 + payloadLength s)
+cutShort s = ltb (length s) frameHead || ltb (length s) (frameHead + payloadLength s)
 
 -- The kinds of a book's frames.
 pub data Kind : Type 0 where
@@ -67,12 +71,16 @@ unfoldable pub rank : ℕ → ℕ
 rank n = rankIn n kindOrder
 
 -- "Fields are one byte unless noted": how many bytes a time has
-unfoldable pub timeWidth : ℕ
+abbrev pub timeWidth : ℕ
 timeWidth = 1
 
 -- Where a train's count n stands in its payload: behind length (2), speed (2) and departure.
-unfoldable pub trainCountAt : ℕ
+abbrev pub trainCountAt : ℕ
 trainCountAt = 4 + timeWidth
+
+-- A train's fixed part, up to its count; the n directed segments stand behind it.
+abbrev pub trainFixed : ℕ
+trainFixed = trainCountAt + 1
 
 -- refusal 4: the payload's length is the one of its kind
 unfoldable pub lengthFits : Kind → Bytes → Bool
@@ -80,12 +88,26 @@ lengthFits headKind p = eqb (length p) (4 + timeWidth)
 lengthFits nodeKind p = eqb (length p) 1
 lengthFits segmentKind p = eqb (length p) 3
 lengthFits joinKind p = eqb (length p) 3
-lengthFits trainKind p = leb (trainCountAt + 1) (length p) && eqb (length p) (trainCountAt + 1 + field p trainCountAt 1)
+lengthFits trainKind p = leb trainFixed (length p) && eqb (length p) (trainFixed + field p trainCountAt 1)
 lengthFits callKind p = eqb (length p) (2 + 2 * timeWidth)
 lengthFits unbreakableKind p = eqb (length p) 1
 lengthFits endKind p = eqb (length p) 0
 
--- refusal 17: "payload not 2 + 4n + 4h", n being its first two bytes
+-- A step's fixed part, "count of literals (2)", and the bytes of a literal or a hint, "4 each".
+abbrev pub stepFixed : ℕ
+stepFixed = 2
+
+abbrev pub numberWidth : ℕ
+numberWidth = 4
+
+-- how many literals a step's payload says that it has
+unfoldable pub literalCount : Bytes → ℕ
+literalCount p = field p 0 stepFixed
+
+-- where the hints begin, behind the literals
+abbrev pub hintsAt : Bytes → ℕ
+hintsAt p = stepFixed + numberWidth * literalCount p
+
+-- refusal 17: "payload not 2 + 4n + 4h"
 unfoldable pub stepLengthFits : Bytes → Bool
-stepLengthFits p =
-    leb 2 (length p) && leb (2 + 4 * field p 0 2) (length p) && eqb ((length p - (2 + 4 * field p 0 2)) % 4) 0
+stepLengthFits p = leb stepFixed (length p) && leb (hintsAt p) (length p) && eqb ((length p - hintsAt p) % numberWidth) 0

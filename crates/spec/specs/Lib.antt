@@ -16,4 +16,5 @@ pub mod Formula
 pub mod Assignment
 pub mod Refutation
 pub mod Entry
+pub mod Library
 pub mod Programs

@@ -1,6 +1,6 @@
 -- The words that the specification is written with: rows over ranges, tests over rows, and the first fault of a table.
 -- Assumes nothing.
-use mathlib.Core.Bool.{Bool, true, false, _&&_, _||_, cond}
+use mathlib.Core.Bool.{Bool, true, false, not, _&&_, _||_, cond}
 use Prim.Native.Nat.{ℕ, zero, suc, _+_, _-_}
 use mathlib.Core.List.{List, [], _∷_, _++_}
 use mathlib.Core.Option.{Option, none, some}
@@ -76,7 +76,12 @@ has n xs = any (eqb n) xs
 -- no number stands twice
 unfoldable pub different : List ℕ → Bool
 different [] = true
-different (x ∷ xs) = all (λ y. mathlib.Core.Bool.not (eqb x y)) xs && different xs
+different (x ∷ xs) = all (λ y. not (eqb x y)) xs && different xs
+
+-- the least of n numbers from a on that passes a test, or a + n
+unfoldable pub leastFrom : (ℕ → Bool) → ℕ → ℕ → ℕ
+leastFrom f a zero = a
+leastFrom f a (suc n) = elim (f a) [ true ↦ a | false ↦ leastFrom f (suc a) n ]
 
 -- f 0 + … + f (n - 1)
 unfoldable pub sumTo : (ℕ → ℕ) → ℕ → ℕ
@@ -96,6 +101,13 @@ n when b = record { number = n; holds = b }
 unfoldable pub firstFault : List Fault → Option ℕ
 firstFault [] = none
 firstFault (f ∷ fs) = elim (f .holds) [ true ↦ some (f .number) | false ↦ firstFault fs ]
+
+-- the line's condition does not hold
+unfoldable pub passes : Fault → Bool
+passes f = not (f .holds)
+
+unfoldable pub faultless : List Fault → Bool
+faultless fs = all passes fs
 
 -- the number that was found, or 0
 unfoldable pub orZero : Option ℕ → ℕ

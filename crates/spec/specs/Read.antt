@@ -6,9 +6,9 @@ use mathlib.Core.List.{List, [], _∷_, _++_, map}
 use mathlib.Core.Option.{Option, none, some}
 use lib.ListN.{length, getD, take, drop}
 use lib.Dec.{leb, ltb, eqb}
-use Rattle.spec.specs.Lists.{Bytes, any, all, upTo, one, empty, Fault, _when_, firstFault, Verdict, accepted, refused}
+use Rattle.spec.specs.Lists.{Bytes, any, all, upTo, one, empty, Fault, _when_, firstFault, faultless, Verdict, accepted, refused}
 use Rattle.spec.specs.Numbers.{field}
-use Rattle.spec.specs.Frames.{Kind, headKind, nodeKind, segmentKind, joinKind, trainKind, callKind, unbreakableKind, endKind, kindNumber, kindOrder, findKind, rank, timeWidth, trainCountAt, lengthFits, kindField, payloadOf, behind, cutShort}
+use Rattle.spec.specs.Frames.{Kind, headKind, nodeKind, segmentKind, joinKind, trainKind, callKind, unbreakableKind, endKind, kindNumber, kindOrder, findKind, rank, timeWidth, trainFixed, lengthFits, kindField, payloadOf, behind, cutShort}
 use Rattle.spec.specs.Book.{Book, Segment, Join, Train, Call, noBook, nodeKindAt, segmentAt, callsOf, deniesBorder, greatestNodeKind, touches, shareNode, joinIs, lengthInSegments, speedInSegments}
 use Rattle.spec.specs.Runs.{isPath, runsOf}
 
@@ -26,7 +26,7 @@ joinIn p = record { node = field p 0 1; left = field p 1 1; right = field p 2 1 
 
 unfoldable pub trainIn : Bytes → Train
 trainIn p = record
-  { metres = field p 0 2; speed = field p 2 2; departure = field p 4 timeWidth; place = drop (trainCountAt + 1) p }
+  { metres = field p 0 2; speed = field p 2 2; departure = field p 4 timeWidth; place = drop trainFixed p }
 
 unfoldable pub callIn : Bytes → Call
 callIn p = record
@@ -230,17 +230,29 @@ readBook s = readFrom (suc (length s)) readingStart s
 
 -- ---- what a book that was read is
 
+-- at most n, and each passes the test
+unfoldable pub few : {A : Type 0} → ℕ → (A → Bool) → List A → Bool
+few n f xs = leb (length xs) n && all f xs
+
+-- a train fits, with its l and k and its place
+unfoldable pub trainAllFits : Book → Train → Bool
+trainAllFits b t = trainFits b t && reachFits b t && placeFits b t
+
 -- no join of the list repeats one before it
 unfoldable pub joinsOnce : List Join → Bool
 joinsOnce js = all (λ n. not (joinRepeats (take n js) (getD js n (record { node = 0; left = 0; right = 0 })))) (upTo (length js))
 
--- every sentence of "The book" and "Runs and the plan" that a book can break, of the book as a whole
-unfoldable pub wellFormed : Book → Bool
-wellFormed b =
+-- What 5 to 8 leave of the book as far as it was read, once its Head was: no limit is passed, and each record fits.
+unfoldable pub growing : Book → Bool
+growing b =
     headFits b
-    && (leb (length (b .nodes)) maxNodes && all (λ k. leb k greatestNodeKind) (b .nodes))
-    && (leb (length (b .segments)) maxSegments && all (segmentFits b) (b .segments))
-    && (leb (length (b .joins)) maxJoins && all (joinFits b) (b .joins) && joinsOnce (b .joins))
-    && (leb (length (b .trains)) maxTrains && not (empty (b .trains))
-        && all (λ t. trainFits b t && reachFits b t && placeFits b t && leb (length (runsOf b t)) maxRuns) (b .trains))
-    && (all (callFits b) (b .calls) && all (λ i. between 1 maxCalls (length (callsOf b i))) (upTo (length (b .trains))))
+    && few maxNodes (λ k. leb k greatestNodeKind) (b .nodes)
+    && few maxSegments (segmentFits b) (b .segments)
+    && (few maxJoins (joinFits b) (b .joins) && joinsOnce (b .joins))
+    && few maxTrains (trainAllFits b) (b .trains)
+    && (all (callFits b) (b .calls) && all (λ i. leb (length (callsOf b i)) maxCalls) (upTo (length (b .trains))))
+
+-- Every sentence of "The book" and "Runs and the plan" that a book can break, of the book as a whole: its records fit, and 10
+-- and 11 find nothing.
+unfoldable pub wellFormed : Book → Bool
+wellFormed b = growing b && faultless (bookFaults b)

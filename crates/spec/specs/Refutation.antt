@@ -12,7 +12,8 @@ use lib.Signed.{mag}
 use lib.Dec.{T, leb, ltb, eqb}
 use Rattle.spec.specs.Lists.{Bytes, any, all, upTo, each, one, pick, empty, Fault, _when_, firstFault, Verdict, accepted, refused}
 use Rattle.spec.specs.Numbers.{littleEndian, field, signed, unsigned}
-use Rattle.spec.specs.Frames.{frame, stepKind, stepLengthFits, kindField, payloadOf, behind, cutShort}
+use Rattle.spec.specs.Frames.{frame, stepKind, stepFixed, numberWidth, hintsAt, stepLengthFits, kindField, payloadOf, behind, cutShort}
+unfoldable pub use Rattle.spec.specs.Frames.{literalCount}
 use Rattle.spec.specs.Formula.{Literal, Clause, wordsOf}
 use Rattle.spec.specs.Assignment.{Value, open′, yes′, no′, truth, isYes}
 
@@ -26,8 +27,8 @@ pub record ProofStep : Type 0 where
 -- "count of literals (2), the literals (4 each, signed), then hint clause numbers (4 each)"
 unfoldable pub stepPayload : ProofStep → Bytes
 stepPayload s =
-    littleEndian 2 (length (s .literals))
-    ++ ((each (s .literals) λ l. littleEndian 4 (unsigned 4 l)) ++ each (s .hints) (littleEndian 4))
+    littleEndian stepFixed (length (s .literals))
+    ++ ((each (s .literals) λ l. littleEndian numberWidth (unsigned numberWidth l)) ++ each (s .hints) (littleEndian numberWidth))
 
 -- "Frames as in the book, little-endian, of kind 20"
 unfoldable pub fileOf : List ProofStep → Bytes
@@ -35,20 +36,17 @@ fileOf steps = each steps λ s. frame stepKind (stepPayload s)
 
 -- ---- reading a step
 
-unfoldable pub literalCount : Bytes → ℕ
-literalCount p = field p 0 2
-
 unfoldable pub hintCount : Bytes → ℕ
-hintCount p = (length p - (2 + 4 * literalCount p)) / 4
+hintCount p = (length p - hintsAt p) / numberWidth
 
 unfoldable pub stepIn : Bytes → ProofStep
 stepIn p = record
-  { literals = map (λ i. signed 4 (field p (2 + 4 * i) 4)) (upTo (literalCount p))
-  ; hints = map (λ i. field p (2 + 4 * literalCount p + 4 * i) 4) (upTo (hintCount p)) }
+  { literals = map (λ i. signed numberWidth (field p (stepFixed + numberWidth * i) numberWidth)) (upTo (literalCount p))
+  ; hints = map (λ i. field p (hintsAt p + numberWidth * i) numberWidth) (upTo (hintCount p)) }
 
 -- "The hints of a step are handed on as that stretch of the file itself": behind the literals, to the payload's end
 unfoldable pub hintBytes : Bytes → Bytes
-hintBytes p = drop (2 + 4 * literalCount p) p
+hintBytes p = drop (hintsAt p) p
 
 -- the variable of a literal, from 1; 0 has none
 unfoldable pub variableOf : Literal → ℕ
@@ -172,9 +170,9 @@ pub data GoodSteps (vars : ℕ) : List Clause → List ProofStep → Type 0 wher
 
 -- The step's numbers fit the fields that document 01 gives them.
 pub record InFields (s : ProofStep) : Type 0 where
-  pub payloadShort : 2 + (4 * length (s .literals) + 4 * length (s .hints)) < 256 ^ 2
-  pub literalsShort : (l : Literal) → List·Memᴰ l (s .literals) → mag l * 2 < 256 ^ 4
-  pub hintsShort : (h : ℕ) → List·Memᴰ h (s .hints) → h < 256 ^ 4
+  pub payloadShort : stepFixed + (numberWidth * length (s .literals) + numberWidth * length (s .hints)) < 256 ^ 2
+  pub literalsShort : (l : Literal) → List·Memᴰ l (s .literals) → mag l * 2 < 256 ^ numberWidth
+  pub hintsShort : (h : ℕ) → List·Memᴰ h (s .hints) → h < 256 ^ numberWidth
 
 -- ---- clauses in a lent slice of words
 

@@ -2,9 +2,9 @@
 -- equal is a theorem. This is the one place of the section rule. Assumes nothing.
 use mathlib.Core.Bool.{Bool, true, false, not, _&&_, _||_, cond}
 use Prim.Native.Nat.{ℕ, zero, suc, _<_}
-use mathlib.Core.List.{List}
+use mathlib.Core.List.{List, map}
 use lib.Dec.{T, eqb}
-use Rattle.spec.specs.Lists.{any, upTo}
+use Rattle.spec.specs.Lists.{any, upTo, leastFrom}
 use Rattle.spec.specs.Instance.{Instance}
 
 -- A set of borders, by node.
@@ -28,6 +28,10 @@ togetherBelow I border (suc k) s t =
 
 unfoldable pub together : Instance → Borders → ℕ → ℕ → Bool
 together I border s t = togetherBelow I border (I .segments) s t
+
+-- A section's label is its least segment: the label of each segment.
+unfoldable pub sectionLabels : Instance → Borders → List ℕ
+sectionLabels I border = map (λ s. leastFrom (together I border s) 0 (I .segments)) (upTo (I .segments))
 
 -- some section holds a segment of each of the two rows
 unfoldable pub shareSection : Instance → Borders → List ℕ → List ℕ → Bool

@@ -1,22 +1,23 @@
 -- The list of steps, step by step: what the rest of a file says from a place on, by the answer to the step there. Assumes nothing.
 use mathlib.Core.Path.{_≡_, refl, sym, ap, _∙_}
-use mathlib.Core.Bool.{Bool, true, false, not}
+use mathlib.Core.Bool.{true, false, not}
 use mathlib.Core.Option.{Option, none, some}
-use Prim.Native.Nat.{ℕ, zero, suc, _+_, _*_, _≤_, _<_}
+use Prim.Native.Nat.{ℕ, suc, _+_, _≤_}
 use native.Mathlib.Omega.{arith}
-use mathlib.Core.List.{List, [], _∷_, _++_}
+use mathlib.Core.List.{List, _++_}
 use lib.ListN.{length}
-use lib.Dec.{T, eqb, eqb-refl}
+use lib.Dec.{T, eqb}
 use borrow.Author.Tests.{ne-eqb}
 use Rattle.laws.proofs.Tests.{and-iff, neither-iff, not-not-iff, eqb-iff, empty-length}
 use Rattle.laws.proofs.Frames.{length-payloadOf, whole-iff}
 use Rattle.spec.specs.Lists.{Bytes, all, one, empty, firstFault, Verdict, accepted, refused}
-use Rattle.spec.specs.Frames.{stepLengthFits, payloadOf, payloadLength, behind, cutShort}
+use Rattle.spec.specs.Frames.{frameHead, stepLengthFits, payloadOf, payloadLength, behind, cutShort}
 use Rattle.spec.specs.Formula.{Clause}
-use Rattle.spec.specs.Refutation.{stepIn, literalCount, hintCount, Lent, isBad, stepFaults, stepDetail, checkSteps}
+use Rattle.spec.specs.Refutation.{stepIn, literalCount, hintCount, isBad, stepFaults, stepDetail, checkSteps}
 use Rattle.demands.proofs.Faults.{passes, first-none}
-use Rattle.demands.proofs.Refuting.{oneStep, Tested, at-step}
+use Rattle.demands.proofs.Refuting.{oneStep, at-step}
 use Rattle.demands.proofs.Files.{counts, literals-length}
+use Rattle.steps.specs.Found.{stepBytes}
 use Rattle.one_step.specs.declared.StepAnswer.{StepAnswer}
 use Rattle.one_step.specs.declared.StepAnswer.the-variants.{Proved, Refused}
 use Rattle.one_step.specs.Checked.{lentBy, stepAnswer, stepChecked}
@@ -86,14 +87,18 @@ module _ (W C vars : ℕ) (cs : List Clause) (s : Bytes) where
     good = let p = simp (and-iff, neither-iff, not-not-iff, eqb-iff) at (first-none (stepFaults (lentBy W C) vars cs s) (found .0)) in (p .0 .0 .0, p .0 .1)
 
     -- a proved step's frame, and where it ends
-    pub frame-length : (4 + payloadLength s ≡ 6 + 4 * (n + h)) × (4 + payloadLength s ≤ length s)
+    pub frame-length : (frameHead + payloadLength s ≡ stepBytes n h) × (frameHead + payloadLength s ≤ length s)
     frame-length = (
       omega (arith, counts (payloadOf s) (good .1), length-payloadOf s (good .0), found .1, found .2),
       whole-iff s .0 (good .0),
     )
 
+    -- and how many literals it has
+    pub counted : length (stepIn (payloadOf s) .literals) ≡ n
+    counted = literals-length (payloadOf s) (good .1) ∙ found .1
+
     last-if : empty (stepIn (payloadOf s) .literals) ≡ eqb n 0
-    last-if = empty-length (stepIn (payloadOf s) .literals) ∙ ap (λ (k : ℕ). eqb k 0) (literals-length (payloadOf s) (good .1) ∙ found .1)
+    last-if = empty-length (stepIn (payloadOf s) .literals) ∙ ap (λ (k : ℕ). eqb k 0) counted
 
     module _ (fuel step : ℕ) (some′ : empty s ≡ false) where
       -- an empty step ends the file, or bytes stand behind it

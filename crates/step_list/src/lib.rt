@@ -9,6 +9,7 @@ ghost use lib.ListN.{length, take};
 ghost use Rattle.spec.specs.Refutation.{stepDetail, checkFile, clausesOf};
 ghost use Rattle.reading.specs.BookAnswers.{answerOf};
 ghost use Rattle.one_step.specs.Checked.{Ready, lentBy};
+ghost use Rattle.step_list.specs.Added.{LeavesAll};
 
 // The detail of a step's refusal: the step's number, but 0 beside 12.
 fn detail_of(number: usize, step: usize) -> usize
@@ -18,7 +19,8 @@ fn detail_of(number: usize, step: usize) -> usize
 }
 
 // The verdict on a refutation's bytes. The first `words_used` words are the formula's `clause_count`
-// clauses. What the slices hold after it is left free; the entry point zeroes them.
+// clauses. The clauses of the proved steps stand behind them after it, and all variables are open. Which
+// variables are left on the trail is free.
 pub fn check_steps(
     r: &[u8],
     words_used: usize,
@@ -29,8 +31,11 @@ pub fn check_steps(
     trail: &mut [usize],
 ) -> Answer
     requires { ⌜ Ready «words_used» «clause_count» (now words) (now starts) (now values) (now trail) ⌝ }
-    ensures { λ a. ⌜ a ≡ answerOf (checkFile (lentBy (length (now (words .entry))) (length (now (starts .entry)))) (length (now (values .entry)))
-        (clausesOf (take «words_used» (now (words .entry)))) (now (r .entry))) ⌝ }
+    ensures { λ a. ⌜ (a ≡ answerOf (checkFile (lentBy (length (now (words .entry))) (length (now (starts .entry)))) (length (now (values .entry)))
+        (clausesOf (take «words_used» (now (words .entry)))) (now (r .entry))))
+        × LeavesAll (now (r .entry)) «words_used» «clause_count»
+        (now (words .entry)) (now (starts .entry)) (now (values .entry)) (now (trail .entry))
+        (now (words .exit)) (now (starts .exit)) (now (values .exit)) (now (trail .exit)) ⌝ }
 {
     let mut used = words_used;
     let mut count = clause_count;

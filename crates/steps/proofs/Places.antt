@@ -13,44 +13,44 @@ use Rattle.laws.proofs.Tests.{and-iff, eqb-iff, leb-iff, decide, true-of, denie
 use Rattle.laws.proofs.Frames.{whole-iff, length-payloadOf}
 use Rattle.spec.specs.Lists.{Bytes}
 use Rattle.spec.specs.Numbers.{number, field}
-use Rattle.spec.specs.Frames.{cutShort, kindField, payloadLength, payloadOf, stepKind, stepLengthFits}
+use Rattle.spec.specs.Frames.{frameHead, numberWidth, stepFixed, cutShort, kindField, payloadLength, payloadOf, stepKind, stepLengthFits}
 use Rattle.spec.specs.Refutation.{literalCount, hintCount, hintBytes, isBad}
 use Rattle.frames.specs.Framed.{framedAt, wholeOr}
 use Rattle.frames.specs.declared.Framed.the-variants as frame
 use Rattle.steps.specs.declared.Step.the-variants.{Whole, Bad}
-use Rattle.steps.specs.Found.{stepFound, literalBytes}
-use Rattle.steps.proofs.Found.{never, good-iff, whole-step, step-length, hints-size, take-in}
+use Rattle.steps.specs.Found.{stepFound, literalBytes, stepBytes}
+use Rattle.steps.proofs.Found.{never, good-iff, Numbered, numbered, whole-step, step-length, hints-size, take-in}
 
 -- a part of the payload is a part of the file
 payload-part : (s : Bytes) (at from w : ℕ) → from + w ≤ payloadLength (drop at s)
-    → take w (drop (at + 4 + from) s) ≡ take w (drop from (payloadOf (drop at s)))
+    → take w (drop (at + frameHead + from) s) ≡ take w (drop from (payloadOf (drop at s)))
 unfolding payloadOf
-payload-part s at from w h = sym (take-in (payloadLength (drop at s)) w from (drop 4 (drop at s)) h ∙ simp drop-drop)
+payload-part s at from w h = sym (take-in (payloadLength (drop at s)) w from (drop frameHead (drop at s)) h ∙ simp drop-drop)
 
 -- ---- a step at a place
 
 module _ (s : Bytes) (at : ℕ) {n h : ℕ} (inside : at ≤ length s) (found : stepFound (drop at s) ≡ Whole n h) where
   -- it ends within the file
-  pub step-room : at + 6 + 4 * n + 4 * h ≤ length s
+  pub step-room : at + stepBytes n h ≤ length s
   step-room = omega (arith, step-length (drop at s) found, length-drop at s)
 
   -- its literals stand behind their count
-  pub literals-here : take (4 * n) (drop (at + 4 + 2) s) ≡ literalBytes (payloadOf (drop at s))
+  pub literals-here : take (numberWidth * n) (drop (at + frameHead + stepFixed) s) ≡ literalBytes (payloadOf (drop at s))
   unfolding literalBytes
   literals-here =
-      payload-part s at 2 (4 * n) (omega (arith, step-length (drop at s) found))
-      ∙ ap (λ (k : ℕ). take (4 * k) (drop 2 (payloadOf (drop at s)))) (sym (whole-step (drop at s) found .1))
+      payload-part s at stepFixed (numberWidth * n) (omega (arith, step-length (drop at s) found))
+      ∙ ap (λ (k : ℕ). take (numberWidth * k) (drop stepFixed (payloadOf (drop at s)))) (sym (whole-step (drop at s) found .1))
 
   -- and its hints behind those
-  pub hints-here : take (4 * h) (drop (at + 4 + 2 + 4 * n) s) ≡ hintBytes (payloadOf (drop at s))
+  pub hints-here : take (numberWidth * h) (drop (at + frameHead + stepFixed + numberWidth * n) s) ≡ hintBytes (payloadOf (drop at s))
   unfolding hintBytes
   hints-here =
       let size = hints-size (drop at s) found in
-      let from : at + 4 + 2 + 4 * n ≡ at + 4 + (2 + 4 * n) = omega arith in
-      ap (λ (k : ℕ). take (4 * h) (drop k s)) from
-      ∙ payload-part s at (2 + 4 * n) (4 * h) (omega (arith, step-length (drop at s) found))
-      ∙ ap (λ (k : ℕ). take (4 * h) (drop (2 + 4 * k) (payloadOf (drop at s)))) (sym (whole-step (drop at s) found .1))
-      ∙ take-all (4 * h) (hintBytes (payloadOf (drop at s))) (omega arith)
+      let from : at + frameHead + stepFixed + numberWidth * n ≡ at + frameHead + (stepFixed + numberWidth * n) = omega arith in
+      ap (λ (k : ℕ). take (numberWidth * h) (drop k s)) from
+      ∙ payload-part s at (stepFixed + numberWidth * n) (numberWidth * h) (omega (arith, step-length (drop at s) found))
+      ∙ ap (λ (k : ℕ). take (numberWidth * h) (drop (stepFixed + numberWidth * k) (payloadOf (drop at s)))) (sym (whole-step (drop at s) found .1))
+      ∙ take-all (numberWidth * h) (hintBytes (payloadOf (drop at s))) (omega arith)
 
 -- ---- a frame at a place
 
@@ -66,16 +66,16 @@ whole-says t {kind} {len} e = go (cutShort t) refl e
     go false f e = (f, (cc), (cc))
 
 -- the answer, by the test
-found-bad : (t : Bytes) → (T (not (isBad t)) → ⊥) → Bad ≡ stepFound t
+found-bad : (t : Bytes) → (T (not (isBad t)) → ⊥) → Numbered t Bad
 unfolding stepFound
-found-bad t h = decide (isBad t) (λ b. rw (true-of (isBad t) b) refl) (λ n. absurd (h n))
+found-bad t h = numbered t (decide (isBad t) (λ b. rw (true-of (isBad t) b) refl) (λ n. absurd (h n)))
 
 found-whole : (t : Bytes) → T (not (isBad t)) → Whole (literalCount (payloadOf t)) (hintCount (payloadOf t)) ≡ stepFound t
 unfolding stepFound
 found-whole t h = rw (denied-of (isBad t) h) refl
 
 -- where no whole frame is, no step is
-pub cut-here : (t : Bytes) → framedAt t ≡ frame.Cut → Bad ≡ stepFound t
+pub cut-here : (t : Bytes) → framedAt t ≡ frame.Cut → Numbered t Bad
 unfolding framedAt
 cut-here t e = found-bad t (λ g. go (denied-of (cutShort t) (good-iff t .0 g .0)))
   where
@@ -84,7 +84,7 @@ cut-here t e = found-bad t (λ g. go (denied-of (cutShort t) (good-iff t .0 g .0
 
 -- the payload of a step is as long as its first number n asks
 abbrev pub Sized : ℕ → ℕ → Type 0
-Sized len n = (2 ≤ len) × (4 * n ≤ len - 2) × ((len - 2 - 4 * n) % 4 ≡ 0)
+Sized len n = (stepFixed ≤ len) × (numberWidth * n ≤ len - stepFixed) × ((len - stepFixed - numberWidth * n) % numberWidth ≡ 0)
 
 -- a frame of this kind, with such a payload, is a step
 abbrev pub StepFits : ℕ → ℕ → ℕ → Type 0
@@ -92,7 +92,7 @@ StepFits kind len n = (kind ≡ 20) × Sized len n
 
 module _ (s : Bytes) (at : ℕ) {kind len : ℕ} (inside : at ≤ length s) (framed : framedAt (drop at s) ≡ frame.Whole kind len) where
   -- it ends within the file
-  pub frame-room : at + 4 + len ≤ length s
+  pub frame-room : at + frameHead + len ≤ length s
   frame-room =
       let w = whole-says (drop at s) framed in
       omega (arith, whole-iff (drop at s) .0 (from-denied (w .0)), length-drop at s)
@@ -101,20 +101,20 @@ module _ (s : Bytes) (at : ℕ) {kind len : ℕ} (inside : at ≤ length s) (fra
   size-here : length (payloadOf (drop at s)) ≡ len
   size-here = let w = whole-says (drop at s) framed in length-payloadOf (drop at s) (from-denied (w .0)) ∙ w .2
 
-  count-here : 2 ≤ len → literalCount (payloadOf (drop at s)) ≡ field s (at + 4) 2
+  count-here : stepFixed ≤ len → literalCount (payloadOf (drop at s)) ≡ field s (at + frameHead) 2
   unfolding literalCount field
   count-here l =
       let w = whole-says (drop at s) framed in
-      sym (ap number (payload-part s at 0 2 (omega arith))) ∙ ap (λ (k : ℕ). number (take 2 (drop k s))) (add-zero (at + 4))
+      sym (ap number (payload-part s at 0 2 (omega arith))) ∙ ap (λ (k : ℕ). number (take 2 (drop k s))) (add-zero (at + frameHead))
 
-  sized-iff : T (stepLengthFits (payloadOf (drop at s))) ↔ Sized len (field s (at + 4) 2)
+  sized-iff : T (stepLengthFits (payloadOf (drop at s))) ↔ Sized len (field s (at + frameHead) 2)
   unfolding stepLengthFits literalCount
   sized-iff = rw size-here (simp (and-iff, leb-iff, eqb-iff) (
     λ q. (let e = count-here (q .0 .0) in (q .0 .0, omega arith, omega arith)),
     λ q. (let e = count-here (q .0) in ((q .0, omega arith), omega arith)),
   ))
 
-  fits-iff : T (not (isBad (drop at s))) ↔ StepFits kind len (field s (at + 4) 2)
+  fits-iff : T (not (isBad (drop at s))) ↔ StepFits kind len (field s (at + frameHead) 2)
   unfolding stepKind
   fits-iff =
       let w = whole-says (drop at s) framed in (
@@ -123,13 +123,13 @@ module _ (s : Bytes) (at : ℕ) {kind len : ℕ} (inside : at ≤ length s) (fra
       )
 
   -- where its numbers fit there is a step, and else none
-  pub bad-here : (StepFits kind len (field s (at + 4) 2) → ⊥) → Bad ≡ stepFound (drop at s)
+  pub bad-here : (StepFits kind len (field s (at + frameHead) 2) → ⊥) → Numbered (drop at s) Bad
   bad-here h = found-bad (drop at s) (λ g. h (fits-iff .0 g))
 
-  pub whole-here : StepFits kind len (field s (at + 4) 2)
-      → Whole (field s (at + 4) 2) ((len - 2 - 4 * field s (at + 4) 2) / 4) ≡ stepFound (drop at s)
+  pub whole-here : StepFits kind len (field s (at + frameHead) 2)
+      → Numbered (drop at s) (Whole (field s (at + frameHead) 2) ((len - stepFixed - numberWidth * field s (at + frameHead) 2) / numberWidth))
   unfolding hintCount
   whole-here f =
       let e = count-here (f .1 .0) in
       let z = size-here in
-      ap₂ Whole (sym e) (omega arith) ∙ found-whole (drop at s) (fits-iff .1 f)
+      numbered (drop at s) (ap₂ Whole (sym e) (omega arith) ∙ found-whole (drop at s) (fits-iff .1 f))

@@ -1,9 +1,11 @@
--- A step in a file: what stands at a place, and the stretch of its payload that its literals are in. Assumes nothing.
+-- A step in a file: what stands at a place, the stretch of its payload that its literals are in, and how long its frame is.
+-- Assumes nothing.
 use mathlib.Core.Bool.{Bool, true, false}
-use Prim.Native.Nat.{_*_}
+use mathlib.Core.Option.{Option, none, some}
+use Prim.Native.Nat.{ℕ, _+_, _*_}
 use lib.ListN.{take, drop}
 use Rattle.spec.specs.Lists.{Bytes}
-use Rattle.spec.specs.Frames.{payloadOf}
+use Rattle.spec.specs.Frames.{frameHead, stepFixed, numberWidth, payloadOf}
 use Rattle.spec.specs.Refutation.{literalCount, hintCount, isBad}
 use Rattle.steps.specs.declared.Step.{Step}
 use Rattle.steps.specs.declared.Step.the-variants.{Whole, Bad}
@@ -16,6 +18,15 @@ badOr false x = x
 unfoldable pub stepFound : Bytes → Step
 stepFound s = badOr (isBad s) (Whole (literalCount (payloadOf s)) (hintCount (payloadOf s)))
 
+-- the refusal's number that each case stands for: 17 where there is no step
+abbrev pub stepRefusal : Step → Option ℕ
+stepRefusal (Whole n h) = none
+stepRefusal Bad = some 17
+
 -- the stretch of a step's payload that its literals are in
 unfoldable pub literalBytes : Bytes → Bytes
-literalBytes p = take (4 * literalCount p) (drop 2 p)
+literalBytes p = take (numberWidth * literalCount p) (drop stepFixed p)
+
+-- how many bytes the frame of a step with so many literals and hints has
+abbrev pub stepBytes : ℕ → ℕ → ℕ
+stepBytes literals hints = frameHead + stepFixed + numberWidth * (literals + hints)

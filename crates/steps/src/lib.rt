@@ -7,12 +7,13 @@ use frames::StepFrame;
 use frames::frame_at;
 use frames::pair;
 ghost use mathlib.Core.Path.{_≡_};
-ghost use Prim.Native.Nat.{_+_, _*_, _≤_, _<_};
+ghost use Prim.Native.Nat.{_+_, _≤_, _<_};
 ghost use lib.ListN.{length, drop};
+ghost use Rattle.spec.specs.Lists.{one, _when_, firstFault};
 ghost use Rattle.spec.specs.Frames.{payloadOf};
-ghost use Rattle.spec.specs.Refutation.{hintBytes};
+ghost use Rattle.spec.specs.Refutation.{hintBytes, isBad};
 ghost use Rattle.steps.specs.declared.Step.the-variants as step;
-ghost use Rattle.steps.specs.Found.{stepFound, literalBytes};
+ghost use Rattle.steps.specs.Found.{stepFound, stepRefusal, literalBytes, stepBytes};
 
 // What stands at a place of a refutation: a step, with how many literals and hints it has, or none.
 pub enum Step {
@@ -20,10 +21,11 @@ pub enum Step {
     Bad,
 }
 
-// The step at a place.
+// The step at a place; where there is none, 17 refuses it.
 pub fn step_at(s: &[u8], at: usize) -> Step
     requires { ⌜ at ≤ length (now s) ⌝ }
-    ensures { λ r. ⌜ r ≡ stepFound (drop at (now (s .entry))) ⌝ }
+    ensures { λ r. ⌜ (r ≡ stepFound (drop at (now (s .entry))))
+        × (stepRefusal r ≡ firstFault (one (17 when isBad (drop at (now (s .entry)))))) ⌝ }
 {
     match frame_at(s, at) {
         Framed::Cut => Step::Bad,
@@ -67,8 +69,8 @@ pub fn hints_at(s: &[u8], at: usize, literals: usize, hints: usize) -> &[u8]
 
 // Where the frame of a step with so many literals and hints ends.
 pub fn step_end(at: usize, literals: usize, hints: usize) -> usize
-    requires { ⌜ at + 6 + 4 * (literals + hints) < 0x1_0000_0000_0000_0000 ⌝ }
-    ensures { λ r. ⌜ r ≡ at + 6 + 4 * (literals + hints) ⌝ }
+    requires { ⌜ at + stepBytes literals hints < 0x1_0000_0000_0000_0000 ⌝ }
+    ensures { λ r. ⌜ r ≡ at + stepBytes literals hints ⌝ }
 {
     StepFrame::cursor(at + OPENING).end + NUMBER * (literals + hints)
 }

@@ -8,6 +8,7 @@ use lib.Seq.{slice}
 use lib.Dec.{T}
 use Rattle.model.specs.declared.Book.{Book as BookStruct}
 use Rattle.spec.specs.Lists.{upTo, same}
+unfoldable pub use Rattle.spec.specs.Lists.{leastFrom}
 use Rattle.spec.specs.Book.{Book}
 use Rattle.spec.specs.BookFile.{FitsFields}
 use Rattle.spec.specs.Runs.{startPlace}
@@ -25,11 +26,6 @@ pub record Passed (b : BookStruct) : Type 0 where
 -- a train's runs, by its number
 unfoldable pub runsAt : Book → ℕ → List (List ℕ)
 runsAt b i = getD (runLists b) i []
-
--- the least of n numbers from a on that passes a test, or a + n
-unfoldable pub leastFrom : (ℕ → Bool) → ℕ → ℕ → ℕ
-leastFrom f a zero = a
-leastFrom f a (suc n) = elim (f a) [ true ↦ a | false ↦ leastFrom f (suc a) n ]
 
 -- The first run of a train that follows each run; and of each run the next that starts at the same place. The number of runs where
 -- there is none.

@@ -3,24 +3,22 @@ use borrow.Author.Needs.{needs, sfits-of}
 use native.Mathlib.Omega.{arith}
 use mathlib.Core.Path.{_≡_, sym, ap, _∙_}
 use mathlib.Core.List.{[], _++_}
-use Prim.Native.Nat.{ℕ, _+_, _-_, _/_, _≤_, _<_}
-use lib.ListN.{length, set, length-map, length-append, List·getD-append}
+use Prim.Native.Nat.{ℕ, _+_, _-_, _≤_, _<_}
+use lib.ListN.{length, set, length-append, List·getD-append}
 use lib.Seq.{getD-at}
 use lib.IntN.{pos}
 use mir.Syntax.{w32}
 use mir.Facts.{toZ-ofZ}
 use denote.Ref.{now}
-use Rattle.spec.specs.Lists.{Bytes, one, upTo}
-use Rattle.spec.specs.Numbers.{signed}
-use Rattle.laws.proofs.Parts.{length-upTo}
-use Rattle.rows.specs.Rows.{numbersIn, literalsIn}
+use Rattle.spec.specs.Lists.{Bytes, one}
+use Rattle.rows.specs.Rows.{numberCount, literalsIn}
 use Rattle.clause_table.proofs.Storing.{Stored, stored-start, stored-next, stored-done}
 use Rattle.rows.proofs.Rows.{literals-length}
 use Rattle.clause_table.proofs.store_clause.Statement.{statement}
 use Rattle.clause_table.proofs.store_clause.Tie as tie
 
 -- and the 0 behind them
-length-closed : (row : Bytes) → length (literalsIn row ++ one (pos 0)) ≡ length row / 4 + 1
+length-closed : (row : Bytes) → length (literalsIn row ++ one (pos 0)) ≡ numberCount row + 1
 length-closed row = length-append (literalsIn row) (one (pos 0)) ∙ ap (λ (n : ℕ). n + 1) (literals-length row)
 
 abbrev Inv-loop : tie.InvT-loop
@@ -78,7 +76,7 @@ returns : tie.Need-returns Inv-loop μ-loop
 returns c =
     let t = c .before in
     let row = now (t .before .before .args .row) in
-    let e : length row / 4 ≡ t .loop .i = omega (arith, t .loop .inv .0) in
+    let e : numberCount row ≡ t .loop .i = omega (arith, t .loop .inv .0) in
     ap (λ (n : ℕ). set (t .loop .words) (t .before .before .args .at + n) (pos 0)) e
     ∙ stored-done
     (stored-next (pos 0) (t .loop .inv .1) (omega (arith, length-closed row))

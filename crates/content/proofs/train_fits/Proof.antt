@@ -12,10 +12,10 @@ use lib.Dec.{leb, ltb}
 use Rattle.laws.proofs.Numbers.{field-one}
 use Rattle.spec.specs.Lists.{all}
 use Rattle.spec.specs.Numbers.{field}
-use Rattle.spec.specs.Frames.{trainCountAt, timeWidth}
 use Rattle.spec.specs.Read.{trainFits, trainIn}
 use Rattle.spec.specs.Held.{held}
 use Rattle.track.proofs.Walks.{length-of-map}
+use Rattle.spec.specs.Frames.{trainFixed}
 use Rattle.content.proofs.Packing.{segments-held}
 use Rattle.content.proofs.train_fits.Statement.{statement}
 use Rattle.content.proofs.train_fits.Tie as tie
@@ -50,9 +50,9 @@ starts c =
 
 -- the definition, over the struct
 whole : (c : tie.Start)
-    → (early c && all (λ d. ltb d (2 * c .args .b .«segment_count»)) (drop 6 (c .args .p .now)))
+    → (early c && all (λ d. ltb d (2 * c .args .b .«segment_count»)) (drop trainFixed (c .args .p .now)))
     ≡ trainFits (held (c .args .b)) (trainIn (c .args .p .now))
-unfolding trainFits trainIn trainCountAt timeWidth held
+unfolding trainFits trainIn held
 whole c =
     let e : length (c .args .b .segments) ≡ 64 = search (needs, length-of-map) in
     simp (segments-held (c .args .b) (c .pre .0) e)

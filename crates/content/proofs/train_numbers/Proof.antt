@@ -3,7 +3,6 @@ use borrow.Author.Needs.{needs}
 use native.Mathlib.Omega.{arith}
 use mathlib.Core.Path.{refl, sym, _∙_}
 use Rattle.laws.proofs.Numbers.{field-one}
-use Rattle.spec.specs.Frames.{timeWidth}
 use Rattle.content.proofs.train_numbers.Statement.{statement}
 use Rattle.content.proofs.train_numbers.Tie as tie
 
@@ -20,7 +19,6 @@ wide-requires : tie.Need-wide-requires
 wide-requires c κs = search needs
 
 returns : tie.Need-returns
-unfolding timeWidth
 returns c =
     let a = c .before .before .before .pair .ensures in
     let e = c .before .before .pair2 .ensures in

@@ -1,9 +1,8 @@
 -- `families::rows_b` meets its contract: gone's variable is the one behind the runs'. Assumes nothing.
 use native.Mathlib.Omega.{arith}
 use mathlib.Core.Path.{ap}
-use Rattle.spec.specs.Formula.{wordsOf}
+use Rattle.spec.specs.Formula.{wordsOf, clausesB}
 use Rattle.clauses.proofs.Laws.{walks-same, walks-length}
-use Rattle.families.specs.Rows.{rowsB}
 use Rattle.families.proofs.Rest.{map-last}
 use Rattle.families.proofs.rows_b.Statement.{statement}
 use Rattle.families.proofs.rows_b.Tie as tie
@@ -15,7 +14,7 @@ deny-all-requires : tie.Need-deny-all-requires
 deny-all-requires c κs = omega arith
 
 returns : tie.Need-returns
-unfolding rowsB
+unfolding clausesB
 returns c = walks-same (ap wordsOf (map-last _ _)) (c .before .deny-all .ensures)
 
 same-length : tie.Need-same-length

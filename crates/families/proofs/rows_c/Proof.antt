@@ -4,10 +4,9 @@ use mathlib.Core.Path.{sym, ap}
 use mathlib.Core.List.{List}
 use lib.IntN.{ℤ}
 use Rattle.spec.specs.Lists.{one}
-use Rattle.spec.specs.Formula.{wordsOf}
+use Rattle.spec.specs.Formula.{wordsOf, clausesC}
 use Rattle.clauses.proofs.Laws.{walks-same, walks-behind, walks-length}
 use Rattle.demands.proofs.Words.{words-append}
-use Rattle.families.specs.Rows.{rowsC}
 use Rattle.families.proofs.Rest.{map-last}
 use Rattle.families.proofs.rows_c.Statement.{statement}
 use Rattle.families.proofs.rows_c.Tie as tie
@@ -25,7 +24,7 @@ no-two-requires : tie.Need-no-two-requires
 no-two-requires c κs = (omega arith, omega arith)
 
 returns : tie.Need-returns
-unfolding rowsC
+unfolding clausesC
 returns c =
     let q = c .before in
     let p = q .before .before .before in

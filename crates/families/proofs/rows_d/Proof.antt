@@ -11,13 +11,12 @@ use lib.IntN.{ℤ}
 use Rattle.model.specs.declared.Train.{Train as TrainStruct}
 use Rattle.spec.specs.Lists.{Bytes, range, each, only, one, same}
 use Rattle.spec.specs.Instance.{instanceOf}
-use Rattle.spec.specs.Formula.{Clause, not′, wordsOf}
+use Rattle.spec.specs.Formula.{Clause, not′, wordsOf, clausesD}
 use Rattle.spec.specs.Held.{held, heldTrain}
 use Rattle.clauses.proofs.Laws.{walks-same, walks-behind, walks-length}
 use Rattle.demands.proofs.Words.{words-append}
 use Rattle.clauses.proofs.Turns.{Ahead, ahead-start, turn, turned}
 use Rattle.places.specs.Placed.{placeAt}
-use Rattle.families.specs.Rows.{rowsD}
 use Rattle.families.proofs.Rest.{words-range}
 use Rattle.tables.proofs.Answers.{size-held, train-held, given-answer}
 use Rattle.families.proofs.rows_d.Statement.{statement}
@@ -91,7 +90,7 @@ unit-not-requires : tie.Need-unit-not-requires Inv-loop μ-loop
 unit-not-requires c κs = omega arith
 
 returns : tie.Need-returns Inv-loop μ-loop
-unfolding rowsD
+unfolding clausesD
 returns c =
     let v = c .before .before .before in
     let l = v .before in

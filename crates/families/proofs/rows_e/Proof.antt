@@ -11,13 +11,12 @@ use lib.IntN.{ℤ}
 use Rattle.model.specs.declared.Book.{Book as BookStruct}
 use Rattle.spec.specs.Lists.{upTo, range, each, only, one}
 use Rattle.spec.specs.Instance.{Instance, instanceOf}
-use Rattle.spec.specs.Formula.{is, not′, wordsOf}
+use Rattle.spec.specs.Formula.{is, not′, wordsOf, clausesE, clauseE, followersE}
 use Rattle.spec.specs.Held.{held}
 use Rattle.clauses.proofs.Laws.{walks-same, walks-behind, walks-length}
 use Rattle.demands.proofs.Words.{words-append}
 use Rattle.clauses.proofs.Turns.{words-row, Ahead, ahead-start, turn, turned}
 use Rattle.places.specs.Placed.{placeAt}
-use Rattle.families.specs.Rows.{rowsE, clauseE, followersE}
 use Rattle.families.specs.Chained.{Chained}
 use Rattle.tables.proofs.Answers.{end-inside, leaves-answer, least-held, ending-held}
 use Rattle.families.proofs.Chain.{follows-chained}
@@ -122,7 +121,7 @@ implies-requires : tie.Need-implies-requires Inv-loop μ-loop
 implies-requires c κs = (omega arith, omega arith)
 
 returns : tie.Need-returns Inv-loop μ-loop
-unfolding rowsE
+unfolding clausesE
 returns c =
     let after = c .before .before .before in
     let here = after .before in

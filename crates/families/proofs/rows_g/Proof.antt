@@ -10,12 +10,11 @@ use lib.IntN.{ℤ}
 use Rattle.spec.specs.Lists.{Bytes, range, each, one}
 use Rattle.spec.specs.Book.{segmentOf}
 use Rattle.spec.specs.Instance.{instanceOf, compile}
-use Rattle.spec.specs.Formula.{Clause, is, not′, wordsOf}
+use Rattle.spec.specs.Formula.{Clause, is, not′, wordsOf, claimsG, clausesG}
 use Rattle.spec.specs.Held.{held}
 use Rattle.clauses.proofs.Laws.{walks-same}
 use Rattle.clauses.proofs.Turns.{Ahead, ahead-start, turn, turned}
 use Rattle.places.specs.Placed.{placeAt, runHeld}
-use Rattle.families.specs.Rows.{claimsG, rowsG}
 use Rattle.families.proofs.Rest.{words-range}
 use Rattle.families.proofs.rows_g.Statement.{statement}
 use Rattle.families.proofs.rows_g.Tie as tie
@@ -74,7 +73,7 @@ same-length : tie.Need-same-length Inv-loop μ-loop
 same-length c = c .before .loop .inv .size
 
 returns : tie.Need-returns Inv-loop μ-loop
-unfolding rowsG claimsG instanceOf compile
+unfolding clausesG claimsG instanceOf compile
 returns c =
     let s = c .before .before .before .before .before in
     let a = s .args in

@@ -4,10 +4,9 @@ use Prim.Native.Nat.{ℕ, _+_, _-_}
 use mathlib.Core.List.{List, _∷_}
 use lib.IntN.{ℤ}
 use Rattle.spec.specs.Lists.{range, each, one}
-use Rattle.spec.specs.Formula.{not′, wordsOf}
+use Rattle.spec.specs.Formula.{not′, wordsOf, clausesI}
 use Rattle.clauses.proofs.Laws.{walks-same}
 use Rattle.clauses.proofs.Turns.{words-row, Ahead, ahead-start, turn, turned}
-use Rattle.families.specs.Rows.{rowsI}
 use Rattle.families.proofs.rows_i.Statement.{statement}
 use Rattle.families.proofs.rows_i.Tie as tie
 
@@ -49,7 +48,7 @@ same-length : tie.Need-same-length Inv-loop μ-loop
 same-length c = c .before .loop .inv .size
 
 returns : tie.Need-returns Inv-loop μ-loop
-unfolding rowsI
+unfolding clausesI
 returns c = walks-same (words-row _ _) (turned _ _ _ (c .before .loop .inv) (c .loop-test .left))
 
 pub rows-i-spec : {M : Type 1} → statement M

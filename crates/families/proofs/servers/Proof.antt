@@ -9,12 +9,11 @@ use lib.IntN.{ℤ}
 use Rattle.model.specs.declared.Book.{Book as BookStruct}
 use Rattle.spec.specs.Lists.{range, each, only, one}
 use Rattle.spec.specs.Instance.{instanceOf}
-use Rattle.spec.specs.Formula.{is}
+use Rattle.spec.specs.Formula.{is, serversF}
 use Rattle.spec.specs.Held.{held}
 use Rattle.clauses.proofs.Laws.{walks-same}
 use Rattle.clauses.proofs.Turns.{Ahead, ahead-start, turn, turned}
 use Rattle.places.specs.Placed.{placeAt}
-use Rattle.families.specs.Rows.{serversF}
 use Rattle.families.proofs.Rest.{each-range}
 use Rattle.tables.proofs.Answers.{end-inside, serves-answer}
 use Rattle.families.proofs.servers.Statement.{statement}

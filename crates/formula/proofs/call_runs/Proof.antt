@@ -11,13 +11,12 @@ use lib.IntN.{ℤ}
 use Rattle.model.specs.declared.Book.{Book as BookStruct}
 use Rattle.spec.specs.Lists.{Bytes, range, each, only}
 use Rattle.spec.specs.Instance.{instanceOf, inWindow}
-use Rattle.spec.specs.Formula.{base}
+use Rattle.spec.specs.Formula.{base, serversF}
 use Rattle.spec.specs.Held.{held}
 use Rattle.clauses.specs.declared.Walk.{Walk}
 use Rattle.clauses.specs.Walked.{Walks}
 use Rattle.clauses.proofs.Laws.{walks-same, walks-nothing, only-true, only-false}
 use Rattle.clauses.proofs.Turns.{Ahead, ahead-start, turn, turned}
-use Rattle.families.specs.Rows.{serversF}
 use Rattle.tables.proofs.Answers.{least-held, ending-held}
 use Rattle.formula.specs.Families.{callRuns}
 use Rattle.tables.proofs.Small.{intervals-is}

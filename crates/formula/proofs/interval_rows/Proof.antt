@@ -5,10 +5,9 @@ use mathlib.Core.Path.{_≡_, sym, ap, _∙_}
 use Prim.Native.Nat.{ℕ, _+_}
 use Rattle.model.specs.declared.Book.{Book as BookStruct}
 use Rattle.spec.specs.Instance.{instanceOf}
-use Rattle.spec.specs.Formula.{wordsOf}
+use Rattle.spec.specs.Formula.{wordsOf, clausesB, clausesC, clausesE}
 use Rattle.spec.specs.Held.{held}
 use Rattle.clauses.proofs.Laws.{walks-same}
-use Rattle.families.specs.Rows.{rowsB, rowsC, rowsE}
 use Rattle.formula.specs.declared.Family.{Family}
 use Rattle.formula.specs.Families.{rowsOf}
 use Rattle.tables.proofs.Small.{width-is}
@@ -74,7 +73,7 @@ same-length c = search needs
 returns : tie.Need-returns
 returns c =
     let s = c .before .before .before .before .before .before .before .before .before .before .before .before in
-    let same = ap (λ (n : ℕ). wordsOf (rowsB n (s .args .base))) (s .pre .2) in
+    let same = ap (λ (n : ℕ). wordsOf (clausesB n (s .args .base))) (s .pre .2) in
     walks-same (same ∙ told (s .args .b) (s .args .train) (s .args .base) (c .before .before .before .enum-told .given .1)) (c .before .rows-b .ensures)
 
 same-length-2 : tie.Need-same-length-2
@@ -83,7 +82,7 @@ same-length-2 c = search needs
 returns-2 : tie.Need-returns-2
 returns-2 c =
     let s = c .before .before .before .before .before .before .before .before .before .before .before .before in
-    let same = ap (λ (n : ℕ). wordsOf (rowsC n (s .args .base))) (s .pre .2) in
+    let same = ap (λ (n : ℕ). wordsOf (clausesC n (s .args .base))) (s .pre .2) in
     walks-same (same ∙ told (s .args .b) (s .args .train) (s .args .base) (c .before .before .before .enum-told2 .given .1)) (c .before .rows-c .ensures)
 
 same-length-3 : tie.Need-same-length-3
@@ -104,7 +103,7 @@ returns-4 c =
     let a = s .args in
     let wide = width-is (a .b) (s .pre .0) (a .train) (a .n) (s .pre .2) in
     let after = f .next-interval .ensures ∙ ap (λ (k : ℕ). a .base + k) wide in
-    let same = ap (λ (y : ℕ). wordsOf (rowsE (instanceOf (held (a .b))) (a .train) (a .base) y)) after in
+    let same = ap (λ (y : ℕ). wordsOf (clausesE (instanceOf (held (a .b))) (a .train) (a .base) y)) after in
     walks-same (same ∙ told (a .b) (a .train) (a .base) (c .before .before .before .enum-told4 .given .1)) (c .before .rows-e .ensures)
 
 same-length-5 : tie.Need-same-length-5

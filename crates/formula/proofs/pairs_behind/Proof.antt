@@ -1,20 +1,20 @@
 -- `formula::pairs_behind` meets its contract. The loop's invariant: what is left to pass are the rows of the trains from j on. Assumes
 -- nothing.
 use native.Mathlib.Omega.{arith}
-use mathlib.Core.Path.{_≡_, sym, ap, ap₂, _∙_}
+use mathlib.Core.Path.{_≡_, sym, ap, _∙_}
 use Prim.Native.Nat.{ℕ, _+_, _-_}
 use mathlib.Core.List.{List}
 use lib.IntN.{ℤ}
 use Rattle.model.specs.declared.Book.{Book as BookStruct}
 use Rattle.spec.specs.Lists.{range, each}
 use Rattle.spec.specs.Instance.{instanceOf}
-use Rattle.spec.specs.Formula.{claimVar, wordsOf}
+use Rattle.spec.specs.Formula.{claimVar, clausesI, wordsOf}
 use Rattle.spec.specs.Held.{held}
 use Rattle.clauses.proofs.Laws.{walks-same}
 use Rattle.clauses.proofs.Turns.{words-each, Ahead, ahead-start, turn, turned}
 use Rattle.tables.specs.Tables.{Passed}
-use Rattle.families.specs.Rows.{rowsI}
 use Rattle.formula.specs.Families.{pairsBehind}
+use Rattle.formula.proofs.Shapes.{pairs-from}
 use Rattle.tables.proofs.Small.{segments-is, trains-is}
 use Rattle.formula.proofs.pairs_behind.Statement.{statement}
 use Rattle.formula.proofs.pairs_behind.Tie as tie
@@ -23,15 +23,15 @@ use Rattle.formula.proofs.pairs_behind.Tie as tie
 abbrev words : BookStruct → ℕ → ℕ → ℕ → List ℤ
 words b t i j =
     let I = instanceOf (held b) in
-    wordsOf (rowsI (I .segments) (claimVar I i t 0) (claimVar I j t 0))
+    wordsOf (clausesI (I .segments) (claimVar I i t) (claimVar I j t))
 
 module _ (b : BookStruct) (p : Passed b) (t i : ℕ) where
   -- one turn, by the struct's numbers
   pair : (j lower higher : ℕ) → lower ≡ claimVar (instanceOf (held b)) i t 0 → higher ≡ claimVar (instanceOf (held b)) j t 0
-      → wordsOf (rowsI (b .«segment_count») lower higher) ≡ words b t i j
+      → wordsOf (clausesI (b .«segment_count») (λ s. lower + s) (λ s. higher + s)) ≡ words b t i j
   pair j lower higher e f =
-      ap₂ (λ (x y : ℕ). wordsOf (rowsI (b .«segment_count») x y)) e f
-      ∙ ap (λ (n : ℕ). wordsOf (rowsI n (claimVar (instanceOf (held b)) i t 0) (claimVar (instanceOf (held b)) j t 0)))
+      ap wordsOf (pairs-from (instanceOf (held b)) (b .«segment_count») i j t lower higher e f)
+      ∙ ap (λ (n : ℕ). wordsOf (clausesI n (claimVar (instanceOf (held b)) i t) (claimVar (instanceOf (held b)) j t)))
       (sym (segments-is b p))
 
   -- all turns

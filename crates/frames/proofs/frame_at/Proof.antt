@@ -5,7 +5,7 @@ use Prim.Native.Nat.{_+_, _-_}
 use native.Mathlib.Omega.{arith}
 use lib.ListN.{length}
 use Rattle.frames.specs.declared.Framed.the-variants.{Whole, Cut}
-use Rattle.frames.proofs.Places.{cut-at, whole-at}
+use Rattle.frames.proofs.Places.{refusal-of, cut-at, whole-at}
 use Rattle.frames.proofs.frame_at.Statement.{statement}
 use Rattle.frames.proofs.frame_at.Tie as tie
 
@@ -16,7 +16,7 @@ returns : tie.Need-returns
 returns c =
     let s = c .before .before .args .s .now in
     let at = c .before .before .args .at in
-    sym (cut-at s at (omega arith))
+    refusal-of _ _ (sym (cut-at s at (omega arith)))
 
 pair-requires : tie.Need-pair-requires
 pair-requires c κs = search needs
@@ -37,13 +37,13 @@ returns-2 : tie.Need-returns-2
 returns-2 c =
     let s = c .before .before .before .before .before .args .s .now in
     let at = c .before .before .before .before .before .args .at in
-    sym (cut-at s at (omega arith))
+    refusal-of _ _ (sym (cut-at s at (omega arith)))
 
 returns-3 : tie.Need-returns-3
 returns-3 c =
     let s = c .before .before .before .before .before .args .s .now in
     let at = c .before .before .before .before .before .args .at in
-    ap₂ Whole (c .before .pair2 .ensures .0) (c .before .before .pair .ensures .0) ∙ sym (whole-at s at (omega arith))
+    refusal-of _ _ (ap₂ Whole (c .before .pair2 .ensures .0) (c .before .before .pair .ensures .0) ∙ sym (whole-at s at (omega arith)))
 
 pub frame-at-spec : {M : Type 1} → statement M
 frame-at-spec =

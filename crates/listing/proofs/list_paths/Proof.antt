@@ -17,11 +17,11 @@ use Rattle.listing.proofs.list_paths.Statement.{statement}
 use Rattle.listing.proofs.list_paths.Tie as tie
 
 abbrev Inv-loop : tie.InvT-loop
-Inv-loop table fans directed rows₀ sizes₀ count size found₀ d₀ rows sizes found d =
-    (d ≤ directed) × Listed count rows₀ sizes₀ (each (upTo d) (λ i. extendBy table fans (size - 1) (one i))) found rows sizes
+Inv-loop table fans directed rows₀ sizes₀ size found₀ d₀ rows sizes found d =
+    (d ≤ directed) × Listed 0 rows₀ sizes₀ (each (upTo d) (λ i. extendBy table fans (size - 1) (one i))) found rows sizes
 
 abbrev μ-loop : tie.MeasureT-loop
-μ-loop table fans directed rows₀ sizes₀ count size found₀ d₀ rows sizes found d = directed - d
+μ-loop table fans directed rows₀ sizes₀ size found₀ d₀ rows sizes found d = directed - d
 
 -- the paths that start over a directed segment
 module _ (s : tie.Start Inv-loop μ-loop) where
@@ -38,7 +38,7 @@ module _ (c : tie.At-loop Inv-loop μ-loop) where
   start = c .before .before .before .before .before
 
   done : (start .args .directed ≤ c .loop .d) ⊎ (257 ≤ c .loop .found)
-      → Listed (start .args .count) (start .args .rows .now) (start .args .sizes .now)
+      → Listed 0 (start .args .rows .now) (start .args .sizes .now)
       (pathsBy (start .args .table .now) (start .args .fans .now) (start .args .directed) (start .args .size))
       (c .loop .found) (c .loop .rows) (c .loop .sizes)
   unfolding pathsBy

@@ -2,20 +2,20 @@
 use borrow.Author.Needs.{needs}
 use Prim.Native.Nat.{ℕ, _*_, _≤_}
 use native.Mathlib.Omega.{arith}
-use mathlib.Core.Path.{_≡_, sym, ap₂, _∙_, subst}
+use mathlib.Core.Path.{_≡_, ap₂, _∙_}
 use mathlib.Core.Logic.{⊎-elim}
 use mathlib.Core.List.{List}
 use lib.ListN.{length}
-use lib.Dec.{T, ltb}
-use Rattle.spec.specs.Lists.{Bytes, all, lastOr}
+use lib.Dec.{T}
+use Rattle.spec.specs.Lists.{Bytes, all}
 use Rattle.spec.specs.Book.{Book, Train}
 use Rattle.spec.specs.Runs.{runsOf}
 use Rattle.spec.specs.Held.{held, heldTrain}
 use Rattle.track.proofs.Walks.{length-of-map}
 use Rattle.laws.proofs.Tests.{le-or-lt}
-use Rattle.listing.specs.Listed.{pathsBy, runsIn, furtherBy, countAfter}
+use Rattle.listing.specs.Listed.{pathsBy, placesIn, furtherBy, countAfter}
 use Rattle.listing.proofs.Lists.{Listed, listed-le, listed-rows, listed-sizes, listed-any, listed-more, short, reach, held-segments}
-use Rattle.listing.proofs.Levels.{runs-further, fits, fits-long, fits-below, fits-short, paths-fit, read-back}
+use Rattle.listing.proofs.Levels.{runs-further, fits, fits-long, fits-short, paths-fit, places-covered, read-back}
 use Rattle.listing.proofs.list_runs.Statement.{statement}
 use Rattle.listing.proofs.list_runs.Tie as tie
 
@@ -81,11 +81,11 @@ module _ (c : tie.After-list-paths) where
   listed : Listed 0 (given .args .rows .now) (given .args .sizes .now) (first known) found rows sizes
   listed = let e = c .list-paths .ensures in record { counted = e .0; filled = e .1; sized = e .2 }
 
-  back : found ≤ 256 → runsIn rows (l known) 0 found ≡ first known
+  back : found ≤ 256 → placesIn rows (l known) found ≡ first known
   unfolding countAfter
   back few =
-      ap₂ (λ (rows : Bytes) (n : ℕ). runsIn rows (l known) 0 n) (listed .filled) (listed .counted)
-      ∙ read-back 0 (first known) (given .args .rows .now) (given .pre .7) (omega (arith, listed .counted)) (first-short known) (l known)
+      ap₂ (λ (rows : Bytes) (n : ℕ). placesIn rows (l known) n) (listed .filled) (listed .counted)
+      ∙ read-back (first known) (given .args .rows .now) (l known) (given .pre .7) (omega (arith, listed .counted)) (first-short known)
       (fits-long (b known) (l known) (first known) (first-fit known))
 
 length-in-segments-requires : tie.Need-length-in-segments-requires
@@ -108,7 +108,6 @@ list-paths-requires c κs =
       omega (arith, segments s, s .pre .6 .few),
       omega arith,
       omega arith,
-      omega arith,
     )
 
 list-further-requires : tie.Need-list-further-requires
@@ -121,14 +120,7 @@ list-further-requires c κs =
       listed-le (listed a),
       omega arith,
       omega arith,
-      record {
-        book = b (known a);
-        held = s .pre .6;
-        below = λ few.
-            subst (λ (runs : List (List ℕ)). T (all (λ run. ltb (lastOr 0 run) (2 * length (b (known a) .segments))) runs))
-            (sym (back a few))
-            (fits-below (b (known a)) (l (known a)) (first (known a)) (first-fit (known a)));
-      },
+      λ few. places-covered (s .pre .6) (rows a) (l (known a)) (found a) (rw (back a few) (first-fit (known a))),
     )
 
 -- at the end all runs are listed
@@ -148,7 +140,7 @@ module _ (c : tie.After-list-further) where
       Listed (found a) (rows a) (sizes a) runs
       (c .list-further .result) (c .list-further .last .1 .1 .0) (c .list-further .last .1 .1 .1 .0)
 
-  came : After (furtherBy table fans (runsIn (rows a) (l (known a)) 0 (found a)) (k (known a)))
+  came : After (furtherBy table fans (placesIn (rows a) (l (known a)) (found a)) (k (known a)))
   came = let e = c .list-further .ensures in record { counted = e .0; filled = e .1; sized = e .2 }
 
   more : After (furtherBy table fans (first (known a)) (k (known a)))

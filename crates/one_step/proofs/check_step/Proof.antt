@@ -2,6 +2,7 @@
 use borrow.Author.Needs.{needs}
 use mathlib.Core.Path.{refl, sym, _∙_}
 use Rattle.steps.proofs.Found.{bad-step}
+use Rattle.propagation.proofs.Trail.{left-alone}
 use Rattle.one_step.proofs.StepFaults.{is-bad}
 use Rattle.one_step.proofs.check_step.Statement.{statement}
 use Rattle.one_step.proofs.check_step.Tie as tie
@@ -20,12 +21,12 @@ check-whole-requires c κs =
     let d = c .before .before .before .before .before in
     let f = d .before .before in
     let s = f .before .before .before .before .before in
-    (s .pre .0, sym (f .step-at .ensures) ∙ d .literals .given .1, s .pre .1)
+    (s .pre .0, sym (f .step-at .ensures .0) ∙ d .literals .given .1, s .pre .1)
 
 returns : tie.Need-returns
 returns c =
     let f = c .before .before in
-    (is-bad _ _ _ _ _ (bad-step _ (sym (f .step-at .ensures) ∙ c .enum-told .given .1)), (refl, refl, refl))
+    (is-bad _ _ _ _ _ (bad-step _ (sym (f .step-at .ensures .0) ∙ c .enum-told .given .1)), (refl, refl, refl, left-alone))
 
 same-length : tie.Need-same-length
 same-length c = search needs

@@ -12,6 +12,7 @@ use lib.Seq.{length-take-le}
 use Rattle.laws.proofs.Tests.{from-true}
 use Rattle.spec.specs.Refutation.{literalsFit, hintsFit}
 use Rattle.rows.specs.Rows.{numbersIn, literalsIn}
+use Rattle.propagation.proofs.Trail.{left-alone}
 use Rattle.one_step.proofs.StepAnswers.{Given, refused-18, refused-19, few-words, no-entry, words-room, entry-room, refused-20, step-proved}
 use Rattle.one_step.proofs.check_whole.Statement.{statement}
 use Rattle.one_step.proofs.check_whole.Tie as tie
@@ -41,7 +42,7 @@ module _ (c : tie.After-hints-at) where
   }
 
 returns : tie.Need-returns
-returns c = (refused-18 (given (c .before .before)) (c .before .literals-fit .ensures) (c .if1 .taken), (refl, refl, refl))
+returns c = (refused-18 (given (c .before .before)) (c .before .literals-fit .ensures) (c .if1 .taken), (refl, refl, refl, left-alone))
 
 -- the literals fit
 fit : (c : tie.Else1) → let s = start (c .before .before) in
@@ -62,7 +63,7 @@ hints-fit-requires c κs = search needs
 returns-2 : tie.Need-returns-2
 returns-2 c =
     let d = c .before .before in
-    (refused-19 (given (d .before .before)) (fit d) (c .before .hints-fit .ensures) (c .if2 .taken), (refl, refl, refl))
+    (refused-19 (given (d .before .before)) (fit d) (c .before .hints-fit .ensures) (c .if2 .taken), (refl, refl, refl, left-alone))
 
 sub-if3 : tie.Need-sub-if3
 sub-if3 c = search needs
@@ -73,7 +74,7 @@ returns-3 c =
     let d = b .before .before in (
       ⊎-elim (λ w. few-words (given (d .before .before)) (fit d) (known b) (w .taken))
           (λ w. no-entry (given (d .before .before)) (fit d) (known b) (w .1 .taken)) (c .if3 .came),
-      (refl, refl, refl),
+      (refl, refl, refl, left-alone),
     )
 
 -- the rows, where there is room for the clause
@@ -128,7 +129,7 @@ returns-4 c =
     let b = x .before .before in (
       refused-20 (given (rows x)) (fit (b .before .before)) (known b) (x .before .if3 .left) (x .if4 .left)
           (f .follows-rule .ensures .0) (c .if5 .taken),
-      (refl, refl, f .follows-rule .ensures .1),
+      (refl, refl, f .follows-rule .ensures .1, f .follows-rule .ensures .2),
     )
 
 store-clause-requires : tie.Need-store-clause-requires
@@ -169,7 +170,7 @@ returns-5 c =
     let b = x .before .before in
     step-proved (given (rows x)) (fit (b .before .before)) (known b) (x .before .if3 .left) (x .if4 .left)
     (f .follows-rule .ensures .0) (c .before .before .before .if5 .left) (c .before .store-clause .ensures) refl
-    (f .follows-rule .ensures .1) (f .follows-rule .kept .1 .1 .1 .1 .1 .0)
+    (f .follows-rule .ensures .1) (f .follows-rule .kept .1 .1 .1 .1 .1 .0) (f .follows-rule .ensures .2)
 
 pub check-whole-spec : {M : Type 1} → statement M
 check-whole-spec =

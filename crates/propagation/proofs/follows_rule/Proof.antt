@@ -1,5 +1,5 @@
 -- `propagation::follows_rule` meets its contract: the literals are taken false, the hints gone through from there, and the variables opened
--- again. Assumes nothing.
+-- again; those that were set are left on the trail. Assumes nothing.
 use borrow.Author.Needs.{needs}
 use native.Mathlib.Omega.{arith}
 use mathlib.Core.Path.{_≡_, sym, ap, subst, _∙_}
@@ -11,6 +11,8 @@ use Rattle.spec.specs.Refutation.{Values, refuting, goThrough, followsRule, cla
 use Rattle.spec.specs.Entry.{zeroed}
 use Rattle.rows.specs.Rows.{numbersIn, literalsIn}
 use Rattle.clause_table.specs.Kept.{Kept}
+use Rattle.propagation.specs.Known.{LeftOnTrail}
+use Rattle.propagation.proofs.Trail.{behind-more, left-here}
 use Rattle.propagation.proofs.follows_rule.Statement.{statement}
 use Rattle.propagation.proofs.follows_rule.Tie as tie
 
@@ -62,11 +64,17 @@ module _ (c : tie.After-try-hints) where
   as-many : length (c .try-hints .last .1 .1 .1 .0) ≡ length (now (first .args .values))
   as-many = c .try-hints .kept .1 .1 .1 .0 ∙ same taken
 
+  -- what was set is left on the trail
+  left : LeftOnTrail (length (now (first .args .values))) (now (first .args .trail)) (c .try-hints .last .1 .1 .1 .1 .0)
+  left =
+      let e = c .try-hints .ensures in
+      left-here (e .1) as-many (e .3 ∙ behind-more _ _ _ _ (e .2) (taken .take-false .ensures .2))
+
 returns : tie.Need-returns
 unfolding followsRule
 returns c =
     let h = c .before .before .before .before .before .before .before .before .before in
-    (answer h, c .before .before .undo .ensures ∙ ap (zeroed 0) (as-many h) ∙ sym (first h .pre .3))
+    (answer h, c .before .before .undo .ensures ∙ ap (zeroed 0) (as-many h) ∙ sym (first h .pre .3), left h)
 
 pub follows-rule-spec : {M : Type 1} → statement M
 follows-rule-spec =

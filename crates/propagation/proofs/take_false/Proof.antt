@@ -1,5 +1,5 @@
 -- `propagation::take_false` meets its contract. The loop's invariant: the last i literals are false, every other variable is open, and the
--- trail has theirs. Assumes nothing.
+-- trail has theirs and then what it had. Assumes nothing.
 use borrow.Author.Needs.{sfits-of}
 use native.Mathlib.Omega.{arith}
 use mathlib.Core.Path.{_≡_, sym, ap, _∙_}
@@ -16,7 +16,7 @@ use Rattle.propagation.proofs.take_false.Statement.{statement}
 use Rattle.propagation.proofs.take_false.Tie as tie
 
 abbrev Inv-loop : tie.InvT-loop
-Inv-loop row values₀ trail₀ n i₀ values trail i = Taking (literalsIn row) (length values₀) (length trail₀) values trail i
+Inv-loop row values₀ trail₀ n i₀ values trail i = Taking (literalsIn row) (length values₀) trail₀ values trail i
 
 abbrev μ-loop : tie.MeasureT-loop
 μ-loop row values₀ trail₀ n i₀ values trail i = n - i
@@ -78,7 +78,7 @@ returns : tie.Need-returns Inv-loop μ-loop
 returns c =
     let e = literals-length (c .before .before .before .before .before .args .row .now) in
     let d = taking-done (c .before .loop .inv) (omega (arith, e, c .loop-test .left)) in
-    (d .0, rw e at (d .1))
+    (d .0, rw e at (d .1), rw e at (d .2))
 
 pub take-false-spec : {M : Type 1} → statement M
 take-false-spec =

@@ -5,7 +5,7 @@ use borrow.Author.Needs.{needs}
 use native.Mathlib.Omega.{arith}
 use mathlib.Core.Path.{_≡_}
 use mathlib.Core.Logic.{⊎-elim}
-use Prim.Native.Nat.{_-_, _/_, _≤_, _<_}
+use Prim.Native.Nat.{_-_, _≤_, _<_}
 use lib.ListN.{length, getD}
 use lib.IntN.{ℤ, pos}
 use Rattle.spec.specs.Formula.{Clause}
@@ -13,7 +13,7 @@ use Rattle.spec.specs.Assignment.{truth}
 use Rattle.spec.specs.Refutation.{Values, clauseAt, clausesOf}
 use Rattle.propagation.specs.declared.Value.{Value as Answer}
 use Rattle.propagation.specs.Known.{valuesIn}
-use Rattle.rows.specs.Rows.{numbersIn}
+use Rattle.rows.specs.Rows.{numberCount, numbersIn}
 use Rattle.propagation.proofs.Scan.{Scanning, OpenOne, Ahead, in-words, ahead, read-back, passes, notes, open-one, meant, value-told}
 use Rattle.propagation.proofs.Scan.{ends-true, ends-second, ends-proving, ends-making}
 use Rattle.propagation.proofs.Hints.{Gone, hint-fits, sets-out, clause-begins, has-room, goes-on, runs-out, refuses, concludes}
@@ -29,7 +29,7 @@ abbrev μ-loop : tie.MeasureT-loop
 
 abbrev Inv-hints : tie.InvT-hints
 Inv-hints hints words starts values₀ trail₀ first n set₀ proved₀ k₀ values trail set proved k =
-    Gone words hints values₀ trail₀ values trail set proved k
+    Gone words hints values₀ trail₀ first values trail set proved k
 
 abbrev μ-hints : tie.MeasureT-hints
 μ-hints hints words starts values₀ trail₀ first n set₀ proved₀ k₀ values trail set proved k = n - k
@@ -94,7 +94,7 @@ abbrev word : tie.At-loop Inv-loop μ-loop Inv-hints μ-hints → ℤ
 word c = getD (entry (outer c) .args .words .now) (c .loop .at) (pos 0)
 
 -- this is the number of a hint
-turn : (c : tie.At-loop Inv-loop μ-loop Inv-hints μ-hints) → outer c .hints .k < length (entry (outer c) .args .hints .now) / 4
+turn : (c : tie.At-loop Inv-loop μ-loop Inv-hints μ-hints) → outer c .hints .k < numberCount (entry (outer c) .args .hints .now)
 turn c = c .before .before .before .hints-test .taken
 
 -- there is a word to read
@@ -213,7 +213,9 @@ same-length-2 : tie.Need-same-length-2 Inv-loop μ-loop Inv-hints μ-hints
 same-length-2 c = search needs
 
 returns : tie.Need-returns Inv-loop μ-loop Inv-hints μ-hints
-returns c = (runs-out (c .before .hints .inv) (c .hints-test .left), c .before .hints .inv .trailed)
+returns c =
+    let g = c .before .hints .inv in
+    (runs-out g (c .hints-test .left), g .trailed, g .grown, g .behind)
 
 same-length-3 : tie.Need-same-length-3 Inv-loop μ-loop Inv-hints μ-hints
 same-length-3 c = search needs
@@ -226,7 +228,7 @@ returns-2 c =
     let a = c .before .before in
     let g = outer (inner a) .hints .inv in
     let e = ends-true (stands (a .before .before .before)) (told a (c .enum-told2 .given .1)) in
-    (refuses g (turn (inner a)) e, g .trailed)
+    (refuses g (turn (inner a)) e, g .trailed, g .grown, g .behind)
 
 same-length-5 : tie.Need-same-length-5 Inv-loop μ-loop Inv-hints μ-hints
 same-length-5 c = search needs
@@ -239,7 +241,7 @@ returns-3 c =
     let a = c .before .before .before in
     let g = outer (inner a) .hints .inv in
     let e = ends-second (stands (a .before .before .before)) (told a (c .before .enum-told3 .given .1)) (c .if2 .taken) in
-    (refuses g (turn (inner a)) e, g .trailed)
+    (refuses g (turn (inner a)) e, g .trailed, g .grown, g .behind)
 
 same-length-7 : tie.Need-same-length-7 Inv-loop μ-loop Inv-hints μ-hints
 same-length-7 c = search needs
@@ -252,7 +254,7 @@ returns-4 c =
     let l = c .before .before .before in
     let g = outer l .hints .inv in
     let e = ends-proving (l .loop .inv) (few (outer l)) (c .before .if1 .left) (c .if3 .taken) in
-    (concludes g (turn l) e, g .trailed)
+    (concludes g (turn l) e, g .trailed, g .grown, g .behind)
 
 pub try-hints-spec : {M : Type 1} → statement M
 try-hints-spec =

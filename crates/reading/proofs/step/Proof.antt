@@ -20,14 +20,14 @@ enum-known-kind c = search needs
 step-whole-requires : tie.Need-step-whole-requires
 step-whole-requires c κs =
     let st = c .before .before .before .before .before in
-    let whole = sym (c .before .before .before .frame-at .ensures) ∙ c .before .kind .given .1 in
+    let whole = sym (c .before .before .before .frame-at .ensures .0) ∙ c .before .kind .given .1 in
     (st .pre .0, st .pre .1, whole, whole-room (st .args .s .now) (st .args .at) _ _ (st .pre .2) whole)
 
 returns : tie.Need-returns
 returns c =
     let st = c .before .before .before .before .before in
     cut-here (st .args .b) (st .pre .0) (st .args .last) (st .args .s .now) (st .args .at)
-    (sym (c .before .before .before .frame-at .ensures) ∙ c .before .enum-told .given .1) (c .stopped .result) (c .stopped .ensures)
+    (sym (c .before .before .before .frame-at .ensures .0) ∙ c .before .enum-told .given .1) (c .stopped .result) (c .stopped .ensures)
 
 returns-2 : tie.Need-returns-2
 returns-2 c = search needs

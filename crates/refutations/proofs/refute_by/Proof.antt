@@ -224,7 +224,7 @@ returns-3 c =
     let w = written k in
     let m = measured w in
     checked (I m) _ (lent m) (room w) (same-size w) (indexed k .index-clauses .kept .1 .0) (handed k ∙ variable-count m)
-    (said _ _ (ranged m) (in-front w)) (d .check-steps .ensures)
+    (said _ _ (ranged m) (in-front w)) (d .check-steps .ensures .0)
 
 pub refute-by-spec : {M : Type 1} → statement M
 refute-by-spec =

@@ -4,6 +4,7 @@ use mathlib.Core.Path.{_≡_}
 use Prim.Native.Nat.{_+_}
 use native.Mathlib.Nat.{add-sub-cancel-left}
 use native.Mathlib.Omega.{arith}
+use Rattle.spec.specs.Frames.{frameHead, stepFixed}
 use Rattle.steps.proofs.Places.{step-room, hints-here}
 use Rattle.steps.proofs.hints_at.Statement.{statement}
 use Rattle.steps.proofs.hints_at.Tie as tie
@@ -48,7 +49,7 @@ part-result-end c =
 returns : tie.Need-returns
 returns c =
     let st = c .before .before .before .before in
-    let e : c .before .before .cursor .result .end ≡ st .args .at + 4 + 2 = c .before .before .cursor .ensures .1 in
+    let e : c .before .before .cursor .result .end ≡ st .args .at + frameHead + stepFixed = c .before .before .cursor .ensures .1 in
     rw (e, add-sub-cancel-left) (hints-here (st .args .s .now) (st .args .at) (st .pre .0) (st .pre .1))
 
 pub hints-at-spec : {M : Type 1} → statement M

@@ -4,6 +4,7 @@ use mathlib.Core.Path.{_≡_}
 use Prim.Native.Nat.{_+_}
 use native.Mathlib.Nat.{add-sub-cancel-left}
 use native.Mathlib.Omega.{arith}
+use Rattle.spec.specs.Frames.{frameHead, stepFixed}
 use Rattle.steps.proofs.Places.{step-room, literals-here}
 use Rattle.steps.proofs.literals_at.Statement.{statement}
 use Rattle.steps.proofs.literals_at.Tie as tie
@@ -38,7 +39,7 @@ part-result-end c =
 returns : tie.Need-returns
 returns c =
     let st = c .before .before .before in
-    let e : c .before .cursor .result .end ≡ st .args .at + 4 + 2 = c .before .cursor .ensures .1 in
+    let e : c .before .cursor .result .end ≡ st .args .at + frameHead + stepFixed = c .before .cursor .ensures .1 in
     rw (e, add-sub-cancel-left) (literals-here (st .args .s .now) (st .args .at) (st .pre .0) (st .pre .1))
 
 pub literals-at-spec : {M : Type 1} → statement M

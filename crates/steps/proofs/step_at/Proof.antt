@@ -22,7 +22,7 @@ returns : tie.Need-returns
 returns c =
     let st = c .before .before .before .before .before .before in
     let k = c .before .before in
-    let framed = sym (k .before .before .frame-at .ensures) ∙ k .kind .given .1 in
+    let framed = sym (k .before .before .frame-at .ensures .0) ∙ k .kind .given .1 in
     ⊎-elim
     (λ w. bad-here (st .args .s .now) (st .args .at) (st .pre) framed (λ g. w .taken (g .0)))
     (λ w. let short = ltb-true (k .kind .given .0 .1 .0) 2 (w .1 .taken) in
@@ -36,7 +36,7 @@ pair-requires : tie.Need-pair-requires
 pair-requires c κs =
     let st = c .before .before .before .before .before .before .before in
     let k = c .before .before .before in
-    let framed = sym (k .before .before .frame-at .ensures) ∙ k .kind .given .1 in
+    let framed = sym (k .before .before .frame-at .ensures .0) ∙ k .kind .given .1 in
     omega (arith, frame-room (st .args .s .now) (st .args .at) (st .pre) framed, ltb-false (k .kind .given .0 .1 .0) 2 (c .if2 .left))
 
 sub-if3 : tie.Need-sub-if3
@@ -49,7 +49,7 @@ returns-2 : tie.Need-returns-2
 returns-2 c =
     let st = c .before .before .before .before .before .before .before .before .before in
     let k = c .before .before .before .before .before in
-    let framed = sym (k .before .before .frame-at .ensures) ∙ k .kind .given .1 in
+    let framed = sym (k .before .before .frame-at .ensures .0) ∙ k .kind .given .1 in
     bad-here (st .args .s .now) (st .args .at) (st .pre) framed (λ g. omega (arith, c .before .pair .ensures))
 
 sub-rest : tie.Need-sub-rest
@@ -65,20 +65,20 @@ returns-3 : tie.Need-returns-3
 returns-3 c =
     let st = c .before .before .before .before .before .before .before .before .before .before in
     let k = c .before .before .before .before .before .before in
-    let framed = sym (k .before .before .frame-at .ensures) ∙ k .kind .given .1 in
+    let framed = sym (k .before .before .frame-at .ensures .0) ∙ k .kind .given .1 in
     let e = c .before .before .pair .ensures .0 in
     bad-here (st .args .s .now) (st .args .at) (st .pre) framed (λ g. c .if4 .taken (rw e (g .1 .2)))
 
 returns-4 : tie.Need-returns-4
 returns-4 c =
     let st = c .before .before .before .before in
-    cut-here (drop (st .args .at) (st .args .s .now)) (sym (c .before .before .frame-at .ensures) ∙ c .enum-told .given .1)
+    cut-here (drop (st .args .at) (st .args .s .now)) (sym (c .before .before .frame-at .ensures .0) ∙ c .enum-told .given .1)
 
 returns-5 : tie.Need-returns-5
 returns-5 c =
     let st = c .before .before .before .before .before .before .before .before .before .before in
     let k = c .before .before .before .before .before .before in
-    let framed = sym (k .before .before .frame-at .ensures) ∙ k .kind .given .1 in
+    let framed = sym (k .before .before .frame-at .ensures .0) ∙ k .kind .given .1 in
     let e = c .before .before .pair .ensures .0 in
     let long = ltb-false (k .kind .given .0 .1 .0) 2 (c .before .before .before .if2 .left) in
     let kind = c .before .before .before .before .if1 .left in

@@ -1,0 +1,4 @@
+pub mod Structs
+pub mod Labelled
+pub mod Shown
+pub mod Standing

@@ -1,0 +1,186 @@
+// The library that C or Rust links: the entry points under plain names, and what drawings and tools ask
+// of a book, so that nobody states a rule of the core a second time. An answer is a struct: a refusal's
+// number and detail, or 0, 0 and what was asked for. No function has a `requires`. Assumes nothing.
+mod answers;
+mod labels;
+mod runs;
+mod sizes;
+mod variables;
+
+use answers::Output;
+use answers::Run;
+use answers::Sizes;
+use answers::Totals;
+use answers::Variable;
+use answers::Verdict;
+use checking::OutputAnswer;
+use checking::check_assignment;
+use checking::check_plan;
+use labels::label_book;
+use reading::Answer;
+use reading::read_book;
+use refutations::check_refutation;
+use runs::run_of;
+use sizes::measure_book;
+use variables::variable_of;
+use writing::FormulaAnswer;
+use writing::write_formula;
+ghost use mathlib.Core.Path.{_≡_};
+ghost use lib.ListN.{length};
+ghost use lib.IntN.{pos};
+ghost use Rattle.spec.specs.Read.{readBook};
+ghost use Rattle.spec.specs.Entry.{zeroed, writeFormula, formulaOutput, checkAssignment, planOutput, checkPlan, assignmentOutput, checkRefutation};
+ghost use Rattle.spec.specs.Library.{measureBook, labelSections, labelsOutput, askRun, askVariable};
+ghost use Rattle.refutations.specs.Lent.{lengths};
+ghost use Rattle.gentupag.specs.Answers.{verdictShown, outputShown, totalsShown, verdictOf, outputOf, totalsOf, sizesIn, runIn, variableIn};
+
+// A verdict as a struct.
+fn verdict_from(answer: Answer) -> Verdict
+    ensures { λ r. ⌜ r ≡ verdictShown answer ⌝ }
+{
+    match answer {
+        Answer::Accepted => Verdict {
+            number: 0,
+            detail: 0,
+        },
+        Answer::Refused(number, detail) => Verdict { number, detail },
+    }
+}
+
+// The same, of a check that has an output.
+fn output_from(answer: OutputAnswer) -> Output
+    ensures { λ r. ⌜ r ≡ outputShown answer ⌝ }
+{
+    match answer {
+        OutputAnswer::Wrote(length) => Output {
+            number: 0,
+            detail: 0,
+            length,
+        },
+        OutputAnswer::Refused(number, detail) => Output {
+            number,
+            detail,
+            length: 0,
+        },
+    }
+}
+
+// The same, of the writer of a formula.
+fn totals_from(answer: FormulaAnswer) -> Totals
+    ensures { λ r. ⌜ r ≡ totalsShown answer ⌝ }
+{
+    match answer {
+        FormulaAnswer::Totals {
+            variables,
+            clauses,
+            words,
+        } => Totals {
+            number: 0,
+            detail: 0,
+            variables,
+            clauses,
+            words,
+        },
+        FormulaAnswer::Refused(number, detail) => Totals {
+            number,
+            detail,
+            variables: 0,
+            clauses: 0,
+            words: 0,
+        },
+    }
+}
+
+// Whether the bytes are a book.
+#[no_mangle]
+pub extern "C" fn gentupag_read_book(book: &[u8]) -> Verdict
+    ensures { λ r. ⌜ r ≡ verdictOf (readBook (now (book .entry))) ⌝ }
+{
+    let read = read_book(book);
+    let answer = read.answer;
+    verdict_from(answer)
+}
+
+// The sizes of a book: what it counts, and how much its outputs need.
+#[no_mangle]
+pub extern "C" fn gentupag_measure_book(book: &[u8]) -> Sizes
+    ensures { λ r. ⌜ r ≡ sizesIn (measureBook (now (book .entry))) ⌝ }
+{
+    measure_book(book)
+}
+
+// The formula of a book, written into the output.
+#[no_mangle]
+pub extern "C" fn gentupag_write_formula(book: &[u8], out: &mut [i32]) -> Totals
+    ensures { λ r. ⌜ (r ≡ totalsOf (writeFormula (now (book .entry)) (length (now (out .entry)))))
+        × (now (out .exit) ≡ formulaOutput (now (book .entry)) (now (out .entry))) ⌝ }
+{
+    let answer = write_formula(book, out);
+    totals_from(answer)
+}
+
+// The verdict on an assignment, its plan in the output.
+#[no_mangle]
+pub extern "C" fn gentupag_check_assignment(book: &[u8], values: &[u8], out: &mut [u8]) -> Output
+    ensures { λ r. ⌜ (r ≡ outputOf (checkAssignment (now (book .entry)) (now (values .entry)) (length (now (out .entry)))))
+        × (now (out .exit) ≡ planOutput (now (book .entry)) (now (values .entry)) (now (out .entry))) ⌝ }
+{
+    let answer = check_assignment(book, values, out);
+    output_from(answer)
+}
+
+// The verdict on a plan, its assignment in the output.
+#[no_mangle]
+pub extern "C" fn gentupag_check_plan(book: &[u8], plan: &[u8], out: &mut [u8]) -> Output
+    ensures { λ r. ⌜ (r ≡ outputOf (checkPlan (now (book .entry)) (now (plan .entry)) (length (now (out .entry)))))
+        × (now (out .exit) ≡ assignmentOutput (now (book .entry)) (now (plan .entry)) (now (out .entry))) ⌝ }
+{
+    let answer = check_plan(book, plan, out);
+    output_from(answer)
+}
+
+// The verdict on a refutation; all four slices are zero after it.
+#[no_mangle]
+pub extern "C" fn gentupag_check_refutation(
+    book: &[u8],
+    refutation: &[u8],
+    words: &mut [i32],
+    clauses: &mut [usize],
+    values: &mut [u8],
+    trail: &mut [usize],
+) -> Verdict
+    ensures { λ a. ⌜ (a ≡ verdictOf (checkRefutation (now (book .entry)) (now (refutation .entry))
+        (lengths (now (words .entry)) (now (clauses .entry)) (now (values .entry)) (now (trail .entry)))))
+        × (now (words .exit) ≡ zeroed (pos 0) (length (now (words .entry))))
+        × (now (clauses .exit) ≡ zeroed 0 (length (now (clauses .entry))))
+        × (now (values .exit) ≡ zeroed 0 (length (now (values .entry))))
+        × (now (trail .exit) ≡ zeroed 0 (length (now (trail .entry)))) ⌝ }
+{
+    let answer = check_refutation(book, refutation, words, clauses, values, trail);
+    verdict_from(answer)
+}
+
+// The label of each segment's section under a set of borders, in the output.
+#[no_mangle]
+pub extern "C" fn gentupag_label_sections(book: &[u8], borders: &[u8], out: &mut [u8]) -> Output
+    ensures { λ r. ⌜ (r ≡ outputOf (labelSections (now (book .entry)) (now (borders .entry)) (length (now (out .entry)))))
+        × (now (out .exit) ≡ labelsOutput (now (book .entry)) (now (borders .entry)) (now (out .entry))) ⌝ }
+{
+    label_book(book, borders, out)
+}
+
+// A run of a train, by its number in the train's list.
+#[no_mangle]
+pub extern "C" fn gentupag_show_run(book: &[u8], train: usize, run: usize) -> Run
+    ensures { λ r. ⌜ r ≡ runIn (askRun (now (book .entry)) train run) ⌝ }
+{
+    run_of(book, train, run)
+}
+
+// What a variable stands for, counted from 1 as in the formula's text.
+#[no_mangle]
+pub extern "C" fn gentupag_explain_variable(book: &[u8], variable: usize) -> Variable
+    ensures { λ r. ⌜ r ≡ variableIn (askVariable (now (book .entry)) variable) ⌝ }
+{
+    variable_of(book, variable)
+}

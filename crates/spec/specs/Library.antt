@@ -1,0 +1,114 @@
+-- What the library answers beside the entry points of document 01, so that no drawing and no tool states a rule of the core a
+-- second time: a book's sizes, the sections under a set of borders, a train's runs, and what a variable stands for. What is not
+-- there is a case of its own, with no number of document 01's. Assumes nothing.
+use mathlib.Core.Bool.{Bool, true, false, not, _&&_}
+use Prim.Native.Nat.{ℕ, zero, suc}
+use mathlib.Core.List.{List, [], _∷_, _++_, map}
+use lib.ListN.{length, getD}
+use lib.Dec.{leb, ltb, eqb}
+use Rattle.spec.specs.Lists.{Bytes, all, upTo, each, pick, Verdict, accepted, andThen}
+use Rattle.spec.specs.Book.{Book, trainAt}
+use Rattle.spec.specs.Read.{readBook}
+use Rattle.spec.specs.Runs.{runsOf}
+use Rattle.spec.specs.Instance.{Instance, trainLength}
+use Rattle.spec.specs.Sections.{sectionLabels}
+use Rattle.spec.specs.Plan.{planLength, isBit}
+use Rattle.spec.specs.Formula.{formula, variables, wordsOf}
+use Rattle.spec.specs.Entry.{demand, overwrite, written, readInstance}
+
+-- ---- the sizes of a book: what it counts, and how much its outputs need
+
+pub record Sizes : Type 0 where
+  pub intervals : ℕ
+  pub nodes : ℕ
+  pub freeNodes : ℕ
+  pub segments : ℕ
+  pub trains : ℕ
+  pub variableCount : ℕ
+  pub clauseCount : ℕ
+  pub wordCount : ℕ
+  pub planBytes : ℕ
+
+-- the nodes whose border is neither denied nor forced: those of kind 1, "may be set"
+unfoldable pub freeNodesOf : Instance → List ℕ
+freeNodesOf I = pick (λ n. not (I .denied n) && not (I .forced n)) (upTo (I .nodes))
+
+unfoldable pub sizesOf : Instance → Sizes
+sizesOf I = record
+  { intervals = I .intervals
+  ; nodes = I .nodes
+  ; freeNodes = length (freeNodesOf I)
+  ; segments = I .segments
+  ; trains = I .trains
+  ; variableCount = variables I
+  ; clauseCount = length (formula I)
+  ; wordCount = length (wordsOf (formula I))
+  ; planBytes = planLength I }
+
+unfoldable pub measureBook : Bytes → Verdict Sizes
+measureBook book = andThen (readInstance book) λ I. accepted (sizesOf I)
+
+-- ---- the sections under a set of borders; lent: an output of a byte a segment
+
+-- 15: a byte 0 or 1 a node, as a plan begins
+unfoldable pub bordersFit : Instance → Bytes → Bool
+bordersFit I s = eqb (length s) (I .nodes) && all isBit s
+
+-- of an instance: 12, then 15, then each segment's label
+unfoldable pub labelledFor : Instance → Bytes → ℕ → Verdict Bytes
+labelledFor I borders outLength =
+    andThen (demand (leb (I .segments) outLength) 12) λ _.
+    andThen (demand (bordersFit I borders) 15) λ _.
+    accepted (sectionLabels I (λ n. eqb (getD borders n 0) 1))
+
+unfoldable pub labelSections : Bytes → Bytes → ℕ → Verdict Bytes
+labelSections book borders outLength = andThen (readInstance book) λ I. labelledFor I borders outLength
+
+-- what the output holds after the call
+unfoldable pub labelsOutput : Bytes → Bytes → Bytes → Bytes
+labelsOutput book borders old = overwrite old (written (labelSections book borders (length old)))
+
+-- ---- run r of train i
+
+pub data RunAsked : Type 0 where
+  noTrain : RunAsked
+  -- the train has so many runs
+  noRun : ℕ → RunAsked
+  -- how many runs the train has, its l, and the run's directed segments
+  shown : ℕ → ℕ → List ℕ → RunAsked
+
+unfoldable pub runAmong : List (List ℕ) → ℕ → ℕ → RunAsked
+runAmong runs l r = elim (ltb r (length runs)) [ true ↦ shown (length runs) l (getD runs r []) | false ↦ noRun (length runs) ]
+
+unfoldable pub runAsked : Book → ℕ → ℕ → RunAsked
+runAsked b i r =
+    elim (ltb i (length (b .trains))) [ true ↦ runAmong (runsOf b (trainAt b i)) (trainLength b i) r | false ↦ noTrain ]
+
+unfoldable pub askRun : Bytes → ℕ → ℕ → Verdict RunAsked
+askRun book i r = andThen (readBook book) λ b. accepted (runAsked b i r)
+
+-- ---- what variable v stands for, v counted from 1 as in the text
+
+pub data Meaning : Type 0 where
+  -- a node's border
+  border : ℕ → Meaning
+  -- in a train's interval: a run, gone, or the claim of a segment
+  run : ℕ → ℕ → ℕ → Meaning
+  gone : ℕ → ℕ → Meaning
+  claim : ℕ → ℕ → ℕ → Meaning
+  noVariable : Meaning
+
+-- "by train and interval: its runs, gone, and one claim a segment"
+unfoldable pub meaningsIn : Instance → ℕ → ℕ → List Meaning
+meaningsIn I i t = map (run i t) (upTo (I .runs i)) ++ (gone i t ∷ map (claim i t) (upTo (I .segments)))
+
+-- "Variables: node borders 1 to N; then by train and interval": what they stand for, in their order
+unfoldable pub meanings : Instance → List Meaning
+meanings I = map border (upTo (I .nodes)) ++ each (upTo (I .trains)) λ i. each (upTo (I .intervals)) λ t. meaningsIn I i t
+
+unfoldable pub meaningOf : Instance → ℕ → Meaning
+meaningOf I zero = noVariable
+meaningOf I (suc v) = getD (meanings I) v noVariable
+
+unfoldable pub askVariable : Bytes → ℕ → Verdict Meaning
+askVariable book v = andThen (readInstance book) λ I. accepted (meaningOf I v)

@@ -1,0 +1,105 @@
+/* The proved core as a library: books, formulas, assignments, plans and refutations as document 01 has them, and what
+ * drawings and tools ask of a book. docs/LIBRARY.md explains each function; docs/FORMATS.md has the files and the refusals.
+ *
+ * A slice is a pointer and a length in elements. Every answer begins with `number` and `detail`: 0 and 0, or the refusal's.
+ * Beside a refusal every other field is 0 and every output is as it was. No function keeps or allocates anything.
+ */
+#ifndef GENTUPAG_H
+#define GENTUPAG_H
+
+#include <stddef.h>
+#include <stdint.h>
+
+#ifdef __cplusplus
+extern "C" {
+#endif
+
+typedef struct {
+    size_t number, detail;
+} gentupag_verdict;
+
+/* length: how many bytes of the output were written */
+typedef struct {
+    size_t number, detail;
+    size_t length;
+} gentupag_output;
+
+/* words: how many words of the output were written */
+typedef struct {
+    size_t number, detail;
+    size_t variables, clauses, words;
+} gentupag_totals;
+
+/* free_nodes: the nodes of kind 1, which may have a border or none */
+typedef struct {
+    size_t number, detail;
+    size_t intervals, nodes, free_nodes, segments, trains;
+    size_t variables, clauses, words, plan_bytes;
+} gentupag_sizes;
+
+/* What `missing` says of a run. */
+enum { GENTUPAG_NOTHING_MISSING = 0, GENTUPAG_NO_TRAIN = 1, GENTUPAG_NO_RUN = 2 };
+
+/* runs: how many runs the train has; place: how many segments it stands on; the run's directed segments are the first
+ * `length` bytes of `path`, zeros stand behind. The train begins at the first `place` of them and ends at the last. */
+typedef struct {
+    size_t number, detail;
+    size_t missing, runs, place, length;
+    uint8_t path[16];
+} gentupag_run;
+
+/* What `kind` says of a variable. */
+enum {
+    GENTUPAG_NO_VARIABLE = 0,
+    GENTUPAG_IS_BORDER = 1,
+    GENTUPAG_IS_RUN = 2,
+    GENTUPAG_IS_GONE = 3,
+    GENTUPAG_IS_CLAIM = 4
+};
+
+/* item: the node of a border, the number of a run, the segment of a claim */
+typedef struct {
+    size_t number, detail;
+    size_t kind, train, interval, item;
+} gentupag_variable;
+
+/* Whether the bytes are a book: 1 to 11. */
+gentupag_verdict gentupag_read_book(const uint8_t *book, size_t book_length);
+
+/* What a book counts, and how much its outputs need; nothing is written. */
+gentupag_sizes gentupag_measure_book(const uint8_t *book, size_t book_length);
+
+/* The formula's words, each clause closed by 0: 12. */
+gentupag_totals gentupag_write_formula(const uint8_t *book, size_t book_length, int32_t *out, size_t out_length);
+
+/* An assignment's verdict, and its plan: 12 to 14. */
+gentupag_output gentupag_check_assignment(const uint8_t *book, size_t book_length, const uint8_t *assignment,
+                                          size_t assignment_length, uint8_t *out, size_t out_length);
+
+/* A plan's verdict, and its assignment: 12, 15, 16. */
+gentupag_output gentupag_check_plan(const uint8_t *book, size_t book_length, const uint8_t *plan, size_t plan_length,
+                                    uint8_t *out, size_t out_length);
+
+/* A refutation's verdict: 12, 17 to 21. `words` and `clauses` hold the formula and the steps, `values` and `trail` an entry a
+ * variable; all four are zero after the call, whatever they held and whatever the verdict is. */
+gentupag_verdict gentupag_check_refutation(const uint8_t *book, size_t book_length, const uint8_t *refutation,
+                                           size_t refutation_length, int32_t *words, size_t words_length, size_t *clauses,
+                                           size_t clauses_length, uint8_t *values, size_t values_length, size_t *trail,
+                                           size_t trail_length);
+
+/* The label of each segment's section, which is the section's least segment, under a set of borders, a byte 0 or 1 a node:
+ * 12, 15. Two segments are in one section exactly where their labels are equal. */
+gentupag_output gentupag_label_sections(const uint8_t *book, size_t book_length, const uint8_t *borders,
+                                        size_t borders_length, uint8_t *out, size_t out_length);
+
+/* Run `run` of train `train`, both counted from 0. */
+gentupag_run gentupag_show_run(const uint8_t *book, size_t book_length, size_t train, size_t run);
+
+/* What a variable stands for, counted from 1 as in the formula's text. */
+gentupag_variable gentupag_explain_variable(const uint8_t *book, size_t book_length, size_t variable);
+
+#ifdef __cplusplus
+}
+#endif
+
+#endif

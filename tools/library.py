@@ -1,0 +1,270 @@
+"""Calls the library from Python and holds it against the reference: every function on BOOKS random books from SEED, some of them damaged,
+with good and spoiled inputs and outputs that are too short. The archive is made by `rt staticlib gentupag`, and is linked into a shared
+object for this. The structs here are those of include/gentupag.h, whose sizes a C compiler is asked for.
+
+Exit status: 0 none differs, 1 some differ, 2 wrong usage.
+"""
+import ctypes
+import os
+import random
+import subprocess
+import sys
+import tempfile
+from collections import Counter
+
+from . import reference
+from .random_books import damaged_book, random_book
+from .random_inputs import random_assignments, random_borders, random_plans, random_refutations
+from .repository import ROOT, Stop
+
+WORD = ctypes.c_size_t
+
+# The structs of the header, by name: their fields behind number and detail.
+STRUCTS = {
+    "verdict": "",
+    "output": "length",
+    "totals": "variables clauses words",
+    "sizes": "intervals nodes free_nodes segments trains variables clauses words plan_bytes",
+    "run": "missing runs place length path",
+    "variable": "kind train interval item",
+}
+
+# What a function answers, and the types of its parameters: B bytes, b an output of bytes, w of words, n of numbers, u a number.
+FUNCTIONS = {
+    "read_book": ("verdict", "B"),
+    "measure_book": ("sizes", "B"),
+    "write_formula": ("totals", "Bw"),
+    "check_assignment": ("output", "BBb"),
+    "check_plan": ("output", "BBb"),
+    "check_refutation": ("verdict", "BBwnbn"),
+    "label_sections": ("output", "BBb"),
+    "show_run": ("run", "Buu"),
+    "explain_variable": ("variable", "Bu"),
+}
+
+# What stands for a kind of variable.
+NO_VARIABLE, IS_BORDER, IS_RUN, IS_GONE, IS_CLAIM = range(5)
+ELEMENTS = {"B": ctypes.c_uint8, "b": ctypes.c_uint8, "w": ctypes.c_int32, "n": WORD}
+# what an output holds before a call
+OLD = 7
+
+
+def struct(name, fields):
+    path = {"path": ctypes.c_uint8 * 16}
+    return type(name, (ctypes.Structure,), {"_fields_": [(f, path.get(f, WORD)) for f in ("number detail " + fields).split()]})
+
+
+TYPES = {name: struct(name, fields) for name, fields in STRUCTS.items()}
+
+
+def plain(answer):
+    """A struct's fields, as a row of numbers."""
+    values = [getattr(answer, name) for name, _ in answer._fields_]
+    return tuple(list(v) if isinstance(v, ctypes.Array) else v for v in values)
+
+
+class Library:
+    """The library's functions. Outputs are given by their lengths; an answer is its fields and what each output holds then."""
+
+    def __init__(self, archive, folder):
+        shared = os.path.join(folder, "libgentupag.so")
+        subprocess.run(["gcc", "-shared", "-o", shared, "-Wl,--whole-archive", archive, "-Wl,--no-whole-archive"], check=True)
+        self.loaded = ctypes.CDLL(shared)
+
+    def __getattr__(self, name):
+        answer, kinds = FUNCTIONS[name]
+        function = self.loaded["gentupag_" + name]
+        function.restype = TYPES[answer]
+        function.argtypes = [t for k in kinds for t in ([WORD] if k == "u" else [ctypes.POINTER(ELEMENTS[k]), WORD])]
+
+        def call(*given):
+            words, outputs = [], []
+            for kind, value in zip(kinds, given):
+                if kind == "u":
+                    words.append(value)
+                    continue
+                lent = isinstance(value, int)
+                length = value if lent else len(value)
+                room = (ELEMENTS[kind] * max(length, 1))(*([OLD] * length if lent else value))
+                words += [room, length]
+                if lent:
+                    outputs.append((room, length))
+            answered = plain(function(*words))
+            return answered, [list(room[:length]) for room, length in outputs]
+
+        return call
+
+
+def build():
+    """The archive's path; the proofs are run where something changed."""
+    made = subprocess.run(["rt", "staticlib", "gentupag"], cwd=ROOT, capture_output=True, text=True)
+    if made.returncode:
+        raise Stop("rt staticlib gentupag failed:\n" + made.stdout[-2000:] + made.stderr[-2000:])
+    return os.path.join(ROOT, "target", "staticlib", "libgentupag.a")
+
+
+def check_header(folder):
+    """Whether a C compiler gives the header's structs the sizes that they have here."""
+    source = os.path.join(folder, "sizes.c")
+    with open(source, "w", encoding="utf-8") as file:
+        file.write('#include "gentupag.h"\n#include <stdio.h>\nint main(void) {\n')
+        file.writelines(f'printf("%zu\\n", sizeof(gentupag_{name}));\n' for name in STRUCTS)
+        file.write("return 0; }\n")
+    program = os.path.join(folder, "sizes")
+    subprocess.run(["gcc", "-Wall", "-Wextra", "-Werror", "-I", os.path.join(ROOT, "include"), source, "-o", program], check=True)
+    said = subprocess.run([program], capture_output=True, text=True, check=True).stdout.split()
+    wanted = [str(ctypes.sizeof(TYPES[name])) for name in STRUCTS]
+    if said != wanted:
+        raise Stop(f"the header's structs have the sizes {said}, not {wanted}")
+
+
+# ---- what the reference says, in the same form
+
+
+def refused(name, number, detail):
+    rest = [[0] * 16 if field == "path" else 0 for field in STRUCTS[name].split()]
+    return (number, detail, *rest)
+
+
+def said(name, verdict, fields):
+    """The struct of a verdict of the reference."""
+    if verdict[0] == "refused":
+        return refused(name, verdict[1], verdict[2])
+    return (0, 0, *fields(*verdict[1:]))
+
+
+def after(length, written):
+    """What an output of so many entries holds after the call."""
+    return list(written) + [OLD] * (length - len(written))
+
+
+def book_or_refusal(data):
+    try:
+        return reference.read_book(data), None
+    except reference.Refused as refusal:
+        return None, (refusal.number, refusal.detail)
+
+
+def measured(book):
+    variables, clauses = reference.formula(book)
+    return (0, 0, book.T, len(book.nodes), book.nodes.count(1), len(book.segments), len(book.trains), variables, len(clauses),
+            reference.word_count(clauses), reference.plan_length(book))
+
+
+def labelled(book, borders, room):
+    """The answer, and the labels that are written."""
+    if room < len(book.segments):
+        return (12, 0, 0), []
+    if len(borders) != len(book.nodes) or any(b > 1 for b in borders):
+        return (15, 0, 0), []
+    labels = [min(together) for together in reference.sections(book, borders)]
+    return (0, 0, len(labels)), labels
+
+
+def run_shown(book, train, run):
+    if train >= len(book.trains):
+        return (0, 0, 1, 0, 0, 0, [0] * 16)
+    runs = book.runs[train]
+    if run >= len(runs):
+        return (0, 0, 2, len(runs), 0, 0, [0] * 16)
+    path = runs[run]
+    return (0, 0, 0, len(runs), book.trains[train].l, len(path), path + [0] * (16 - len(path)))
+
+
+def meanings(book):
+    """What each variable stands for, by its number."""
+    v = reference.Variables(book)
+    found = {v.border(n): (IS_BORDER, 0, 0, n) for n in range(len(book.nodes))}
+    for train, runs in enumerate(book.runs):
+        for interval in range(book.T):
+            found.update({v.run(train, interval, r): (IS_RUN, train, interval, r) for r in range(len(runs))})
+            found[v.gone(train, interval)] = (IS_GONE, train, interval, 0)
+            found.update({v.claim(train, interval, s): (IS_CLAIM, train, interval, s) for s in range(len(book.segments))})
+    return v.count, found
+
+
+# ---- questions: a function, its arguments, the reference's answer and outputs
+
+
+def book_questions(rng, data):
+    book, refusal = book_or_refusal(data)
+    yield "read_book", (data,), said("verdict", reference.entry_read_book(data), lambda: ()), []
+    if refusal:
+        train, run, variable, room = rng.randrange(9), rng.randrange(9), rng.randrange(99), rng.randrange(70)
+        yield "measure_book", (data,), refused("sizes", *refusal), []
+        yield "show_run", (data, train, run), refused("run", *refusal), []
+        yield "explain_variable", (data, variable), refused("variable", *refusal), []
+        yield "label_sections", (data, b"", room), refused("output", *refusal), [[OLD] * room]
+        yield "write_formula", (data, room), refused("totals", *refusal), [[OLD] * room]
+        return
+    size = measured(book)
+    words, nodes, segments = size[9], size[3], size[5]
+    yield "measure_book", (data,), size, []
+    for room in (words, words + 3, words - 1):
+        verdict = reference.entry_write_formula(data, room)
+        written = verdict[4] if verdict[0] == "accepted" else []
+        yield "write_formula", (data, room), said("totals", verdict, lambda v, c, w, _: (v, c, w)), [after(room, written)]
+    for room in (segments, segments + 2, segments - 1):
+        borders = bytes(random_borders(rng, book))
+        spoiled = rng.choice((borders, borders, borders[:-1], borders + b"\0", borders[:nodes // 2] + b"\2" + borders[nodes // 2 + 1:]))
+        answer, written = labelled(book, spoiled, room)
+        yield "label_sections", (data, spoiled, room), answer, [after(room, written)]
+    for _ in range(10):
+        train, run = rng.randrange(len(book.trains) + 1), rng.randrange(300)
+        asked = rng.choice((run, run % 20, 2 ** 64 - 1))
+        yield "show_run", (data, train, asked), run_shown(book, train, asked), []
+    count, found = meanings(book)
+    for variable in [0, 1, count, count + 1, 2 ** 64 - 1] + [rng.randrange(count + 9) for _ in range(20)]:
+        yield "explain_variable", (data, variable), (0, 0, *found.get(variable, (NO_VARIABLE, 0, 0, 0))), []
+
+
+def output_question(name, entry, data, second, room):
+    verdict = entry(data, second, room)
+    written = verdict[1] if verdict[0] == "accepted" else b""
+    return name, (data, second, room), said("output", verdict, lambda result: (len(result),)), [after(room, written)]
+
+
+def input_questions(rng, data, book):
+    variables, clauses = reference.formula(book)
+    plan_bytes, words = reference.plan_length(book), reference.word_count(clauses)
+    for assignment in random_assignments(rng, book, 4):
+        yield output_question("check_assignment", reference.entry_check_assignment, data, assignment, plan_bytes + rng.choice((-1, 0, 0, 2)))
+    for plan in random_plans(rng, book, 4):
+        yield output_question("check_plan", reference.entry_check_plan, data, plan, variables + rng.choice((-1, 0, 0, 2)))
+    for refutation in random_refutations(rng, book, 4):
+        lent = [words + rng.choice((-1, 0, 9, 400)), len(clauses) + rng.choice((-1, 0, 3, 90)), variables + rng.choice((0, 0, 2, -1)),
+                variables + rng.choice((0, 0, 2, -1))]
+        verdict = reference.entry_check_refutation(data, refutation, *lent)
+        yield "check_refutation", (data, refutation, *lent), said("verdict", verdict, lambda: ()), [[0] * n for n in lent]
+
+
+def questions(rng, count):
+    for _ in range(count):
+        data = rng.choice((random_book, random_book, damaged_book))(rng)
+        yield from book_questions(rng, data)
+        book, refusal = book_or_refusal(data)
+        if not refusal:
+            yield from input_questions(rng, data, book)
+
+
+def arguments(parser):
+    parser.add_argument("--books", type=int, default=200, metavar="BOOKS", help="how many books (200)")
+    parser.add_argument("--seed", type=int, default=1, metavar="SEED", help="where the random numbers begin (1)")
+
+
+def run(options):
+    agreed, differ = Counter(), 0
+    with tempfile.TemporaryDirectory() as folder:
+        check_header(folder)
+        library = Library(build(), folder)
+        for name, given, answer, outputs in questions(random.Random(options.seed), options.books):
+            found = getattr(library, name)(*given)
+            if found == (answer, outputs):
+                agreed[name] += 1
+                continue
+            differ += 1
+            print(f"{name} {given!r}\n  library   {found[0]}\n  reference {answer}", file=sys.stderr)
+    for name, number in sorted(agreed.items()):
+        print(f"{name:<18}{number:>7}")
+    print(f"{sum(agreed.values())} answers agree, {differ} differ")
+    return 1 if differ else 0
