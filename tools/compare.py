@@ -15,10 +15,10 @@ import sys
 import tempfile
 from collections import Counter
 
-from . import reference
+from . import library, reference
 from .crates import Listed, below
 from .random_books import damaged_book, random_book
-from .random_inputs import random_assignments, random_plans, random_refutations
+from .random_inputs import random_assignments, random_borders, random_plans, random_refutations
 from .repository import ROOT, read_text, write_text
 
 # the most characters of questions in one table: a declaration has a limit of steps
@@ -65,6 +65,31 @@ encoding s p n = answered (checkPlan s p n) λ a. a
 refuting′ : Bytes → Bytes → ℕ → ℕ → ℕ → ℕ → List ℕ
 refuting′ s r w c v t = answered (checkRefutation s r (record { words = w; clauses = c; values = v; trail = t })) λ _. []
 
+measuring : Bytes → List ℕ
+measuring s = answered (measureBook s) λ z.
+    z .intervals ∷ z .nodes ∷ z .freeNodes ∷ z .segments ∷ z .trains ∷ z .variableCount ∷ z .clauseCount ∷ z .wordCount ∷ z .planBytes ∷ []
+
+labelling : Bytes → Bytes → ℕ → List ℕ
+labelling s b n = answered (labelSections s b n) λ l. l
+
+showing : RunAsked → List ℕ
+showing noTrain = 1 ∷ []
+showing (noRun n) = 2 ∷ n ∷ []
+showing (shown n l ds) = 0 ∷ n ∷ l ∷ ds
+
+running : Bytes → ℕ → ℕ → List ℕ
+running s i r = answered (askRun s i r) showing
+
+meant : Meaning → List ℕ
+meant noVariable = 0 ∷ []
+meant (border n) = 1 ∷ 0 ∷ 0 ∷ n ∷ []
+meant (run i t r) = 2 ∷ i ∷ t ∷ r ∷ []
+meant (gone i t) = 3 ∷ i ∷ t ∷ 0 ∷ []
+meant (claim i t s) = 4 ∷ i ∷ t ∷ s ∷ []
+
+meaning′ : Bytes → ℕ → List ℕ
+meaning′ s v = answered (askVariable s v) meant
+
 record Case : Type 0 where
   asked : List ℕ
   answer : List ℕ
@@ -73,7 +98,9 @@ failing : ℕ → List Case → List ℕ
 failing n [] = []
 failing n (c ∷ cs) = only (mathlib.Core.Bool.not (same (c .asked) (c .answer))) (n ∷ []) ++ failing (suc n) cs
 """
-HELPERS = "answered code rows lists grouped words textOf decoding encoding refuting′ failing"
+HELPERS = "answered code rows lists grouped words textOf decoding encoding refuting′ measuring labelling showing running meant meaning′ failing"
+# the constructors that the tables name, by the module that has them
+MAKERS = {"Lists": ["accepted", "refused"], "Library": ["noTrain", "noRun", "shown", "border", "run", "gone", "claim", "noVariable"]}
 
 
 def names_of_specs(specs):
@@ -81,10 +108,9 @@ def names_of_specs(specs):
     bring, unfold = [], []
     for module in re.findall(r"pub mod (\w+)", read_text(os.path.join(specs, "Lib.antt"))):
         text = read_text(os.path.join(specs, module + ".antt"))
-        functions = re.findall(r"^ *unfoldable pub (\S+)", text, re.M)
+        functions = re.findall(r"^ *unfoldable pub (?!use )(\S+)", text, re.M)
         types = re.findall(r"^pub (?:data|record) (\S+)", text, re.M) + re.findall(r"^abbrev pub (Bytes)", text, re.M)
-        makers = ["accepted", "refused"] if module == "Lists" else []
-        bring.append("use Rattle.spec.specs.%s.{%s}" % (module, ", ".join(types + makers + functions)))
+        bring.append("use Rattle.spec.specs.%s.{%s}" % (module, ", ".join(types + MAKERS.get(module, []) + functions)))
         unfold += functions
     return bring, unfold
 
@@ -145,6 +171,22 @@ def book_questions(rng, data):
         for _ in range(2):
             borders = [n for n in range(len(book.nodes)) if rng.random() < 0.4]
             yield "sections", "grouped %s %s" % (row(data), row(borders)), grouped(data, borders)
+        yield from library_questions(rng, data, book)
+
+
+def library_questions(rng, data, book):
+    """What the library asks beside the entry points, of a book that passes."""
+    yield "sizes", "measuring %s" % row(data), list(library.measured(book)[1:])
+    borders, room = bytes(random_borders(rng, book)), len(book.segments) - (rng.random() < 0.1)
+    spoiled = rng.choice((borders, borders, borders[1:], bytes([2]) + borders[1:]))
+    (number, detail, _), labels = library.labelled(book, spoiled, room)
+    yield "labels", "labelling %s %s %d" % (row(data), row(spoiled), room), [number, detail] if number else [0] + labels
+    train, run = rng.randrange(len(book.trains) + 1), rng.choice((0, rng.randrange(30)))
+    _, _, missing, runs, place, length, path = library.run_shown(book, train, run)
+    yield "run", "running %s %d %d" % (row(data), train, run), [0] + ([1], [2, runs], [0, runs, place] + path[:length])[(1, 2, 0).index(missing)]
+    count, found = library.meanings(book)
+    for variable in (0, count + 1, rng.randrange(1, count + 1)):
+        yield "variable", "meaning′ %s %d" % (row(data), variable), [0] + list(found.get(variable, (0,)))
 
 
 def input_questions(rng, data, book, each):

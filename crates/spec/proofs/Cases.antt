@@ -8,20 +8,21 @@ use mathlib.Core.Option.{Option, none, some}
 use lib.ListN.{length, getD, replicate}
 use lib.IntN.{ℤ, pos, negsuc}
 use lib.Dec.{eqb}
-use Rattle.spec.specs.Lists.{Bytes, Verdict, accepted, refused, one, count, upTo, range, each, only, all, any, pick, empty, lastOr, same, has, different, sumTo, firstFault, andThen}
+use Rattle.spec.specs.Lists.{Bytes, Verdict, accepted, refused, one, count, upTo, range, each, only, all, any, pick, empty, lastOr, same, has, different, sumTo, leastFrom, firstFault, andThen}
 use Rattle.spec.specs.Numbers.{littleEndian, number, field, signed, unsigned, digits, decimal, decimalZ}
 use Rattle.spec.specs.Frames.{frame, payloadLength, kindField, payloadOf, behind, cutShort, kindNumber, stepKind, kindOrder, findKind, rankIn, rank, lengthFits, stepLengthFits}
 use Rattle.spec.specs.Book.{Book, noBook, nodeKindAt, segmentAt, trainAt, callsOf, noCall, goalOf, deniesBorder, forcesBorder, greatestNodeKind, touches, shareNode, segmentOf, startNode, endNode, joinIs, joined, lengthInSegments, speedInSegments}
 use Rattle.spec.specs.Runs.{leadsTo, linked, isPath, directed, goesOn, extend, pathsOf, runsOf, startPlace, endPlace, contains}
 use Rattle.spec.specs.Read.{headOf, segmentIn, joinIn, trainIn, callIn, between, headFits, segmentFits, joinFits, joinRepeats, trainFits, reachFits, placeFits, callFits, someHas, mayDivide, contentFaults, add, readingStart, isHead, isEnd, unknownKind, outOfOrder, kindFaults, frameFaults, addFound, pastFrame, bookFaults, refuseOr, frameReadAt, readFrame, readFrom, readBook}
 use Rattle.spec.specs.Instance.{Instance, placeServes, mayLeave, trainLength, runAt, callAt, compile, runLists, instanceOf, inWindow, servedAtDeparture}
-use Rattle.spec.specs.Sections.{neighbours, togetherBelow, together, shareSection}
+use Rattle.spec.specs.Sections.{neighbours, togetherBelow, together, sectionLabels, shareSection}
 use Rattle.spec.specs.Plan.{isAbsent, isGone, runs, ifRun, ofRun, moveCode, moveOf, bit, planBytes, planLength, moveAt, planOf, isBit, isMove, planFits, rule1, absentBefore, departs, rule2, leavesRightly, rule3, runsOn, rule4, keepsCalls, servedBy, rule5, rule6, ruleFaults, brokenRule, keepsRules}
 use Rattle.spec.specs.Extra.{extraVariables, extraClauses, extraCondition, extraValues}
 use Rattle.spec.specs.Formula.{width, firstVar, base, borderVar, runVar, goneVar, claimVar, ownVariables, variables, clausesB, clausesC, clausesI, clausesD, followersE, clauseE, clausesE, serversF, claimsG, clausesG, clausesH, familyA, familyB, familyC, familyD, familyE, familyF, familyG, familyH, familyI, formula, wordsOf, dimacsOpening, dimacsLine, dimacsText}
 use Rattle.spec.specs.Assignment.{deny, truth, isYes, valueOf, isTrue, holds, satisfies, firstFalse, assigned, assignmentFits, firstRun, chosen, decoded, decode, claims, encode}
 use Rattle.spec.specs.Refutation.{ProofStep, Lent, stepPayload, fileOf, literalCount, hintCount, stepIn, variableOf, risesFrom, literalsFit, hintsFit, makeTrue, makeFalse, refuting, isNo, isOpen, clauseAt, notFalse, hinted, goThrough, followsRule, clausesFit, isBad, stepFaults, stepDetail, checkSteps, checkFile}
 use Rattle.spec.specs.Entry.{demand, findNone, readInstance, formulaWritten, writtenFor, writeFormula, formulaText, judgeAssignment, decodedFor, checkAssignment, judgePlan, encodedFor, checkPlan, formulaFits, refutedFor, checkRefutation}
+use Rattle.spec.specs.Library.{RunAsked, noTrain, noRun, shown, Meaning, border, run, gone, claim, noVariable, freeNodesOf, sizesOf, measureBook, bordersFit, labelledFor, labelSections, runAmong, runAsked, askRun, meaningsIn, meanings, meaningOf, askVariable}
 use Rattle.spec.specs.Programs.{sliceBytes, sliceOf, programLent, unlessLong, isLong, acceptedLine, refusalLine, printed, printFormula, printAssignment, printPlan, printRefutation}
 
 -- An answer: rows of numbers, a text or a clause, or a refusal's number and detail.
@@ -161,6 +162,34 @@ decodes s a n = answered (checkAssignment s a n) text
 encodes : Bytes → Bytes → ℕ → Answer
 encodes s p n = answered (checkPlan s p n) text
 
+-- what the library is asked beside the entry points
+sizes : Bytes → Answer
+sizes s = answered (measureBook s) λ z.
+    rows ((z .intervals ∷ z .nodes ∷ z .freeNodes ∷ z .segments ∷ z .trains ∷ z .variableCount ∷ z .clauseCount ∷ z .wordCount ∷ z .planBytes ∷ []) ∷ [])
+
+labels : Bytes → Bytes → ℕ → Answer
+labels s borders n = answered (labelSections s borders n) text
+
+-- no train; no run, and how many there are; how many there are, l and the path
+runShown : RunAsked → List (List ℕ)
+runShown noTrain = []
+runShown (noRun n) = (n ∷ []) ∷ []
+runShown (shown n l ds) = (n ∷ l ∷ []) ∷ ds ∷ []
+
+runNumber : Bytes → ℕ → ℕ → Answer
+runNumber s i r = answered (askRun s i r) λ x. rows (runShown x)
+
+-- by letters: a node's border, a run, gone, a claim
+meant : Meaning → List (List ℕ)
+meant (border n) = (98 ∷ n ∷ []) ∷ []
+meant (run i t r) = (114 ∷ i ∷ t ∷ r ∷ []) ∷ []
+meant (gone i t) = (103 ∷ i ∷ t ∷ []) ∷ []
+meant (claim i t s) = (99 ∷ i ∷ t ∷ s ∷ []) ∷ []
+meant noVariable = []
+
+variableNumber : Bytes → ℕ → Answer
+variableNumber s v = answered (askVariable s v) λ m. rows (meant m)
+
 -- ---- the table
 
 pub starred : List Case
@@ -251,21 +280,45 @@ further =
     ∷ record { asked = clauseNumber 1 dividedBook; answer = clause (one (pos 1)) }
     ∷ []
 
--- both tables
+-- What the library answers beside the entry points. The answers are those of the reference.
+pub asked : List Case
+asked =
+    -- of three nodes one is of kind 1
+    record { asked = sizes dividedBook; answer = rows ((1 ∷ 3 ∷ 1 ∷ 2 ∷ 1 ∷ 10 ∷ 21 ∷ 60 ∷ 5 ∷ []) ∷ []) }
+    -- a section's label is its least segment; 12 comes before 15, which a byte and a length can break
+    ∷ record { asked = labels (tripleBook 3) (0 ∷ 1 ∷ 0 ∷ 0 ∷ []) 3; answer = text (0 ∷ 1 ∷ 1 ∷ []) }
+    ∷ record { asked = labels (tripleBook 3) (0 ∷ 2 ∷ 0 ∷ 0 ∷ []) 2; answer = refusal 12 0 }
+    ∷ record { asked = labels (tripleBook 3) (0 ∷ 2 ∷ 0 ∷ 0 ∷ []) 3; answer = refusal 15 0 }
+    ∷ record { asked = labels (tripleBook 3) (0 ∷ 1 ∷ 0 ∷ []) 3; answer = refusal 15 0 }
+    -- a train of l = 2 has two runs
+    ∷ record { asked = runNumber (pairBook joinFrame 101 36 (0 ∷ 2 ∷ [])) 0 1; answer = rows ((2 ∷ 2 ∷ []) ∷ (3 ∷ 1 ∷ []) ∷ []) }
+    ∷ record { asked = runNumber (pairBook joinFrame 101 36 (0 ∷ 2 ∷ [])) 0 2; answer = rows ((2 ∷ []) ∷ []) }
+    ∷ record { asked = runNumber (pairBook joinFrame 101 36 (0 ∷ 2 ∷ [])) 1 0; answer = rows [] }
+    -- three borders, four runs, gone, two claims
+    ∷ record { asked = variableNumber dividedBook 0; answer = rows [] }
+    ∷ record { asked = variableNumber dividedBook 3; answer = rows ((98 ∷ 2 ∷ []) ∷ []) }
+    ∷ record { asked = variableNumber dividedBook 7; answer = rows ((114 ∷ 0 ∷ 0 ∷ 3 ∷ []) ∷ []) }
+    ∷ record { asked = variableNumber dividedBook 8; answer = rows ((103 ∷ 0 ∷ 0 ∷ []) ∷ []) }
+    ∷ record { asked = variableNumber dividedBook 10; answer = rows ((99 ∷ 0 ∷ 0 ∷ 1 ∷ []) ∷ []) }
+    ∷ record { asked = variableNumber dividedBook 11; answer = rows [] }
+    ∷ []
+
+-- the three tables
 pub table : List Case
-table = starred ++ further
+table = starred ++ (further ++ asked)
 
 pub cases : map (λ c. c .asked) table ≡ map (λ c. c .answer) table
 unfolding
-    table starred further answered bookL headWith headFrame trainFrom callOf passingBook bookN callingBook dividedBook totalsOf decodes encodes nodeFrame segmentFrame trainFrame callFrame endFrame pairBook joinFrame bookM tripleBook reach runList sections oneSection clauseNumber emptyStep refuted
-    count upTo range each only all any pick empty lastOr same has different sumTo firstFault andThen
+    table starred further asked answered sizes labels runShown runNumber meant variableNumber bookL headWith headFrame trainFrom callOf passingBook bookN callingBook dividedBook totalsOf decodes encodes nodeFrame segmentFrame trainFrame callFrame endFrame pairBook joinFrame bookM tripleBook reach runList sections oneSection clauseNumber emptyStep refuted
+    count upTo range each only all any pick empty lastOr same has different sumTo leastFrom firstFault andThen
     littleEndian number field signed unsigned digits decimal decimalZ
     frame payloadLength kindField payloadOf behind cutShort kindNumber stepKind kindOrder findKind rankIn rank lengthFits stepLengthFits
     noBook nodeKindAt segmentAt trainAt callsOf noCall goalOf deniesBorder forcesBorder greatestNodeKind touches shareNode segmentOf startNode endNode joinIs joined lengthInSegments speedInSegments
     leadsTo linked isPath directed goesOn extend pathsOf runsOf startPlace endPlace contains
     headOf segmentIn joinIn trainIn callIn between headFits segmentFits joinFits joinRepeats trainFits reachFits placeFits callFits someHas mayDivide contentFaults add readingStart isHead isEnd unknownKind outOfOrder kindFaults frameFaults addFound pastFrame bookFaults refuseOr frameReadAt readFrame readFrom readBook
     placeServes mayLeave trainLength runAt callAt compile runLists instanceOf inWindow servedAtDeparture
-    neighbours togetherBelow together shareSection
+    neighbours togetherBelow together sectionLabels shareSection
+    freeNodesOf sizesOf measureBook bordersFit labelledFor labelSections runAmong runAsked askRun meaningsIn meanings meaningOf askVariable
     isAbsent isGone runs ifRun ofRun moveCode moveOf bit planBytes planLength moveAt planOf isBit isMove planFits rule1 absentBefore departs rule2 leavesRightly rule3 runsOn rule4 keepsCalls servedBy rule5 rule6 ruleFaults brokenRule keepsRules
     extraVariables extraClauses extraCondition extraValues
     width firstVar base borderVar runVar goneVar claimVar ownVariables variables clausesB clausesC clausesI clausesD followersE clauseE clausesE serversF claimsG clausesG clausesH familyA familyB familyC familyD familyE familyF familyG familyH familyI formula wordsOf dimacsOpening dimacsLine dimacsText
