@@ -113,6 +113,12 @@ passingBook first last =
 bookN : Bytes
 bookN = passingBook 1 2
 
+-- Two trains that face each other over the same two segments, each with its call where the other stands
+facingBook : Bytes
+facingBook =
+    headFrame ++ nodeFrame 0 ++ nodeFrame 1 ++ nodeFrame 0 ++ segmentFrame 0 1 ++ segmentFrame 1 2 ++ joinFrame
+    ++ trainFrame 80 36 (0 ∷ []) ++ trainFrame 80 36 (3 ∷ []) ++ callOf 0 1 0 1 ++ callOf 1 0 0 1 ++ endFrame
+
 -- One train with two calls, on segment 0 and, its goal, on segment 1
 callingBook : Bytes
 callingBook =
@@ -276,6 +282,8 @@ further =
       asked = decodes dividedBook (1 ∷ 0 ∷ 0 ∷ 1 ∷ 0 ∷ 0 ∷ 0 ∷ 0 ∷ 1 ∷ 1 ∷ []) 5;
       answer = text (1 ∷ 0 ∷ 0 ∷ 0 ∷ 0 ∷ []);
     }
+    -- "Comparing trains only at whole times lets two swap places"
+    ∷ record { asked = encodes facingBook (0 ∷ 1 ∷ 0 ∷ 4 ∷ 0 ∷ 5 ∷ 0 ∷ []) 99; answer = refusal 16 6 }
     -- a node of kind 2 always has a border
     ∷ record { asked = clauseNumber 1 dividedBook; answer = clause (one (pos 1)) }
     ∷ []
@@ -309,7 +317,7 @@ table = starred ++ (further ++ asked)
 
 pub cases : map (λ c. c .asked) table ≡ map (λ c. c .answer) table
 unfolding
-    table starred further asked answered sizes labels runShown runNumber meant variableNumber bookL headWith headFrame trainFrom callOf passingBook bookN callingBook dividedBook totalsOf decodes encodes nodeFrame segmentFrame trainFrame callFrame endFrame pairBook joinFrame bookM tripleBook reach runList sections oneSection clauseNumber emptyStep refuted
+    table starred further asked answered sizes labels runShown runNumber meant variableNumber bookL headWith headFrame trainFrom callOf passingBook bookN facingBook callingBook dividedBook totalsOf decodes encodes nodeFrame segmentFrame trainFrame callFrame endFrame pairBook joinFrame bookM tripleBook reach runList sections oneSection clauseNumber emptyStep refuted
     count upTo range each only all any pick empty lastOr same has different sumTo leastFrom firstFault andThen
     littleEndian number field signed unsigned digits decimal decimalZ
     frame payloadLength kindField payloadOf behind cutShort kindNumber stepKind kindOrder findKind rankIn rank lengthFits stepLengthFits
