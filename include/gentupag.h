@@ -1,14 +1,26 @@
 /* The proved core as a library: books, formulas, assignments, plans and refutations as document 01 has them, and what
  * drawings and tools ask of a book. docs/LIBRARY.md explains each function; docs/FORMATS.md has the files and the refusals.
  *
- * A slice is a pointer and a length in elements. Every answer begins with `number` and `detail`: 0 and 0, or the refusal's.
- * Beside a refusal every other field is 0 and every output is as it was. No function keeps or allocates anything.
+ * A slice is a pointer and a length in elements; where the length is 0 the pointer may be null. The caller owes this: each pointer
+ * is good for its length and aligned for its type, and an output or a working slice overlaps no other slice of the call (inputs may
+ * overlap each other). In place is not allowed: a check whose slices overlap may answer anything.
+ *
+ * Every answer begins with `number` and `detail`: 0 and 0, or the refusal's. Every function first reads the book, and refuses it by
+ * 1 to 11; further refusals are named at each. Beside a refusal every other field is 0 and every output (`out`) is as it was. No
+ * function keeps or allocates anything.
  */
 #ifndef GENTUPAG_H
 #define GENTUPAG_H
 
 #include <stddef.h>
 #include <stdint.h>
+
+/* marks a slice that overlaps no other one of the call */
+#if !defined __cplusplus && defined __STDC_VERSION__ && __STDC_VERSION__ >= 199901L
+#define GENTUPAG_APART restrict
+#else
+#define GENTUPAG_APART
+#endif
 
 #ifdef __cplusplus
 extern "C" {
@@ -41,7 +53,8 @@ typedef struct {
 enum { GENTUPAG_NOTHING_MISSING = 0, GENTUPAG_NO_TRAIN = 1, GENTUPAG_NO_RUN = 2 };
 
 /* runs: how many runs the train has; place: how many segments it stands on; the run's directed segments are the first
- * `length` bytes of `path`, zeros stand behind. The train begins at the first `place` of them and ends at the last. */
+ * `length` bytes of `path`, zeros stand behind. The train begins at the first `place` of them and ends at the last. Where there is
+ * no such train all of these are 0, and where the train has no such run all but `runs`. */
 typedef struct {
     size_t number, detail;
     size_t missing, runs, place, length;
@@ -57,40 +70,43 @@ enum {
     GENTUPAG_IS_CLAIM = 4
 };
 
-/* item: the node of a border, the number of a run, the segment of a claim */
+/* item: the node of a border, the number of a run, the segment of a claim. A border has no train and no interval, gone has no item:
+ * these are 0. */
 typedef struct {
     size_t number, detail;
     size_t kind, train, interval, item;
 } gentupag_variable;
 
-/* Whether the bytes are a book: 1 to 11. */
+/* Whether the bytes are a book. */
 gentupag_verdict gentupag_read_book(const uint8_t *book, size_t book_length);
 
 /* What a book counts, and how much its outputs need; nothing is written. */
 gentupag_sizes gentupag_measure_book(const uint8_t *book, size_t book_length);
 
-/* The formula's words, each clause closed by 0: 12. */
-gentupag_totals gentupag_write_formula(const uint8_t *book, size_t book_length, int32_t *out, size_t out_length);
+/* The formula's words, each clause closed by 0. Refuses by 12, too short an output. */
+gentupag_totals gentupag_write_formula(const uint8_t *book, size_t book_length, int32_t *GENTUPAG_APART out, size_t out_length);
 
-/* An assignment's verdict, and its plan: 12 to 14. */
+/* An assignment's verdict, and its plan. Refuses by 12, 13, 14. */
 gentupag_output gentupag_check_assignment(const uint8_t *book, size_t book_length, const uint8_t *assignment,
-                                          size_t assignment_length, uint8_t *out, size_t out_length);
+                                          size_t assignment_length, uint8_t *GENTUPAG_APART out, size_t out_length);
 
-/* A plan's verdict, and its assignment: 12, 15, 16. */
+/* A plan's verdict, and its assignment. Refuses by 12, 15, 16. */
 gentupag_output gentupag_check_plan(const uint8_t *book, size_t book_length, const uint8_t *plan, size_t plan_length,
-                                    uint8_t *out, size_t out_length);
+                                    uint8_t *GENTUPAG_APART out, size_t out_length);
 
-/* A refutation's verdict: 12, 17 to 21. `words` and `clauses` hold the formula and the steps, `values` and `trail` an entry a
- * variable; all four are zero after the call, whatever they held and whatever the verdict is. */
+/* A refutation's verdict. Refuses by 12 and 17 to 21. The four working slices: `words` and `clauses` hold the formula and the steps,
+ * `values` and `trail` an entry a variable. All four are zero after the call, whatever they held and whatever the verdict is. */
 gentupag_verdict gentupag_check_refutation(const uint8_t *book, size_t book_length, const uint8_t *refutation,
-                                           size_t refutation_length, int32_t *words, size_t words_length, size_t *clauses,
-                                           size_t clauses_length, uint8_t *values, size_t values_length, size_t *trail,
-                                           size_t trail_length);
+                                           size_t refutation_length, int32_t *GENTUPAG_APART words, size_t words_length,
+                                           size_t *GENTUPAG_APART clauses, size_t clauses_length,
+                                           uint8_t *GENTUPAG_APART values, size_t values_length,
+                                           size_t *GENTUPAG_APART trail, size_t trail_length);
 
-/* The label of each segment's section, which is the section's least segment, under a set of borders, a byte 0 or 1 a node:
- * 12, 15. Two segments are in one section exactly where their labels are equal. */
+/* The label of each segment's section, which is the section's least segment, under a set of borders, a byte 0 or 1 a node. Refuses by
+ * 12, then by 15, a wrong length or byte. The nodes' kinds are not asked. Two segments are in one section exactly where their labels
+ * are equal. */
 gentupag_output gentupag_label_sections(const uint8_t *book, size_t book_length, const uint8_t *borders,
-                                        size_t borders_length, uint8_t *out, size_t out_length);
+                                        size_t borders_length, uint8_t *GENTUPAG_APART out, size_t out_length);
 
 /* Run `run` of train `train`, both counted from 0. */
 gentupag_run gentupag_show_run(const uint8_t *book, size_t book_length, size_t train, size_t run);
@@ -98,6 +114,7 @@ gentupag_run gentupag_show_run(const uint8_t *book, size_t book_length, size_t t
 /* What a variable stands for, counted from 1 as in the formula's text. */
 gentupag_variable gentupag_explain_variable(const uint8_t *book, size_t book_length, size_t variable);
 
+#undef GENTUPAG_APART
 #ifdef __cplusplus
 }
 #endif

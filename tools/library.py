@@ -1,6 +1,6 @@
 """Calls the library from Python and holds it against the reference: every function on BOOKS random books from SEED, some of them damaged,
-with good and spoiled inputs and outputs that are too short. The archive is made by `rt staticlib gentupag`, and is linked into a shared
-object for this. The structs here are those of include/gentupag.h, whose sizes a C compiler is asked for.
+with good and spoiled inputs and outputs that are too short. It makes the archive (`rt staticlib gentupag`, which proves what is not proved
+yet) and links it into a shared object for this. That include/gentupag.h has the same structs, numbers and functions is asked of a C compiler.
 
 Exit status: 0 none differs, 1 some differ, 2 wrong usage.
 """
@@ -15,7 +15,7 @@ from collections import Counter
 from . import reference
 from .random_books import damaged_book, random_book
 from .random_inputs import random_assignments, random_borders, random_plans, random_refutations
-from .repository import ROOT, Stop
+from .repository import ROOT, Stop, write_text
 
 WORD = ctypes.c_size_t
 
@@ -42,7 +42,7 @@ FUNCTIONS = {
     "explain_variable": ("variable", "Bu"),
 }
 
-# What stands for a kind of variable.
+# what `kind` says of a variable
 NO_VARIABLE, IS_BORDER, IS_RUN, IS_GONE, IS_CLAIM = range(5)
 ELEMENTS = {"B": ctypes.c_uint8, "b": ctypes.c_uint8, "w": ctypes.c_int32, "n": WORD}
 # what an output holds before a call
@@ -103,19 +103,44 @@ def build():
     return os.path.join(ROOT, "target", "staticlib", "libgentupag.a")
 
 
-def check_header(folder):
-    """Whether a C compiler gives the header's structs the sizes that they have here."""
-    source = os.path.join(folder, "sizes.c")
-    with open(source, "w", encoding="utf-8") as file:
-        file.write('#include "gentupag.h"\n#include <stdio.h>\nint main(void) {\n')
-        file.writelines(f'printf("%zu\\n", sizeof(gentupag_{name}));\n' for name in STRUCTS)
-        file.write("return 0; }\n")
-    program = os.path.join(folder, "sizes")
-    subprocess.run(["gcc", "-Wall", "-Wextra", "-Werror", "-I", os.path.join(ROOT, "include"), source, "-o", program], check=True)
-    said = subprocess.run([program], capture_output=True, text=True, check=True).stdout.split()
-    wanted = [str(ctypes.sizeof(TYPES[name])) for name in STRUCTS]
-    if said != wanted:
-        raise Stop(f"the header's structs have the sizes {said}, not {wanted}")
+# The header's numbers: `missing` of a run and `kind` of a variable.
+NUMBERS = {"NOTHING_MISSING": 0, "NO_TRAIN": 1, "NO_RUN": 2, "NO_VARIABLE": 0, "IS_BORDER": 1, "IS_RUN": 2, "IS_GONE": 3, "IS_CLAIM": 4}
+C_TYPES = {"B": "const uint8_t *, size_t", "b": "uint8_t *, size_t", "w": "int32_t *, size_t", "n": "size_t *, size_t", "u": "size_t"}
+
+
+def header_source():
+    """A C program that prints where each field of each struct lies, and the numbers. It only compiles where the functions have their types."""
+    lines = ['#include "gentupag.h"', "#include <stdio.h>"]
+    for name, (answer, kinds) in FUNCTIONS.items():
+        kind = f"gentupag_{answer}({', '.join(C_TYPES[k] for k in kinds)})"
+        lines.append(f'_Static_assert(__builtin_types_compatible_p(__typeof__(gentupag_{name}), {kind}), "{name}");')
+    lines.append("int main(void) {")
+    for name, kind in TYPES.items():
+        lines.append(f'printf("%zu\\n", sizeof(gentupag_{name}));')
+        lines += [f'printf("%zu\\n", offsetof(gentupag_{name}, {field}));' for field, _ in kind._fields_]
+    lines += [f'printf("%d\\n", GENTUPAG_{name});' for name in NUMBERS]
+    return "\n".join(lines + ["return 0; }", ""])
+
+
+def header_numbers():
+    """What that program has to print."""
+    found = []
+    for kind in TYPES.values():
+        found.append(ctypes.sizeof(kind))
+        found += [getattr(kind, field).offset for field, _ in kind._fields_]
+    return found + list(NUMBERS.values())
+
+
+def check_header(folder, include):
+    """Whether a C compiler reads the header as the structs and functions are taken here."""
+    source, program = os.path.join(folder, "header.c"), os.path.join(folder, "header")
+    write_text(source, header_source())
+    made = subprocess.run(["gcc", "-Wall", "-Wextra", "-Werror", "-I", include, source, "-o", program], capture_output=True, text=True)
+    if made.returncode:
+        raise Stop("include/gentupag.h has other functions than the library, or does not compile:\n" + made.stderr)
+    printed = subprocess.run([program], capture_output=True, text=True, check=True).stdout.split()
+    if [int(n) for n in printed] != header_numbers():
+        raise Stop("include/gentupag.h has other fields or numbers than the library")
 
 
 # ---- what the reference says, in the same form
@@ -255,7 +280,7 @@ def arguments(parser):
 def run(options):
     agreed, differ = Counter(), 0
     with tempfile.TemporaryDirectory() as folder:
-        check_header(folder)
+        check_header(folder, os.path.join(ROOT, "include"))
         library = Library(build(), folder)
         for name, given, answer, outputs in questions(random.Random(options.seed), options.books):
             found = getattr(library, name)(*given)

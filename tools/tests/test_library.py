@@ -1,0 +1,59 @@
+"""The library's comparison: what the header has to say, and what the reference answers in the library's form."""
+import os
+import tempfile
+import unittest
+
+from .. import library, reference
+from ..books import Spec, spec_bytes
+from ..repository import ROOT, Stop, read_text, write_text
+
+HEADER = os.path.join(ROOT, "include", "gentupag.h")
+
+
+def book():
+    """Segments 0 and 1 of one TTD, joined at node 1, which may have a border; a train of one segment."""
+    spec = Spec()
+    spec.nodes, spec.segments, spec.joins = [0, 1, 2], [(0, 1, 0), (1, 2, 0)], [(1, 0, 1)]
+    spec.trains, spec.calls = [(80, 36, 0, [0])], [(0, 0, 0, 1)]
+    return reference.read_book(spec_bytes(spec))
+
+
+class Headers(unittest.TestCase):
+    def checked(self, old, new):
+        with tempfile.TemporaryDirectory() as folder:
+            text = read_text(HEADER)
+            self.assertIn(old, text)
+            write_text(os.path.join(folder, "gentupag.h"), text.replace(old, new))
+            library.check_header(folder, folder)
+
+    def test_header_is_the_library(self):
+        self.checked("", "")
+
+    def test_other_headers(self):
+        for old, new in (("size_t variables, clauses, words, plan_bytes;", "size_t words, clauses, variables, plan_bytes;"),
+                         ("GENTUPAG_IS_GONE = 3", "GENTUPAG_IS_GONE = 5"),
+                         ("size_t book_length, size_t train, size_t run);", "size_t book_length, size_t train);"),
+                         ("uint8_t path[16];", "uint8_t path[8];")):
+            with self.subTest(new=new), self.assertRaises(Stop):
+                self.checked(old, new)
+
+
+class Answers(unittest.TestCase):
+    def test_sizes(self):
+        self.assertEqual(library.measured(book())[2:7], (1, 3, 1, 2, 1))
+
+    def test_labels(self):
+        for borders, room, answer, labels in (([0, 0, 0], 2, (0, 0, 2), [0, 0]), ([0, 1, 0], 3, (0, 0, 2), [0, 1]),
+                                              ([0, 2, 0], 1, (12, 0, 0), []), ([0, 2, 0], 2, (15, 0, 0), []), ([0, 1], 2, (15, 0, 0), [])):
+            self.assertEqual(library.labelled(book(), borders, room), (answer, labels))
+
+    def test_runs(self):
+        self.assertEqual(library.run_shown(book(), 0, 5)[2:], (0, 6, 1, 2, [3, 1] + [0] * 14))
+        self.assertEqual(library.run_shown(book(), 0, 6)[2:5], (2, 6, 0))
+        self.assertEqual(library.run_shown(book(), 1, 0)[2:5], (1, 0, 0))
+
+    def test_meanings(self):
+        count, found = library.meanings(book())
+        self.assertEqual(sorted(found), list(range(1, count + 1)))
+        self.assertEqual([found[v] for v in (2, 4, 10, 12)],
+                         [(library.IS_BORDER, 0, 0, 1), (library.IS_RUN, 0, 0, 0), (library.IS_GONE, 0, 0, 0), (library.IS_CLAIM, 0, 0, 1)])
