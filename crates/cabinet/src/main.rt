@@ -13,9 +13,9 @@ use commands::Command;
 use commands::named;
 use libc::STDERR_FILENO;
 use libc::STDIN_FILENO;
-use printing::print_formula_from;
-use verdicts::Check;
-use verdicts::judge_files;
+use programs::printing::print_formula_from;
+use programs::verdicts::Check;
+use programs::verdicts::judge_files;
 
 fn complain(message: &[u8]) {
     io::write_all(STDERR_FILENO, message);

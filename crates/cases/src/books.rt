@@ -1,17 +1,17 @@
 // What a book says: its counts, and the runs of its trains.
 use libc::STDOUT_FILENO;
 use model::Book;
-use reading::Answer;
-use reading::read_book;
-use tables::ALL_BYTES;
-use tables::ALL_RUNS;
-use tables::chain_trains;
-use tables::fill_runs;
-use track::wide;
+use network::track::wide;
+use reader::reading::Answer;
+use reader::reading::read_book;
+use run_tables::tables::ALL_BYTES;
+use run_tables::tables::ALL_RUNS;
+use run_tables::tables::chain_trains;
+use run_tables::tables::fill_runs;
 ghost use mathlib.Core.Path.{_≡_};
 ghost use Prim.Native.Nat.{_<_};
 ghost use lib.ListN.{length};
-ghost use Rattle.tables.specs.Tables.{Passed};
+ghost use Rattle.run_tables.specs.Tables.{Passed};
 
 // A number in decimal, and a byte behind it.
 fn print_number(n: usize, end: u8) {

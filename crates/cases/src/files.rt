@@ -1,11 +1,11 @@
 // The commands' own code on stored files: names, lengths, and results that are written or not. Each prints
 // what the command prints, then the bytes of the file that has the result's name by then, on a line.
 use libc::STDOUT_FILENO;
-use printing::load_from;
-use printing::print;
-use printing::print_formula_from;
-use verdicts::Check;
-use verdicts::judge_files;
+use programs::printing::load_from;
+use programs::printing::print;
+use programs::printing::print_formula_from;
+use programs::verdicts::Check;
+use programs::verdicts::judge_files;
 
 fn print_file(name: &[u8]) {
     let fd = os::open_read(name);

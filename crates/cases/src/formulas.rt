@@ -1,12 +1,12 @@
 // A book's formula, as its text or as a digest of it.
 use crate::lent::lent;
-use dimacs::put_words;
 use libc::STDOUT_FILENO;
-use printing::Opened;
-use printing::open_text;
-use printing::print;
-use printing::print_words;
-use track::wide;
+use network::track::wide;
+use programs::dimacs::put_words;
+use programs::printing::Opened;
+use programs::printing::open_text;
+use programs::printing::print;
+use programs::printing::print_words;
 ghost use mathlib.Core.Path.{_≡_};
 ghost use Prim.Native.Nat.{_≤_, _<_};
 ghost use lib.ListN.{length};

@@ -1,11 +1,11 @@
 // The verdicts on assignments, plans and refutations. What is lent holds something already.
 use crate::lent::lent;
 use libc::STDOUT_FILENO;
-use printing::print;
-use verdicts::Check;
-use verdicts::Said;
-use verdicts::refutation_text;
-use verdicts::verdict_text;
+use programs::printing::print;
+use programs::verdicts::Check;
+use programs::verdicts::Said;
+use programs::verdicts::refutation_text;
+use programs::verdicts::verdict_text;
 ghost use mathlib.Core.Path.{_≡_};
 ghost use lib.ListN.{length};
 

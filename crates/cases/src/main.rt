@@ -15,8 +15,8 @@ mod judging;
 mod lent;
 
 use libc::STDOUT_FILENO;
-use rows::number_at;
-use verdicts::Check;
+use programs::verdicts::Check;
+use refutation_file::rows::number_at;
 
 fn answer(question: u8, first: &[u8], second: &[u8], third: &[u8]) {
     match question {

@@ -16,9 +16,9 @@ use Rattle.spec.specs.Entry.{demand, overwrite, written, judgeAssignment, judge
 use Rattle.demands.proofs.Encoding.{length-plan, length-encode}
 use Rattle.demands.proofs.Entries.{plan-iff}
 use Rattle.demands.proofs.Extra.{extra-length}
-use Rattle.reading.specs.declared.Answer.{Answer}
-use Rattle.reading.specs.declared.Answer.the-variants as judged
-use Rattle.reading.specs.BookAnswers.{answerOf}
+use Rattle.reader.specs.declared.reading.Answer.{Answer}
+use Rattle.reader.specs.declared.reading.Answer.the-variants as judged
+use Rattle.reader.specs.BookAnswers.{answerOf}
 use Rattle.checking.specs.declared.OutputAnswer.{OutputAnswer}
 use Rattle.checking.specs.declared.OutputAnswer.the-variants.{Wrote, Refused}
 use Rattle.checking.specs.OutputAnswers.{outputAnswer}

@@ -2,23 +2,23 @@
 // an assignment and decodes it; `check_plan` takes any bytes as a book and as a plan and writes it as
 // an assignment. Each answers accepted, with its output written, or one numbered refusal, with the
 // output as it was. Assumes nothing.
-use assignments::judge_assignment;
-use decoding::decode;
-use encoding::encode;
-use meets::MEET_BYTES;
-use meets::list_meets;
+use formula::judging::judge_assignment;
+use layout::moves::plan_length;
+use layout::numbering::variable_count;
 use model::Book;
 use model::MAX_SEGMENTS;
-use moves::plan_length;
-use numbering::variable_count;
-use plans::judge_plan;
-use reading::Answer;
-use reading::read_book;
-use sections::label_sections;
-use tables::ALL_BYTES;
-use tables::ALL_RUNS;
-use tables::chain_trains;
-use tables::fill_runs;
+use plan_coding::decoding::decode;
+use plan_coding::encoding::encode;
+use plan_rules::judging::judge_plan;
+use reader::reading::Answer;
+use reader::reading::read_book;
+use run_tables::tables::ALL_BYTES;
+use run_tables::tables::ALL_RUNS;
+use run_tables::tables::chain_trains;
+use run_tables::tables::fill_runs;
+use sections::labels::label_sections;
+use sections::meets::MEET_BYTES;
+use sections::meets::list_meets;
 ghost use mathlib.Core.Path.{_≡_};
 ghost use Prim.Native.Nat.{_≤_};
 ghost use lib.ListN.{length};
@@ -29,9 +29,9 @@ ghost use Rattle.spec.specs.Formula.{variables};
 ghost use Rattle.spec.specs.Assignment as assignment;
 ghost use Rattle.spec.specs.Held.{held};
 ghost use Rattle.spec.specs.Entry.{overwrite, written, decodedFor, encodedFor, checkAssignment, checkPlan, planOutput, assignmentOutput};
-ghost use Rattle.meets.specs.Meets.{MeetsReady};
-ghost use Rattle.tables.specs.Tables.{Passed};
-ghost use Rattle.tables.specs.Ready.{RunsReady, ChainsReady};
+ghost use Rattle.sections.specs.Meets.{MeetsReady};
+ghost use Rattle.run_tables.specs.Tables.{Passed};
+ghost use Rattle.run_tables.specs.Ready.{RunsReady, ChainsReady};
 ghost use Rattle.checking.specs.OutputAnswers.{outputAnswer};
 
 // Accepted, with so many bytes of the output written, or a refusal's number and detail.

@@ -1,5 +1,9 @@
+pub mod Rest
+pub mod Meeting
+pub mod Chain
 pub mod Shapes
 pub mod Size
 pub mod Trains
 pub mod Totals
 pub mod Groups
+pub mod Judged

@@ -10,7 +10,7 @@ use Rattle.spec.specs.Instance.{Instance}
 use Rattle.spec.specs.Formula.{Clause, not′, width, base, claimVar, clausesB, clausesI, clausesD, clausesE, clausesG, clausesH, familyB, familyC, familyD, familyE, familyF, familyG, familyH, familyI}
 use Rattle.laws.proofs.Parts.{each-mem-same, each-same, map-same}
 use Rattle.clauses.proofs.Turns.{upTo-range, range-next, range-end}
-use Rattle.formula.specs.declared.Family.the-variants.{B, C, D, E, G, H}
+use Rattle.formula.specs.declared.walk.Family.the-variants.{B, C, D, E, G, H}
 use Rattle.formula.specs.Families.{trainRows, familyRows, callRuns, callRows, pairsBehind}
 
 module _ (I : Instance) where

@@ -15,10 +15,10 @@ use Rattle.laws.proofs.Tests.{upTo-mem}
 use Rattle.laws.proofs.Parts.{length-count, length-upTo}
 use Rattle.clauses.specs.Walked.{most}
 use Rattle.demands.proofs.Words.{words-append}
-use Rattle.formula.specs.declared.Family.{Family}
-use Rattle.formula.specs.declared.Family.the-variants.{B, C, D, E, G, H}
+use Rattle.formula.specs.declared.walk.Family.{Family}
+use Rattle.formula.specs.declared.walk.Family.the-variants.{B, C, D, E, G, H}
 use Rattle.formula.specs.Families.{fromBy, toBy, rowsOf, trainRows, familyRows, callRuns, callRows, pairsBehind}
-use Rattle.tables.proofs.Small.{Few}
+use Rattle.run_tables.proofs.Small.{Few}
 use Rattle.formula.proofs.Shapes.{shape-b, shape-c, shape-d, shape-e, shape-f, shape-g, shape-h, shape-i}
 
 -- how many words clauses have

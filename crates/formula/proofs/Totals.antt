@@ -17,8 +17,8 @@ use Rattle.clauses.specs.declared.Walk.{Walk}
 use Rattle.clauses.specs.Walked.{start, totals, Walks, most}
 use Rattle.clauses.proofs.Laws.{walks-length}
 use Rattle.clauses.proofs.Totals.{totals-walked}
-use Rattle.tables.specs.Tables.{Passed}
-use Rattle.tables.proofs.Small.{passed-few}
+use Rattle.run_tables.specs.Tables.{Passed}
+use Rattle.run_tables.proofs.Small.{passed-few}
 use Rattle.formula.proofs.Size.{formula-small}
 
 -- an output without room leaves nothing behind

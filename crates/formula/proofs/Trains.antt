@@ -13,9 +13,9 @@ use Rattle.spec.specs.Formula.{firstVar, base, wordsOf}
 use Rattle.spec.specs.Held.{held}
 use Rattle.clauses.proofs.Laws.{only-true, only-false}
 use Rattle.demands.proofs.Words.{words-one}
-use Rattle.tables.specs.Ready.{RunsReady}
-use Rattle.tables.proofs.Small.{runs-small, begins-small, base-at}
-use Rattle.tables.proofs.Here.{lent, runs-lent}
+use Rattle.run_tables.specs.Ready.{RunsReady}
+use Rattle.run_tables.proofs.Small.{runs-small, begins-small, base-at}
+use Rattle.run_tables.proofs.Here.{lent, runs-lent}
 use Rattle.formula.specs.Families.{callRuns, callRows}
 use Rattle.formula.specs.Ready.{TrainReady}
 

@@ -8,8 +8,8 @@ use lib.IntN.{ℤ}
 use Rattle.spec.specs.Lists.{upTo, range, each, only, one}
 use Rattle.spec.specs.Instance.{Instance, inWindow, servedAtDeparture}
 use Rattle.spec.specs.Formula.{Clause, width, base, claimVar, clausesB, clausesC, clausesD, clausesE, serversF, clausesG, clausesH, clausesI}
-use Rattle.formula.specs.declared.Family.{Family}
-use Rattle.formula.specs.declared.Family.the-variants.{B, C, D, E, G, H}
+use Rattle.formula.specs.declared.walk.Family.{Family}
+use Rattle.formula.specs.declared.walk.Family.the-variants.{B, C, D, E, G, H}
 
 -- the first interval, and the one behind the last, of a train that departs in d, of T intervals
 abbrev pub fromBy : Family → ℕ → ℕ

@@ -1,2 +1,3 @@
+pub mod Chained
 pub mod Families
 pub mod Ready

@@ -6,8 +6,8 @@ use Rattle.spec.specs.Lists.{Bytes}
 use Rattle.spec.specs.Instance.{instanceOf}
 use Rattle.spec.specs.Formula.{firstVar}
 use Rattle.spec.specs.Held.{held}
-use Rattle.tables.specs.Tables.{Passed}
-use Rattle.tables.specs.Ready.{RunsHeld}
+use Rattle.run_tables.specs.Tables.{Passed}
+use Rattle.run_tables.specs.Ready.{RunsHeld}
 
 pub record TrainReady (b : BookStruct) (i n x : ℕ) (rows sizes : Bytes) : Type 0 where
   pub passed : Passed b

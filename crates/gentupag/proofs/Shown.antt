@@ -14,14 +14,14 @@ use Rattle.spec.specs.Instance.{instanceOf, compile, runLists, runAt, trainLeng
 use Rattle.spec.specs.Held.{held, padded}
 use Rattle.spec.specs.Library.{RunAsked, noTrain, noRun, shown, runAmong, runAsked, askRun}
 use Rattle.demands.proofs.Wellformed.{runs-at}
-use Rattle.content.proofs.Packing.{held-packed, trains-counted}
-use Rattle.reading.specs.declared.Answer.the-variants.{Accepted, Refused}
-use Rattle.reading.specs.declared.BookRead.{BookRead}
-use Rattle.reading.specs.BookAnswers.{bookReadOf}
-use Rattle.reading.proofs.Accepted.{accepted-by, refused-by}
-use Rattle.places.specs.Placed.{placeAt, runHeld}
-use Rattle.tables.specs.Tables.{Passed}
-use Rattle.tables.specs.Ready.{RunsHeld}
+use Rattle.reader.proofs.Packing.{held-packed, trains-counted}
+use Rattle.reader.specs.declared.reading.Answer.the-variants.{Accepted, Refused}
+use Rattle.reader.specs.declared.reading.BookRead.{BookRead}
+use Rattle.reader.specs.BookAnswers.{bookReadOf}
+use Rattle.reader.proofs.Accepted.{accepted-by, refused-by}
+use Rattle.run_tables.specs.Placed.{placeAt, runHeld}
+use Rattle.run_tables.specs.Tables.{Passed}
+use Rattle.run_tables.specs.Ready.{RunsHeld}
 use Rattle.gentupag.specs.declared.answers.Run.{Run}
 use Rattle.gentupag.specs.Answers.{runIn}
 

@@ -5,8 +5,8 @@ use Rattle.spec.specs.Lists.{Bytes, Verdict, accepted, refused}
 use Rattle.spec.specs.Entry as entry
 use Rattle.spec.specs.Library as library
 use Rattle.spec.specs.Held.{padded}
-use Rattle.reading.specs.declared.Answer.{Answer}
-use Rattle.reading.specs.declared.Answer.the-variants as answers
+use Rattle.reader.specs.declared.reading.Answer.{Answer}
+use Rattle.reader.specs.declared.reading.Answer.the-variants as answers
 use Rattle.checking.specs.declared.OutputAnswer.{OutputAnswer}
 use Rattle.checking.specs.declared.OutputAnswer.the-variants as outputs
 use Rattle.writing.specs.declared.FormulaAnswer.{FormulaAnswer}

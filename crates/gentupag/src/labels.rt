@@ -1,13 +1,13 @@
 // The sections of a book's segments under a set of borders. Assumes nothing.
 use crate::answers::Output;
-use checks::all_below;
-use meets::MEET_BYTES;
-use meets::list_meets;
 use model::Book;
 use model::MAX_SEGMENTS;
-use reading::Answer;
-use reading::read_book;
-use sections::label_sections;
+use network::scans::all_below;
+use reader::reading::Answer;
+use reader::reading::read_book;
+use sections::labels::label_sections;
+use sections::meets::MEET_BYTES;
+use sections::meets::list_meets;
 ghost use mathlib.Core.Path.{_≡_};
 ghost use Prim.Native.Nat.{ℕ, _≤_, _<_};
 ghost use lib.ListN.{length, getD, take};
@@ -16,7 +16,7 @@ ghost use Rattle.spec.specs.Instance.{instanceOf};
 ghost use Rattle.spec.specs.Held.{held};
 ghost use Rattle.spec.specs.Entry.{overwrite, written};
 ghost use Rattle.spec.specs.Library.{bordersFit, labelledFor, labelSections, labelsOutput};
-ghost use Rattle.tables.specs.Tables.{Passed};
+ghost use Rattle.run_tables.specs.Tables.{Passed};
 ghost use Rattle.gentupag.specs.Answers.{outputOf};
 
 // A refusal: nothing is written.

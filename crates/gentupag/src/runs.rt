@@ -1,19 +1,19 @@
 // A train's runs, by their numbers in its list. Assumes nothing.
+use crate::answers::NOTHING_MISSING;
 use crate::answers::NO_RUN;
 use crate::answers::NO_TRAIN;
-use crate::answers::NOTHING_MISSING;
 use crate::answers::Run;
 use listing::RUN_BYTES;
 use listing::TRAIN_BYTES;
 use model::Book;
 use model::MAX_RUNS;
-use reading::Answer;
-use reading::read_book;
-use tables::ALL_BYTES;
-use tables::ALL_RUNS;
-use tables::fill_runs;
-use track::length_in_segments;
-use track::wide;
+use network::track::length_in_segments;
+use network::track::wide;
+use reader::reading::Answer;
+use reader::reading::read_book;
+use run_tables::tables::ALL_BYTES;
+use run_tables::tables::ALL_RUNS;
+use run_tables::tables::fill_runs;
 ghost use mathlib.Core.Path.{_≡_};
 ghost use Prim.Native.Nat.{_*_, _≤_, _<_};
 ghost use lib.ListN.{length, replicate};
@@ -21,9 +21,9 @@ ghost use Rattle.spec.specs.Lists.{accepted};
 ghost use Rattle.spec.specs.Instance.{instanceOf};
 ghost use Rattle.spec.specs.Held.{held, padded};
 ghost use Rattle.spec.specs.Library.{runAsked, askRun};
-ghost use Rattle.places.specs.Placed.{placeAt};
-ghost use Rattle.tables.specs.Tables.{Passed};
-ghost use Rattle.tables.specs.Ready.{RunsHeld};
+ghost use Rattle.run_tables.specs.Placed.{placeAt};
+ghost use Rattle.run_tables.specs.Tables.{Passed};
+ghost use Rattle.run_tables.specs.Ready.{RunsHeld};
 ghost use Rattle.gentupag.specs.Answers.{runIn};
 
 // An answer without a run: a refusal, or what is missing.

@@ -1,19 +1,19 @@
 // The sizes of a book: what it counts, and how much its outputs need. Nothing is written. Assumes nothing.
 use crate::answers::Sizes;
-use formula::walk_formula;
-use meets::MEET_BYTES;
-use meets::list_meets;
+use formula::walk::walk_formula;
+use layout::moves::plan_length;
+use layout::numbering::variable_count;
 use model::Book;
-use moves::plan_length;
-use numbering::variable_count;
-use reading::Answer;
-use reading::read_book;
-use tables::ALL_BYTES;
-use tables::ALL_RUNS;
-use tables::chain_trains;
-use tables::fill_runs;
-use track::denies_border;
-use track::forces_border;
+use network::track::denies_border;
+use network::track::forces_border;
+use reader::reading::Answer;
+use reader::reading::read_book;
+use run_tables::tables::ALL_BYTES;
+use run_tables::tables::ALL_RUNS;
+use run_tables::tables::chain_trains;
+use run_tables::tables::fill_runs;
+use sections::meets::MEET_BYTES;
+use sections::meets::list_meets;
 ghost use mathlib.Core.Path.{_≡_};
 ghost use mathlib.Core.Bool.{not, _&&_};
 ghost use lib.ListN.{length};
@@ -22,9 +22,9 @@ ghost use Rattle.spec.specs.Book.{deniesBorder, forcesBorder};
 ghost use Rattle.spec.specs.Instance.{instanceOf};
 ghost use Rattle.spec.specs.Held.{held};
 ghost use Rattle.spec.specs.Library.{freeNodesOf, sizesOf, measureBook};
-ghost use Rattle.tables.specs.Tables.{Passed};
-ghost use Rattle.tables.specs.Ready.{RunsReady, ChainsReady};
-ghost use Rattle.meets.specs.Meets.{MeetsReady};
+ghost use Rattle.run_tables.specs.Tables.{Passed};
+ghost use Rattle.run_tables.specs.Ready.{RunsReady, ChainsReady};
+ghost use Rattle.sections.specs.Meets.{MeetsReady};
 ghost use Rattle.gentupag.specs.Answers.{sizesIn};
 
 // Whether a node of this kind may have a border or none.

@@ -1,7 +1,11 @@
+pub mod Lookup
+pub mod Adding
+pub mod Storing
+pub mod Indexing
 pub mod Values
 pub mod Trail
 pub mod Signs
 pub mod Opening
 pub mod Taking
 pub mod Scan
-pub mod Hints
+pub mod HintTurns

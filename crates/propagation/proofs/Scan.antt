@@ -22,8 +22,8 @@ use Rattle.spec.specs.Refutation.{variableOf, Values, isNo, isOpen, notFalse, p
 use Rattle.laws.proofs.Tests.{and-iff, leb-iff}
 use Rattle.laws.proofs.Rows.{all-cons}
 use Rattle.demands.proofs.Refuting.{passed, kept}
-use Rattle.propagation.specs.declared.Value.{Value as Answer}
-use Rattle.propagation.specs.declared.Value.the-variants.{Open, Yes, No}
+use Rattle.propagation.specs.declared.hints.Value.{Value as Answer}
+use Rattle.propagation.specs.declared.hints.Value.the-variants.{Open, Yes, No}
 use Rattle.propagation.specs.Known.{answered, scan, foundIn}
 
 -- a value is one of three

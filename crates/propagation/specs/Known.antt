@@ -12,8 +12,8 @@ use Rattle.spec.specs.Lists.{Bytes, pick}
 use Rattle.spec.specs.Formula.{Literal, Clause}
 use Rattle.spec.specs.Assignment.{Value, open′, yes′, no′, truth}
 use Rattle.spec.specs.Refutation.{Values, Hinted, proves, makes, useless}
-use Rattle.propagation.specs.declared.Value.{Value as Answer}
-use Rattle.propagation.specs.declared.Value.the-variants.{Open, Yes, No}
+use Rattle.propagation.specs.declared.hints.Value.{Value as Answer}
+use Rattle.propagation.specs.declared.hints.Value.the-variants.{Open, Yes, No}
 
 -- a byte of the slice: 0 nothing is known, 1 the variable is true, any other that it is false
 unfoldable pub valueIn : ℕ → Value

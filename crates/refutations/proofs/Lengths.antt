@@ -13,10 +13,10 @@ use Rattle.spec.specs.Instance.{Instance}
 use Rattle.spec.specs.Formula.{Clause, formula, variables, wordsOf}
 use Rattle.spec.specs.Refutation.{Lent, stepIn, stepDetail, stepFaults, clausesFit, checkSteps, checkFile}
 use Rattle.spec.specs.Entry.{demand, formulaFits, refutedFor}
-use Rattle.reading.specs.declared.Answer.{Answer}
-use Rattle.reading.specs.declared.Answer.the-variants.{Refused}
-use Rattle.reading.specs.BookAnswers.{answerOf}
-use Rattle.one_step.specs.Checked.{lentBy}
+use Rattle.reader.specs.declared.reading.Answer.{Answer}
+use Rattle.reader.specs.declared.reading.Answer.the-variants.{Refused}
+use Rattle.reader.specs.BookAnswers.{answerOf}
+use Rattle.refutation_steps.specs.Checked.{lentBy}
 
 -- ---- the file of steps
 

@@ -16,10 +16,10 @@ use Rattle.clauses.specs.declared.Walk.{Walk}
 use Rattle.clauses.specs.Walked.{start, Walks, most}
 use Rattle.clauses.proofs.Totals.{stored-front}
 use Rattle.demands.proofs.Words.{range-proper, words-back}
-use Rattle.clause_table.specs.Kept.{startsFrom}
-use Rattle.one_step.specs.Checked.{Ready}
-use Rattle.clause_table.proofs.Storing.{length-zeroed}
-use Rattle.clause_table.proofs.Adding.{kept-formula}
+use Rattle.propagation.specs.Kept.{startsFrom}
+use Rattle.refutation_steps.specs.Checked.{Ready}
+use Rattle.propagation.proofs.Storing.{length-zeroed}
+use Rattle.propagation.proofs.Adding.{kept-formula}
 
 -- the front of a zeroed slice
 take-zeroed : {A : Type 0} (z : A) (k n : ℕ) → k ≤ n → take k (zeroed z n) ≡ zeroed z k

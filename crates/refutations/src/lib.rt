@@ -1,32 +1,32 @@
 // The check of a refutation. `check_refutation` is the entry point: it takes any bytes as a book and as
 // a refutation and any four slices, answers accepted or one numbered refusal, and leaves the slices
 // zero. Assumes nothing.
-use clause_table::clear_bytes;
-use clause_table::clear_numbers;
-use clause_table::clear_words;
-use clause_table::index_clauses;
-use formula::walk_formula;
-use meets::MEET_BYTES;
-use meets::list_meets;
+use formula::walk::walk_formula;
+use layout::numbering::variable_count;
 use model::Book;
-use numbering::variable_count;
-use reading::Answer;
-use reading::read_book;
-use step_list::check_steps;
-use tables::ALL_BYTES;
-use tables::ALL_RUNS;
-use tables::chain_trains;
-use tables::fill_runs;
+use propagation::clause_table::clear_bytes;
+use propagation::clause_table::clear_numbers;
+use propagation::clause_table::clear_words;
+use propagation::clause_table::index_clauses;
+use reader::reading::Answer;
+use reader::reading::read_book;
+use refutation_steps::step_list::check_steps;
+use run_tables::tables::ALL_BYTES;
+use run_tables::tables::ALL_RUNS;
+use run_tables::tables::chain_trains;
+use run_tables::tables::fill_runs;
+use sections::meets::MEET_BYTES;
+use sections::meets::list_meets;
 ghost use mathlib.Core.Path.{_≡_};
 ghost use lib.ListN.{length};
 ghost use lib.IntN.{pos};
 ghost use Rattle.spec.specs.Instance.{instanceOf};
 ghost use Rattle.spec.specs.Held.{held};
 ghost use Rattle.spec.specs.Entry.{zeroed, refutedFor, checkRefutation};
-ghost use Rattle.reading.specs.BookAnswers.{answerOf};
-ghost use Rattle.tables.specs.Tables.{Passed};
-ghost use Rattle.tables.specs.Ready.{RunsReady, ChainsReady};
-ghost use Rattle.meets.specs.Meets.{MeetsReady};
+ghost use Rattle.reader.specs.BookAnswers.{answerOf};
+ghost use Rattle.run_tables.specs.Tables.{Passed};
+ghost use Rattle.run_tables.specs.Ready.{RunsReady, ChainsReady};
+ghost use Rattle.sections.specs.Meets.{MeetsReady};
 ghost use Rattle.refutations.specs.Lent.{lengths};
 
 // 12, then the steps, by the tables of a book. What the slices hold after it is left free.

@@ -14,10 +14,10 @@ use Rattle.spec.specs.Instance.{Instance, instanceOf}
 use Rattle.spec.specs.Sections.{Borders}
 use Rattle.spec.specs.Held.{held}
 use Rattle.demands.proofs.Sections.{meet-sym}
-use Rattle.tables.specs.Tables.{Passed}
-use Rattle.tables.proofs.Small.{nodes-is, segments-is}
-use Rattle.meets.specs.Meets.{MeetsReady}
-use Rattle.meets.proofs.Triples.{bytes-next, bytes-end}
+use Rattle.run_tables.specs.Tables.{Passed}
+use Rattle.run_tables.proofs.Small.{nodes-is, segments-is}
+use Rattle.sections.specs.Meets.{MeetsReady}
+use Rattle.sections.proofs.Triples.{bytes-next, bytes-end}
 use Rattle.sections.specs.Labels.{joinedLabel, sectionLabels}
 use Rattle.sections.proofs.Joined.{Joined, joined-start, joined-meets, joined-border, joined-open, joined-least}
 use Rattle.sections.proofs.Stored.{Stored, stored, sets-of}

@@ -8,8 +8,8 @@ use Rattle.spec.specs.Instance.{Instance}
 use Rattle.spec.specs.Sections.{Borders, together}
 use Rattle.laws.proofs.Tests.{bool-ext, eqb-iff}
 use Rattle.demands.proofs.Sections.{together-refl, together-trans, together-sym}
-use Rattle.tables.specs.Tables.{leastFrom}
-use Rattle.tables.proofs.Least.{least-holds, least-first, least-same}
+use Rattle.run_tables.specs.Tables.{leastFrom}
+use Rattle.run_tables.proofs.Least.{least-holds, least-first, least-same}
 
 -- the least segment that is together with a segment
 abbrev pub least : Instance → Borders → ℕ → ℕ

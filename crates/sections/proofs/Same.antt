@@ -14,9 +14,9 @@ use Rattle.spec.specs.Sections.{Borders}
 use Rattle.spec.specs.Plan.{planOf}
 use Rattle.spec.specs.Held.{held}
 use Rattle.demands.proofs.Sections.{meet-sym}
-use Rattle.places.specs.Placed.{bordersOf}
-use Rattle.tables.specs.Tables.{Passed}
-use Rattle.tables.proofs.Small.{passed-few}
+use Rattle.run_tables.specs.Placed.{bordersOf}
+use Rattle.run_tables.specs.Tables.{Passed}
+use Rattle.run_tables.proofs.Small.{passed-few}
 use Rattle.sections.specs.Labels.{sectionLabels, LabelsHeld}
 use Rattle.sections.proofs.Least.{least, least-below, least-iff}
 use Rattle.sections.proofs.Stored.{stored}

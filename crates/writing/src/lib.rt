@@ -1,25 +1,25 @@
 // Writing a book's formula. `write_formula` is the entry point: it takes any bytes and any output, and
 // answers the totals, with the words written, or one numbered refusal, with the output as it was.
 // The words are measured before anything is written. Assumes nothing.
-use formula::walk_formula;
-use meets::MEET_BYTES;
-use meets::list_meets;
+use formula::walk::walk_formula;
+use layout::numbering::variable_count;
 use model::Book;
-use numbering::variable_count;
-use reading::Answer;
-use reading::read_book;
-use tables::ALL_BYTES;
-use tables::ALL_RUNS;
-use tables::chain_trains;
-use tables::fill_runs;
+use reader::reading::Answer;
+use reader::reading::read_book;
+use run_tables::tables::ALL_BYTES;
+use run_tables::tables::ALL_RUNS;
+use run_tables::tables::chain_trains;
+use run_tables::tables::fill_runs;
+use sections::meets::MEET_BYTES;
+use sections::meets::list_meets;
 ghost use mathlib.Core.Path.{_≡_};
 ghost use lib.ListN.{length};
 ghost use Rattle.spec.specs.Instance.{instanceOf};
 ghost use Rattle.spec.specs.Held.{held};
 ghost use Rattle.spec.specs.Entry.{writtenFor, wordsAfter, writeFormula, formulaOutput};
-ghost use Rattle.tables.specs.Tables.{Passed};
-ghost use Rattle.tables.specs.Ready.{RunsReady, ChainsReady};
-ghost use Rattle.meets.specs.Meets.{MeetsReady};
+ghost use Rattle.run_tables.specs.Tables.{Passed};
+ghost use Rattle.run_tables.specs.Ready.{RunsReady, ChainsReady};
+ghost use Rattle.sections.specs.Meets.{MeetsReady};
 ghost use Rattle.writing.specs.FormulaAnswers.{formulaAnswer};
 
 // The totals of a formula that was written, or a refusal's number and detail.

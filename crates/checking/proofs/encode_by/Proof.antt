@@ -10,8 +10,8 @@ use Rattle.spec.specs.Formula.{variables}
 use Rattle.spec.specs.Held.{held}
 use Rattle.checking.proofs.Answers.{plan-fits, length-assignment, encoded-short, encoded-refused, encoded-accepted}
 use Rattle.spec.specs.Entry.{judgePlan}
-use Rattle.reading.specs.declared.Answer.the-variants.{Accepted}
-use Rattle.reading.specs.BookAnswers.{answerOf}
+use Rattle.reader.specs.declared.reading.Answer.the-variants.{Accepted}
+use Rattle.reader.specs.BookAnswers.{answerOf}
 use Rattle.checking.proofs.encode_by.Statement.{statement}
 use Rattle.checking.proofs.encode_by.Tie as tie
 

@@ -2,8 +2,8 @@
 use borrow.Author.Needs.{needs}
 use native.Mathlib.Omega.{arith}
 use mathlib.Core.Path.{refl}
-use Rattle.tables.proofs.Small.{nodes-is}
-use Rattle.rules.proofs.Ready.{nodes-inside}
+use Rattle.run_tables.proofs.Small.{nodes-is}
+use Rattle.plan_rules.proofs.Ready.{nodes-inside}
 use Rattle.sections.proofs.Same.{plan-labelled}
 use Rattle.checking.proofs.write_plan.Statement.{statement}
 use Rattle.checking.proofs.write_plan.Tie as tie

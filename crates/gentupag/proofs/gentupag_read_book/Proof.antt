@@ -3,7 +3,7 @@ use borrow.Author.Needs.{needs}
 use mathlib.Core.Path.{ap, _∙_}
 use denote.Ref.{now}
 use Rattle.spec.specs.Read.{readBook}
-use Rattle.reading.specs.declared.BookRead.{BookRead}
+use Rattle.reader.specs.declared.reading.BookRead.{BookRead}
 use Rattle.gentupag.specs.Answers.{verdictShown}
 use Rattle.gentupag.proofs.Structs.{read-shown}
 use Rattle.gentupag.proofs.gentupag_read_book.Statement.{statement}

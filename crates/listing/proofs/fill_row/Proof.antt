@@ -14,8 +14,8 @@ use Rattle.spec.specs.Lists.{upTo, count, pick, one}
 use Rattle.spec.specs.Book.{startNode}
 use Rattle.spec.specs.Runs.{leadsTo, directed}
 use Rattle.spec.specs.Held.{held}
-use Rattle.track.proofs.Walks.{length-of-map}
-use Rattle.track.proofs.Held.{start-at}
+use Rattle.network.proofs.Walks.{length-of-map}
+use Rattle.network.proofs.Held.{start-at}
 use Rattle.listing.specs.Listed.{successors}
 use Rattle.listing.proofs.Leaves.{sets-next}
 use Rattle.listing.proofs.Lists.{held-segments}

@@ -11,7 +11,7 @@ use Rattle.spec.specs.Lists.{Bytes, all}
 use Rattle.spec.specs.Book.{Book, Train}
 use Rattle.spec.specs.Runs.{runsOf}
 use Rattle.spec.specs.Held.{held, heldTrain}
-use Rattle.track.proofs.Walks.{length-of-map}
+use Rattle.network.proofs.Walks.{length-of-map}
 use Rattle.laws.proofs.Tests.{le-or-lt}
 use Rattle.listing.specs.Listed.{pathsBy, placesIn, furtherBy, countAfter}
 use Rattle.listing.proofs.Lists.{Listed, listed-le, listed-rows, listed-sizes, listed-any, listed-more, short, reach, held-segments}

@@ -13,7 +13,7 @@ use lib.Dec.{eqb}
 use Rattle.spec.specs.Lists.{any, has}
 use Rattle.spec.specs.Book.{segmentOf}
 use Rattle.laws.proofs.Rows.{any-map}
-use Rattle.track.proofs.Walks.{any-next, any-end}
+use Rattle.network.proofs.Walks.{any-next, any-end}
 use Rattle.listing.specs.Listed.{pathOf}
 use Rattle.listing.proofs.uses.Statement.{statement}
 use Rattle.listing.proofs.uses.Tie as tie

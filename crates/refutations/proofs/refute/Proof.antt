@@ -7,8 +7,8 @@ use Rattle.spec.specs.Lists.{Verdict}
 use Rattle.spec.specs.Instance.{Instance}
 use Rattle.spec.specs.Entry.{refutedFor, checkRefutation}
 use Rattle.refutations.specs.Lent.{lengths}
-use Rattle.reading.specs.BookAnswers.{answerOf}
-use Rattle.instances.proofs.Read.{passed, went-on, stopped}
+use Rattle.reader.specs.BookAnswers.{answerOf}
+use Rattle.run_tables.proofs.Instances.{passed, went-on, stopped}
 use Rattle.refutations.proofs.refute.Statement.{statement}
 use Rattle.refutations.proofs.refute.Tie as tie
 

@@ -19,8 +19,8 @@ use Rattle.spec.specs.Refutation.{Lent, inRange}
 use Rattle.spec.specs.Held.{held}
 use Rattle.demands.proofs.Words.{formula-in-range}
 use Rattle.demands.proofs.Wellformed.{sound}
-use Rattle.tables.specs.Tables.{Passed}
-use Rattle.tables.proofs.Small.{all-variables, first-small, passed-few}
+use Rattle.run_tables.specs.Tables.{Passed}
+use Rattle.run_tables.proofs.Small.{all-variables, first-small, passed-few}
 use Rattle.formula.proofs.Totals.{nothing-ahead, walks-from, walk-words, walk-clauses, is-small}
 use Rattle.refutations.specs.Lent.{lengths}
 use Rattle.refutations.proofs.Lengths.{Room, short, checked}

@@ -6,7 +6,7 @@ use mathlib.Core.Path.{ap, _∙_}
 use denote.Ref.{now}
 use lib.ListN.{length}
 use Rattle.spec.specs.Entry.{writtenFor, wordsAfter, writeFormula, formulaOutput}
-use Rattle.instances.proofs.Read.{passed, went-on, stopped}
+use Rattle.run_tables.proofs.Instances.{passed, went-on, stopped}
 use Rattle.writing.specs.FormulaAnswers.{formulaAnswer}
 use Rattle.writing.proofs.Answers.{stopped-answer, stopped-output}
 use Rattle.writing.proofs.write_formula.Statement.{statement}

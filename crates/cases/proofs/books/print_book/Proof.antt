@@ -1,7 +1,7 @@
 -- `cases::books::print_book` is safe and ends: the runs are listed before they are chained. Assumes nothing.
 use borrow.Author.Needs.{needs}
 use mathlib.Core.Path.{refl}
-use Rattle.tables.proofs.Filled.{runs-ready}
+use Rattle.run_tables.proofs.Filled.{runs-ready}
 use Rattle.cases.proofs.books.print_book.Statement.{statement}
 use Rattle.cases.proofs.books.print_book.Tie as tie
 

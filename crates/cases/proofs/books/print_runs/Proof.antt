@@ -3,10 +3,10 @@ use borrow.Author.Needs.{needs}
 use mathlib.Core.Path.{sym, subst}
 use native.Mathlib.Omega.{arith}
 use Rattle.spec.specs.Read.{readBook}
-use Rattle.reading.proofs.Way.{bytes-of}
-use Rattle.reading.proofs.Accepted.{accepted-by}
-use Rattle.tables.specs.Tables.{Passed}
-use Rattle.tables.proofs.Passing.{passed-read}
+use Rattle.reader.proofs.Way.{bytes-of}
+use Rattle.reader.proofs.Accepted.{accepted-by}
+use Rattle.run_tables.specs.Tables.{Passed}
+use Rattle.run_tables.proofs.Passing.{passed-read}
 use Rattle.cases.proofs.books.print_runs.Statement.{statement}
 use Rattle.cases.proofs.books.print_runs.Tie as tie
 

@@ -5,8 +5,8 @@ use Prim.Native.Nat.{_≤_, _<_, _-_}
 use native.Mathlib.Omega.{arith}
 use lib.ListN.{length, take, drop}
 use lib.Seq.{sets, length-sets}
-use Rattle.dimacs.specs.Text.{wordsText, taken}
-use Rattle.printing.proofs.Texts.{piece-some, piece-le}
+use Rattle.programs.specs.Text.{wordsText, taken}
+use Rattle.programs.proofs.Texts.{piece-some, piece-le}
 use Rattle.cases.proofs.formulas.more_words.Statement.{statement}
 use Rattle.cases.proofs.formulas.more_words.Tie as tie
 

@@ -7,7 +7,7 @@ use lib.ListN.{length}
 use Rattle.spec.specs.Lists.{Bytes, Verdict}
 use Rattle.spec.specs.Instance.{Instance}
 use Rattle.spec.specs.Library.{labelledFor, labelSections, labelsOutput}
-use Rattle.instances.proofs.Read.{passed, went-on, stopped}
+use Rattle.run_tables.proofs.Instances.{passed, went-on, stopped}
 use Rattle.gentupag.proofs.Labelled.{left-refused, left-same}
 use Rattle.gentupag.proofs.labels.label_book.Statement.{statement}
 use Rattle.gentupag.proofs.labels.label_book.Tie as tie

@@ -11,9 +11,9 @@ use Rattle.spec.specs.Instance.{instanceOf}
 use Rattle.spec.specs.Held.{held}
 use Rattle.spec.specs.Entry.{overwrite}
 use Rattle.spec.specs.Library.{bordersFit}
-use Rattle.tables.proofs.Small.{segments-is}
-use Rattle.content.proofs.Packing.{segments-counted}
-use Rattle.meets.proofs.Ready.{meets-ready}
+use Rattle.run_tables.proofs.Small.{segments-is}
+use Rattle.reader.proofs.Packing.{segments-counted}
+use Rattle.sections.proofs.Ready.{meets-ready}
 use Rattle.gentupag.proofs.Labelled.{fit-size, labels-long, labels-small, first-labels}
 use Rattle.gentupag.proofs.Labelled.{labelled-short, labelled-unfit, labelled-done}
 use Rattle.gentupag.proofs.labels.label_for.Statement.{statement}

@@ -2,7 +2,7 @@
 use borrow.Author.Needs.{needs}
 use native.Mathlib.Omega.{arith}
 use Prim.Native.Nat.{_<_}
-use Rattle.tables.proofs.Here.{length-here, length-asks}
+use Rattle.run_tables.proofs.Here.{length-here, length-asks}
 use Rattle.gentupag.proofs.Shown.{asked-gone, asked-found}
 use Rattle.gentupag.proofs.runs.run_among.Statement.{statement}
 use Rattle.gentupag.proofs.runs.run_among.Tie as tie

@@ -2,9 +2,9 @@
 -- Assumes nothing.
 use borrow.Author.Needs.{needs}
 use mathlib.Core.Path.{refl}
-use Rattle.tables.specs.Ready.{RunsReady}
-use Rattle.tables.proofs.Filled.{runs-ready}
-use Rattle.tables.proofs.Here.{runs-lent}
+use Rattle.run_tables.specs.Ready.{RunsReady}
+use Rattle.run_tables.proofs.Filled.{runs-ready}
+use Rattle.run_tables.proofs.Here.{runs-lent}
 use Rattle.gentupag.proofs.Shown.{asked-away}
 use Rattle.gentupag.proofs.runs.run_for.Statement.{statement}
 use Rattle.gentupag.proofs.runs.run_for.Tie as tie

@@ -1,7 +1,7 @@
 -- `gentupag::runs::run_of` meets its contract: the book's refusal, or the run of the book that the bytes hold. Assumes nothing.
 use borrow.Author.Needs.{needs}
 use native.Mathlib.Omega.{arith}
-use Rattle.instances.proofs.Read.{passed}
+use Rattle.run_tables.proofs.Instances.{passed}
 use Rattle.gentupag.proofs.Shown.{asked-on, asked-stopped}
 use Rattle.gentupag.proofs.runs.run_of.Statement.{statement}
 use Rattle.gentupag.proofs.runs.run_of.Tie as tie

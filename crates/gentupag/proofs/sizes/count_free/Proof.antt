@@ -14,8 +14,8 @@ use Rattle.spec.specs.Instance.{instanceOf, compile}
 use Rattle.spec.specs.Library.{freeNodesOf}
 use Rattle.spec.specs.Held.{held}
 use Rattle.clauses.proofs.Turns.{upTo-range, range-next, range-end}
-use Rattle.content.proofs.Packing.{nodes-counted}
-use Rattle.tables.proofs.Answers.{denied-held, forced-held}
+use Rattle.reader.proofs.Packing.{nodes-counted}
+use Rattle.run_tables.proofs.Answers.{denied-held, forced-held}
 use Rattle.gentupag.proofs.sizes.count_free.Statement.{statement}
 use Rattle.gentupag.proofs.sizes.count_free.Tie as tie
 

@@ -5,7 +5,7 @@ use native.Mathlib.Omega.{arith}
 use mathlib.Core.Path.{sym, ap, _∙_}
 use Rattle.spec.specs.Lists.{accepted}
 use Rattle.spec.specs.Library.{sizesOf, measureBook}
-use Rattle.instances.proofs.Read.{passed, went-on, stopped}
+use Rattle.run_tables.proofs.Instances.{passed, went-on, stopped}
 use Rattle.gentupag.specs.Answers.{sizesIn}
 use Rattle.gentupag.proofs.sizes.measure_book.Statement.{statement}
 use Rattle.gentupag.proofs.sizes.measure_book.Tie as tie

@@ -4,7 +4,7 @@ use mathlib.Core.Path.{_≡_, refl, sym}
 use Rattle.spec.specs.Instance.{instanceOf, compile}
 use Rattle.spec.specs.Library.{sizesOf}
 use Rattle.spec.specs.Held.{held}
-use Rattle.content.proofs.Packing.{nodes-counted, segments-counted, trains-counted}
+use Rattle.reader.proofs.Packing.{nodes-counted, segments-counted, trains-counted}
 use Rattle.formula.proofs.Totals.{walk-words, walk-clauses}
 use Rattle.gentupag.proofs.sizes.measure_by.Statement.{statement}
 use Rattle.gentupag.proofs.sizes.measure_by.Tie as tie

@@ -1,7 +1,7 @@
 -- `variables::variable_for` meets its contract: the runs are counted once the tables are filled. Assumes nothing.
 use borrow.Author.Needs.{needs}
 use mathlib.Core.Path.{refl}
-use Rattle.tables.proofs.Filled.{runs-ready}
+use Rattle.run_tables.proofs.Filled.{runs-ready}
 use Rattle.gentupag.proofs.variables.variable_for.Statement.{statement}
 use Rattle.gentupag.proofs.variables.variable_for.Tie as tie
 

@@ -7,7 +7,7 @@ use Rattle.spec.specs.Lists.{Verdict, accepted}
 use Rattle.spec.specs.Instance.{Instance}
 use Rattle.spec.specs.Library.{Meaning, meaningOf, askVariable}
 use Rattle.gentupag.specs.Answers.{variableIn}
-use Rattle.instances.proofs.Read.{passed, went-on, stopped}
+use Rattle.run_tables.proofs.Instances.{passed, went-on, stopped}
 use Rattle.gentupag.proofs.variables.variable_of.Statement.{statement}
 use Rattle.gentupag.proofs.variables.variable_of.Tie as tie
 

@@ -1,4 +1,0 @@
-pub mod Lookup
-pub mod Adding
-pub mod Storing
-pub mod Indexing

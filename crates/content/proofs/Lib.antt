@@ -1,4 +1,0 @@
-pub mod Calls
-pub mod Packing
-pub mod Tables
-pub mod Trains

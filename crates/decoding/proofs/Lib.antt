@@ -1,2 +1,0 @@
-pub mod Codes
-pub mod Rows

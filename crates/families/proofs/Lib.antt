@@ -1,3 +1,0 @@
-pub mod Rest
-pub mod Meeting
-pub mod Chain

@@ -1,0 +1,109 @@
+-- `families::followers` meets its contract. The loop's invariant: for each test that the tables chain, q passes it or is n, and what
+-- is left to pass are the literals from q on. Assumes nothing.
+use native.Mathlib.Omega.{arith}
+use mathlib.Core.Path.{sym}
+use mathlib.Core.Bool.{Bool}
+use Prim.Native.Nat.{ℕ, _+_, _-_, _≤_, _<_}
+use mathlib.Core.List.{List}
+use denote.Ref.{now}
+use lib.IntN.{ℤ}
+use lib.ListN.{getD}
+use lib.Dec.{T}
+use Rattle.spec.specs.Lists.{upTo, range, each, only, one}
+use Rattle.spec.specs.Formula.{is}
+use Rattle.laws.proofs.Tests.{true-of}
+use Rattle.clauses.proofs.Laws.{walks-same, only-true}
+use Rattle.clauses.proofs.Turns.{Ahead, ahead-start, ahead-same, turn, turned}
+use Rattle.formula.specs.Chained.{Chained}
+use Rattle.formula.proofs.Chain.{first-below, first-passes, first-rows, next-below, next-passes, next-rows}
+use Rattle.formula.proofs.families.followers.Statement.{statement}
+use Rattle.formula.proofs.families.followers.Tie as tie
+
+-- the words of turn q
+abbrev words : (ℕ → Bool) → ℕ → ℕ → List ℤ
+words f base q = only (f q) (one (is (base + q)))
+
+abbrev Inv-loop : tie.InvT-loop
+Inv-loop base n r firsts nexts values out₀ next₀ q₀ out next q =
+    (f : ℕ → Bool) → Chained f n (getD firsts r 0) nexts → (q ≤ n) × (q < n → T (f q))
+    × Ahead values (each (upTo n) (words f base)) (each (range q n) (words f base)) next₀ out₀ next out
+
+abbrev μ-loop : tie.MeasureT-loop
+μ-loop base n r firsts nexts values out₀ next₀ q₀ out next q = n - q
+
+mul-q : tie.Need-mul-q Inv-loop μ-loop
+mul-q c = omega arith
+
+shared-slice-read-q : tie.Need-shared-slice-read-q Inv-loop μ-loop
+shared-slice-read-q c = omega arith
+
+loop-holds : tie.Need-loop-holds Inv-loop μ-loop
+loop-holds c f h = (first-below h, first-passes h, ahead-same (first-rows h _) (ahead-start _ _ _ _))
+
+add-affirm : tie.Need-add-affirm Inv-loop μ-loop
+add-affirm c = omega arith
+
+affirm-requires : tie.Need-affirm-requires Inv-loop μ-loop
+affirm-requires c κs = omega arith
+
+mul-q-2 : tie.Need-mul-q-2 Inv-loop μ-loop
+mul-q-2 c = omega arith
+
+shared-slice-read-q-2 : tie.Need-shared-slice-read-q-2 Inv-loop μ-loop
+shared-slice-read-q-2 c = omega arith
+
+-- a turn's number passes the test, and so the next is behind it
+module _ (t : tie.In-loop Inv-loop μ-loop) where
+  abbrev start : tie.Start Inv-loop μ-loop
+  start = t .before .before .before .before .before .before
+
+  abbrev q : ℕ
+  q = t .before .loop .q
+
+  passes : (f : ℕ → Bool) → Chained f (start .args .n) (getD (now (start .args .firsts)) (start .args .r) 0) (now (start .args .nexts))
+      → T (f q)
+  passes f h = t .before .loop .inv f h .1 (t .loop-test .taken)
+
+loop-less : tie.Need-loop-less Inv-loop μ-loop
+loop-less c =
+    let t = c .before .before .before .before in
+    let h = start t .pre .3 in
+    omega (arith, t .loop-test .taken, next-below (h .1) (q t) (t .loop-test .taken) (passes t (h .0) (h .1)))
+
+loop-again : tie.Need-loop-again Inv-loop μ-loop
+loop-again c f h =
+    let t = c .before .before .before .before in
+    let v = t .before .loop .inv f h in
+    let below = t .loop-test .taken in
+    let found = passes t f h in
+    let literal = sym (only-true _ (true-of _ found)) in (
+      next-below h (q t) below found .1,
+      next-passes h (q t) below found,
+      ahead-same (next-rows h (q t) below found _) (turn _ _ _ (v .2) below (walks-same literal (c .before .before .affirm .ensures))),
+    )
+
+same-length : tie.Need-same-length Inv-loop μ-loop
+same-length c =
+    let h = c .before .before .before .before .before .before .pre .3 in
+    c .before .loop .inv (h .0) (h .1) .2 .size
+
+returns : tie.Need-returns Inv-loop μ-loop
+returns c f h = turned _ _ _ (c .before .loop .inv f h .2) (c .loop-test .left)
+
+pub followers-spec : {M : Type 1} → statement M
+followers-spec =
+    tie.close
+    (tie.spec
+    Inv-loop
+    μ-loop
+    mul-q
+    shared-slice-read-q
+    loop-holds
+    add-affirm
+    affirm-requires
+    mul-q-2
+    shared-slice-read-q-2
+    loop-less
+    loop-again
+    same-length
+    returns)

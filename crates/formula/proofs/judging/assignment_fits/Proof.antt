@@ -1,0 +1,36 @@
+-- `judging::assignment_fits` meets its contract: the length, then the bytes. Assumes nothing.
+use borrow.Author.Needs.{needs}
+use borrow.Author.Tests.{eq-eqb, ne-eqb}
+use mathlib.Core.Path.{_≡_, sym, ap, _∙_}
+use Prim.Native.Nat.{ℕ}
+use lib.Dec.{eqb}
+use Rattle.spec.specs.Instance.{instanceOf}
+use Rattle.spec.specs.Formula.{variables}
+use Rattle.spec.specs.Held.{held}
+use Rattle.layout.proofs.Places.{all-bits}
+use Rattle.formula.proofs.Judged.{fits-long, fits-bits}
+use Rattle.formula.proofs.judging.assignment_fits.Statement.{statement}
+use Rattle.formula.proofs.judging.assignment_fits.Tie as tie
+
+variable-count-requires : tie.Need-variable-count-requires
+variable-count-requires c κs = search needs
+
+all-below-requires : tie.Need-all-below-requires
+all-below-requires c κs = search needs
+
+-- the number that the length is compared with
+count : (c : tie.After-variable-count) (n : ℕ)
+    → eqb n (c .variable-count .result) ≡ eqb n (variables (instanceOf (held (c .before .before .args .b))))
+count c n = ap (eqb n) (c .variable-count .ensures)
+
+returns : tie.Need-returns
+returns c =
+    let v = c .before .before in
+    fits-bits _ _ (sym (count v _) ∙ eq-eqb _ _ (c .before .if1 .taken)) (c .all-below .ensures ∙ all-bits _)
+
+returns-2 : tie.Need-returns-2
+returns-2 c = let e = ne-eqb _ _ (c .if1 .left) in e ∙ fits-long _ _ (sym (count (c .before) _) ∙ e)
+
+pub assignment-fits-spec : {M : Type 1} → statement M
+assignment-fits-spec =
+    tie.close (tie.spec variable-count-requires all-below-requires returns returns-2)

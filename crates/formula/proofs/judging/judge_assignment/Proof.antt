@@ -1,0 +1,68 @@
+-- `judging::judge_assignment` meets its contract: a walk with an empty output finds the least clause that is false. Assumes
+-- nothing.
+use borrow.Author.Needs.{needs}
+use borrow.Author.Tests.{not-true, not-false}
+use mathlib.Core.Path.{_≡_, sym, ap, _∙_}
+use mathlib.Core.Bool.{true}
+use denote.Ref.{now}
+use Rattle.spec.specs.Lists.{orZero}
+use Rattle.spec.specs.Instance.{instanceOf}
+use Rattle.spec.specs.Formula.{formula}
+use Rattle.spec.specs.Assignment.{firstFalse, assigned, assignmentFits}
+use Rattle.spec.specs.Held.{held}
+use Rattle.clauses.specs.declared.Walk.{Walk}
+use Rattle.clauses.specs.Walked.{totals}
+use Rattle.formula.proofs.Totals.{walk-totals}
+use Rattle.formula.proofs.Judged.{answer-unfit, answer-false, answer-true}
+use Rattle.formula.proofs.judging.judge_assignment.Statement.{statement}
+use Rattle.formula.proofs.judging.judge_assignment.Tie as tie
+
+assignment-fits-requires : tie.Need-assignment-fits-requires
+assignment-fits-requires c κs = search needs
+
+returns : tie.Need-returns
+returns c = answer-unfit _ _ (sym (c .before .assignment-fits .ensures) ∙ not-true _ (c .if1 .taken))
+
+sub-walk-formula : tie.Need-sub-walk-formula
+sub-walk-formula c = search needs
+
+part-none-start : tie.Need-part-none-start
+part-none-start c = search needs
+
+part-none-end : tie.Need-part-none-end
+part-none-end c = search needs
+
+walk-formula-requires : tie.Need-walk-formula-requires
+walk-formula-requires c κs = search needs
+
+-- what the walk found
+module _ (c : tie.After-walk-formula) where
+  abbrev start : tie.Start
+  start = c .before .before .before .before .before .before .before .before .before .before
+
+  fits : assignmentFits (instanceOf (held (start .args .b))) (now (start .args .values)) ≡ true
+  fits = sym (c .before .before .before .assignment-fits .ensures) ∙ not-false _ (c .before .before .if1 .left)
+
+  found : c .walk-formula .result .wrong
+      ≡ orZero (firstFalse (assigned (now (start .args .values))) 1 (formula (instanceOf (held (start .args .b)))))
+  unfolding totals
+  found = ap (λ (w : Walk). w .wrong) (walk-totals (start .args .b) (start .pre .0 .counted .passed) (c .walk-formula .ensures))
+
+returns-2 : tie.Need-returns-2
+returns-2 c = let w = c .before .before .before in answer-false _ _ (fits w) _ (found w) (c .if2 .taken)
+
+returns-3 : tie.Need-returns-3
+returns-3 c = let w = c .before .before .before in answer-true _ _ (fits w) _ (found w) (c .if2 .left)
+
+pub judge-assignment-spec : {M : Type 1} → statement M
+judge-assignment-spec =
+    tie.close
+    (tie.spec
+    assignment-fits-requires
+    returns
+    sub-walk-formula
+    part-none-start
+    part-none-end
+    walk-formula-requires
+    returns-2
+    returns-3)

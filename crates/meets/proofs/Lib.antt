@@ -1,4 +1,0 @@
-pub mod Rows
-pub mod Few
-pub mod Ready
-pub mod Triples

@@ -1,0 +1,5 @@
+pub mod Held
+pub mod Walks
+pub mod Links
+pub mod Rests
+pub mod Dividing

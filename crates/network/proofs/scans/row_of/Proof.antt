@@ -1,0 +1,92 @@
+-- `scans::row_of` meets its contract. The loop's invariant: the array is the bytes from `from` up to i, with zeros behind them.
+-- Assumes nothing.
+use borrow.Author.Needs.{needs}
+use native.Mathlib.Omega.{arith}
+use native.Mathlib.Numerals.{add-one}
+use mathlib.Core.Path.{_≡_, _∙_}
+use mathlib.Core.List.{List, _++_}
+use Prim.Native.Nat.{ℕ, _+_, _-_, _≤_, _<_}
+use lib.ListN.{length, take, drop, getD, set, length-drop}
+use lib.Seq.{take-suc, take-all, getD-drop, length-take-le}
+use Rattle.spec.specs.Lists.{one}
+use Rattle.spec.specs.Held.{padded}
+use Rattle.laws.proofs.Arrays.{padded-next}
+use Rattle.network.proofs.scans.row_of.Statement.{statement}
+use Rattle.network.proofs.scans.row_of.Tie as tie
+
+abbrev Inv-loop : tie.InvT-loop
+Inv-loop p from row₀ i₀ row i = (from ≤ i) × (i ≤ length p) × (row ≡ padded 8 0 (take (i - from) (drop from p)))
+
+abbrev μ-loop : tie.MeasureT-loop
+μ-loop p from row₀ i₀ row i = length p - i
+
+loop-holds : tie.Need-loop-holds Inv-loop μ-loop
+unfolding padded
+loop-holds c =
+    let e : c .args .from - c .args .from ≡ 0 = omega arith in
+    (omega arith, omega arith, rw (e, padded))
+
+shared-slice-read-row : tie.Need-shared-slice-read-row Inv-loop μ-loop
+shared-slice-read-row c = omega arith
+
+sub-row : tie.Need-sub-row Inv-loop μ-loop
+sub-row c = omega arith
+
+array-write-row : tie.Need-array-write-row Inv-loop μ-loop
+array-write-row c = search needs
+
+add-i : tie.Need-add-i Inv-loop μ-loop
+add-i c = omega arith
+
+loop-less : tie.Need-loop-less Inv-loop μ-loop
+loop-less c = omega arith
+
+-- a turn: i's byte goes behind those that are there
+module _ (p : List ℕ) (from i : ℕ) (l : from ≤ i) (k : i < length p) where
+  more : take (i + 1 - from) (drop from p) ≡ take (i - from) (drop from p) ++ one (getD p i 0)
+  more =
+      let e : i + 1 - from ≡ i - from + 1 = omega arith in
+      let h : i - from < length (drop from p) = rw length-drop (omega arith) in
+      let back : from + (i - from) ≡ i = omega arith in
+      rw (e, add-one (i - from), take-suc (drop from p) (i - from) 0 h, getD-drop, back)
+
+  many : length (take (i - from) (drop from p)) ≡ i - from
+  many = length-take-le (i - from) (drop from p) (rw length-drop (omega arith))
+
+turn : (c : tie.After-shared-slice-known Inv-loop μ-loop)
+    → set (c .before .before .loop .row) (c .before .before .loop .i - c .before .before .before .args .from)
+    (getD (c .before .before .before .args .p .now) (c .before .before .loop .i) 0)
+    ≡ padded 8 0 (take (c .before .before .loop .i + 1 - c .before .before .before .args .from)
+    (drop (c .before .before .before .args .from) (c .before .before .before .args .p .now)))
+turn c =
+    let s = c .before .before in
+    let p = s .before .args .p .now in
+    let from = s .before .args .from in
+    let i = s .loop .i in
+    rw (s .loop .inv .2, more p from i (s .loop .inv .0) (c .before .loop-test .taken))
+    (padded-next 8 (i - from) 0 (getD p i 0) (take (i - from) (drop from p))
+    (many p from i (s .loop .inv .0) (c .before .loop-test .taken)) (omega arith))
+
+loop-again : tie.Need-loop-again Inv-loop μ-loop
+loop-again c = (omega arith, omega arith, turn c)
+
+returns : tie.Need-returns Inv-loop μ-loop
+returns c =
+    let s = c .before in
+    let e = take-all (s .loop .i - s .before .args .from) (drop (s .before .args .from) (s .before .args .p .now)) (rw length-drop (omega arith)) in
+    s .loop .inv .2 ∙ simp e
+
+pub row-of-spec : {M : Type 1} → statement M
+row-of-spec =
+    tie.close
+    (tie.spec
+    Inv-loop
+    μ-loop
+    loop-holds
+    shared-slice-read-row
+    sub-row
+    array-write-row
+    add-i
+    loop-less
+    loop-again
+    returns)

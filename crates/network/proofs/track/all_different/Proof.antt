@@ -1,0 +1,143 @@
+-- `track::all_different` meets its contract. Outer invariant: the answer for the row is the answer for what stands from i on.
+-- Inner: that answer is whether i's segment is none of those from j on, and those behind i are different. Assumes nothing.
+use borrow.Author.Needs.{needs}
+use borrow.Author.Tests.{eq-eqb, ne-eqb}
+use native.Mathlib.Omega.{arith}
+use mathlib.Core.Path.{_≡_, refl, sym, ap, _∙_}
+use mathlib.Core.Bool.{Bool, not, _&&_}
+use mathlib.Core.List.{List, map}
+use Prim.Native.Nat.{ℕ, _+_, _-_, _≤_, _<_}
+use lib.ListN.{length, getD}
+use lib.Seq.{slice}
+use lib.Dec.{eqb}
+use Rattle.spec.specs.Lists.{all, different}
+use Rattle.spec.specs.Book.{segmentOf}
+use Rattle.laws.proofs.Rows.{all-map}
+use Rattle.network.proofs.Walks.{slice-next, slice-end, all-next, all-end}
+use Rattle.network.proofs.track.all_different.Statement.{statement}
+use Rattle.network.proofs.track.all_different.Tie as tie
+
+-- the directed segments from i up to n are on different segments
+abbrev from : List ℕ → ℕ → ℕ → Bool
+from row n i = different (map segmentOf (slice i n row))
+
+-- i's segment is none of those from j up to n
+abbrev apart : List ℕ → ℕ → ℕ → ℕ → Bool
+apart row n i j = all (λ d. not (eqb (segmentOf (getD row i 0)) (segmentOf d))) (slice j n row)
+
+from-next : (row : List ℕ) (n i : ℕ) → i < n → n ≤ length row → from row n i ≡ (apart row n i (i + 1) && from row n (i + 1))
+unfolding different
+from-next row n i l fits =
+    ap (λ (xs : List ℕ). different (map segmentOf xs)) (slice-next row n i 0 l fits)
+    ∙ ap (λ (b : Bool). b && from row n (i + 1))
+    (all-map (λ y. not (eqb (segmentOf (getD row i 0)) y)) segmentOf (slice (i + 1) n row))
+
+abbrev Inv-loop2 : tie.InvT-loop2
+Inv-loop2 n row i j₀ j = from row n i ≡ (apart row n i j && from row n (i + 1))
+
+abbrev μ-loop2 : tie.MeasureT-loop2
+μ-loop2 n row i j₀ j = n - j
+
+abbrev Inv-loop : tie.InvT-loop
+Inv-loop n row i₀ i = from row n 0 ≡ from row n i
+
+abbrev μ-loop : tie.MeasureT-loop
+μ-loop n row i₀ i = n - i
+
+room : (c : tie.Start Inv-loop2 μ-loop2 Inv-loop μ-loop) → c .args .n ≤ length (c .args .t1)
+room c = let e : length (c .args .t1) ≡ 8 = search needs in omega arith
+
+loop-holds : tie.Need-loop-holds Inv-loop2 μ-loop2 Inv-loop μ-loop
+loop-holds c = refl
+
+add-j : tie.Need-add-j Inv-loop2 μ-loop2 Inv-loop μ-loop
+add-j c = omega arith
+
+loop2-holds : tie.Need-loop2-holds Inv-loop2 μ-loop2 Inv-loop μ-loop
+loop2-holds c = from-next _ _ _ (c .loop-test .taken) (room (c .before .before))
+
+array-read-if1 : tie.Need-array-read-if1 Inv-loop2 μ-loop2 Inv-loop μ-loop
+array-read-if1 c = omega arith
+
+array-read-if1-2 : tie.Need-array-read-if1-2 Inv-loop2 μ-loop2 Inv-loop μ-loop
+array-read-if1-2 c = omega arith
+
+-- an inner turn: j's segment, and those behind it
+module _ (c : tie.In-loop2 Inv-loop2 μ-loop2 Inv-loop μ-loop) where
+  abbrev row : List ℕ
+  row = c .before .before .before .before .args .t1
+
+  abbrev n : ℕ
+  n = c .before .before .before .before .args .n
+
+  abbrev i : ℕ
+  i = c .before .before .before .loop .i
+
+  abbrev j : ℕ
+  j = c .before .loop2 .j
+
+  turn : apart row n i j ≡ (not (eqb (segmentOf (getD row i 0)) (segmentOf (getD row j 0))) && apart row n i (j + 1))
+  turn = all-next _ _ _ 0 (c .loop2-test .taken) (room (c .before .before .before .before)) _
+
+returns : tie.Need-returns Inv-loop2 μ-loop2 Inv-loop μ-loop
+unfolding segmentOf
+returns c =
+    let s = c .before .before in
+    let e = turn (c .before) in
+    let h = eq-eqb _ _ (c .if1 .taken) in
+    sym (s .before .before .loop .inv ∙ s .loop2 .inv ∙ simp (e, h))
+
+add-j-2 : tie.Need-add-j-2 Inv-loop2 μ-loop2 Inv-loop μ-loop
+add-j-2 c = omega arith
+
+loop2-less : tie.Need-loop2-less Inv-loop2 μ-loop2 Inv-loop μ-loop
+loop2-less c = omega arith
+
+loop2-again : tie.Need-loop2-again Inv-loop2 μ-loop2 Inv-loop μ-loop
+unfolding segmentOf
+loop2-again c =
+    let e = turn (c .before) in
+    let h = ne-eqb _ _ (c .if1 .left) in
+    c .before .before .loop2 .inv ∙ simp (e, h)
+
+add-i : tie.Need-add-i Inv-loop2 μ-loop2 Inv-loop μ-loop
+add-i c = omega arith
+
+loop-less : tie.Need-loop-less Inv-loop2 μ-loop2 Inv-loop μ-loop
+loop-less c = omega arith
+
+loop-again : tie.Need-loop-again Inv-loop2 μ-loop2 Inv-loop μ-loop
+loop-again c =
+    let s = c .before in
+    let a = s .before .before .before .args in
+    let e = all-end (a .t1) (a .n) (s .loop2 .j) (c .loop2-test .left) in
+    s .before .before .loop .inv ∙ s .loop2 .inv ∙ simp e
+
+returns-2 : tie.Need-returns-2 Inv-loop2 μ-loop2 Inv-loop μ-loop
+unfolding different
+returns-2 c =
+    let a = c .before .before .args in
+    let e = slice-end (a .t1) (a .n) (c .before .loop .i) (c .loop-test .left) in
+    sym (c .before .loop .inv ∙ simp e)
+
+pub all-different-spec : {M : Type 1} → statement M
+all-different-spec =
+    tie.close
+    (tie.spec
+    Inv-loop2
+    μ-loop2
+    Inv-loop
+    μ-loop
+    loop-holds
+    add-j
+    loop2-holds
+    array-read-if1
+    array-read-if1-2
+    returns
+    add-j-2
+    loop2-less
+    loop2-again
+    add-i
+    loop-less
+    loop-again
+    returns-2)

@@ -1,2 +1,0 @@
-pub mod StepFaults
-pub mod StepAnswers

@@ -1,2 +1,0 @@
-pub mod Rests
-pub mod Tables

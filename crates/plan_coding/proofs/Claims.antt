@@ -1,0 +1,148 @@
+-- What a train claims in an interval, by marks: exactly the segments whose label is one of its run's. And how long the parts of an
+-- assignment are. Assumes nothing.
+use mathlib.Core.Path.{_≡_, refl, sym, ap, ap₂, _∙_, subst}
+use mathlib.Core.Bool.{Bool, _||_}
+use Prim.Native.Nat.{ℕ, _+_, _≤_, _<_}
+use native.Mathlib.Nat.{zero-add}
+use native.Mathlib.Omega.{arith}
+use mathlib.Core.List.{List, _++_, map, append-nil, List·Memᴰ}
+use lib.ListN.{length, getD, drop, replicate, length-append, length-map, length-replicate}
+use lib.Seq.{sets, sets-eq, append-snoc}
+use lib.Dec.{T, eqb, ltb}
+use Rattle.model.specs.declared.Book.{Book as BookStruct}
+use Rattle.spec.specs.Lists.{Bytes, all, any, has, upTo, each, one}
+use Rattle.spec.specs.Instance.{Instance, instanceOf}
+use Rattle.spec.specs.Sections.{together}
+use Rattle.spec.specs.Plan.{Plan, Move, runs, isGone, bit, planOf}
+use Rattle.spec.specs.Extra.{extraValues}
+use Rattle.spec.specs.Formula.{variables}
+use Rattle.spec.specs.Assignment.{claims, encode}
+use Rattle.spec.specs.Entry.{overwrite}
+use Rattle.spec.specs.Held.{held}
+use Rattle.laws.proofs.Tests.{bool-ext, any-iff, eqb-sym}
+use Rattle.laws.proofs.Rows.{any-map}
+use Rattle.laws.proofs.Parts.{length-upTo, map-same, each-same}
+use Rattle.demands.proofs.Encoding.{length-encode}
+use Rattle.demands.proofs.Extra.{extra-length}
+use Rattle.listing.proofs.Lists.{sets-append}
+use Rattle.run_tables.proofs.Small.{segments-is}
+use Rattle.plan_rules.specs.Marks.{PlanLabelled, rowOf, labelsOf, isMarked, marking, touched}
+use Rattle.plan_rules.proofs.Marking.{marked-by, unmarked}
+use Rattle.plan_rules.proofs.Sharing.{here-known, labels-here, labels-few}
+use Rattle.plan_coding.specs.Encoded.{borderBytes, moveBytes, claimBytes, intervalBytes, trainBytes}
+
+-- ---- claims
+
+module _ (b : BookStruct) (counts : List ℕ) (rows sizes : Bytes) (labels : List ℕ) (plan : Bytes)
+    (ready : PlanLabelled b counts rows sizes labels plan) (t : ℕ) (inside : t < b .intervals) (i : ℕ) (known : i < b .«train_count») where
+  abbrev I : Instance
+  I = instanceOf (held b)
+
+  abbrev p : Plan
+  p = planOf I plan
+
+  abbrev label : ℕ → ℕ
+  label s = getD labels s 0
+
+  -- a label of the run's, and a segment of its section
+  one-section : (s : ℕ) → s < I .segments → has (label s) (map label (touched I p t i)) ≡ claims I p i t s
+  unfolding has claims touched
+  one-section s l =
+      any-map (eqb (label s)) label (touched I p t i)
+      ∙ bool-ext
+      (any (λ u. eqb (label s) (label u)) (touched I p t i))
+      (any (λ u. together I (p .border) u s) (touched I p t i))
+      (λ h. let u = any-iff (λ u. eqb (label s) (label u)) (touched I p t i) .0 h in
+      any-iff (λ u. together I (p .border) u s) (touched I p t i) .1 (u .0, u .1, subst T (same (u .0) (u .1)) (u .2)))
+      (λ h. let u = any-iff (λ u. together I (p .border) u s) (touched I p t i) .0 h in
+      any-iff (λ u. eqb (label s) (label u)) (touched I p t i) .1 (u .0, u .1, subst T (sym (same (u .0) (u .1))) (u .2)))
+    where
+      same : (u : ℕ) → List·Memᴰ u (touched I p t i) → eqb (label s) (label u) ≡ together I (p .border) u s
+      same u m =
+          eqb-sym (label s) (label u)
+          ∙ ready .2 .same u s (here-known b counts rows sizes labels plan ready t inside i known u m) l
+
+  -- the marks of the run's labels
+  abbrev marks : Bytes
+  marks = marking (replicate 64 0) (labelsOf labels rows (rowOf sizes i (p .move i t)))
+
+  marked-claims : (s : ℕ) → s < I .segments → isMarked marks (label s) ≡ claims I p i t s
+  marked-claims s l =
+      ap (λ (ls : List ℕ). isMarked (marking (replicate 64 0) ls) (label s)) (labels-here b counts rows sizes labels plan ready t inside i known)
+      ∙ marked-by (map label (touched I p t i)) (replicate 64 0) (label s)
+      (subst (λ (n : ℕ). T (all (λ x. ltb x n) (map label (touched I p t i)))) (sym (length-replicate {A = ℕ} 64 0))
+      (labels-few b counts rows sizes labels plan ready t inside i known))
+      ∙ ap (λ (x : Bool). x || has (label s) (map label (touched I p t i))) (unmarked 64 (label s))
+      ∙ one-section s l
+
+  pub claims-marked : map (λ s. bit (isMarked marks (label s))) (upTo (b .«segment_count»)) ≡ claimBytes I p i t
+  unfolding claimBytes
+  claims-marked =
+      ap (λ (n : ℕ). map (λ s. bit (isMarked marks (label s))) (upTo n)) (sym (segments-is b (ready .0 .counted .passed)))
+      ∙ map-same _ _ (I .segments) (λ s l. ap bit (marked-claims s l))
+
+-- ---- lengths
+
+pub length-moves : (m : Move) (n : ℕ) → length (moveBytes m n) ≡ n + 1
+unfolding moveBytes
+length-moves m n =
+    length-append (map (λ r. bit (runs m (eqb r))) (upTo n)) (one (bit (isGone m)))
+    ∙ ap (λ (k : ℕ). k + 1) (length-map (upTo n) _ ∙ length-upTo n)
+
+pub length-interval : (I : Instance) (p : Plan) (i t : ℕ) → length (intervalBytes I p i t) ≡ I .runs i + 1 + I .segments
+unfolding intervalBytes claimBytes
+length-interval I p i t =
+    length-append (moveBytes (p .move i t) (I .runs i)) (claimBytes I p i t)
+    ∙ ap₂ _+_ (length-moves (p .move i t) (I .runs i)) (length-map (upTo (I .segments)) _ ∙ length-upTo (I .segments))
+
+-- ---- an interval is its move and its claims
+
+pub interval-written : (I : Instance) (p : Plan) (i t at n : ℕ) (m : Move) (out : Bytes) → n ≡ I .runs i → m ≡ p .move i t
+    → sets (sets out at (moveBytes m n)) (at + n + 1) (claimBytes I p i t) ≡ sets out at (intervalBytes I p i t)
+unfolding intervalBytes
+interval-written I p i t at n m out e f =
+    let place : at + n + 1 ≡ at + length (moveBytes m n) = omega (arith, length-moves m n) in
+    ap (λ (k : ℕ). sets (sets out at (moveBytes m n)) k (claimBytes I p i t)) place
+    ∙ sym (sets-append out at (moveBytes m n) (claimBytes I p i t))
+    ∙ ap₂ (λ (k : ℕ) (o : Move). sets out at (moveBytes o k ++ claimBytes I p i t)) e f
+
+-- ---- an assignment is its borders and its trains
+
+pub encode-parts : (I : Instance) (p : Plan) → borderBytes I p ++ each (upTo (I .trains)) (trainBytes I p) ≡ encode I p
+unfolding encode borderBytes trainBytes intervalBytes moveBytes claimBytes extraValues
+encode-parts I p =
+    ap (λ (bytes : Bytes). map (λ n. bit (p .border n)) (upTo (I .nodes)) ++ bytes)
+    (each-same (trainBytes I p) _ (I .trains) (λ i _. each-same (intervalBytes I p i) _ (I .intervals) (λ t _.
+    append-snoc (map (λ r. bit (runs (p .move i t) (eqb r))) (upTo (I .runs i))) (bit (isGone (p .move i t))) (claimBytes I p i t)))
+    ∙ sym (append-nil _))
+
+pub length-borders : (I : Instance) (p : Plan) → length (borderBytes I p) ≡ I .nodes
+unfolding borderBytes
+length-borders I p = length-map (upTo (I .nodes)) _ ∙ length-upTo (I .nodes)
+
+-- a byte a variable
+pub length-parts : (I : Instance) (p : Plan) → I .nodes + length (each (upTo (I .trains)) (trainBytes I p)) ≡ variables I
+length-parts I p =
+    ap (λ (n : ℕ). n + length (each (upTo (I .trains)) (trainBytes I p))) (sym (length-borders I p))
+    ∙ sym (length-append (borderBytes I p) (each (upTo (I .trains)) (trainBytes I p)))
+    ∙ ap length (encode-parts I p)
+    ∙ length-encode I p (extra-length I p)
+
+-- the borders from the start on, then the trains behind them
+pub assignment-written : (I : Instance) (p : Plan) (out : Bytes) → variables I ≤ length out
+    → sets (sets out 0 (borderBytes I p)) (I .nodes) (each (upTo (I .trains)) (trainBytes I p)) ≡ overwrite out (encode I p)
+unfolding overwrite
+assignment-written I p out fits =
+    let trains = each (upTo (I .trains)) (trainBytes I p) in
+    let place : I .nodes ≡ 0 + length (borderBytes I p) = omega (arith, length-borders I p) in
+    let size : 0 + length (encode I p) ≤ length out = omega (arith, length-encode I p (extra-length I p)) in
+    ap (λ (k : ℕ). sets (sets out 0 (borderBytes I p)) k trains) place
+    ∙ sym (sets-append out 0 (borderBytes I p) trains)
+    ∙ ap (sets out 0) (encode-parts I p)
+    ∙ sets-eq (encode I p) out 0 size
+    ∙ ap (λ (k : ℕ). encode I p ++ drop k out) (zero-add (length (encode I p)))
+
+-- the borders of a plan's bytes
+pub borders-of : (I : Instance) (plan : Bytes) → map (λ k. bit (eqb (getD plan k 0) 1)) (upTo (I .nodes)) ≡ borderBytes I (planOf I plan)
+unfolding borderBytes planOf
+borders-of I plan = refl

@@ -1,0 +1,174 @@
+// A plan written as an assignment: a byte 0 or 1 a variable, each at its variable's number. A train
+// claims exactly the sections that its run touches: the run's labels are marked, and a segment is
+// claimed where its label is. Assumes nothing.
+use layout::moves::Move;
+use layout::moves::is_gone;
+use layout::moves::move_at;
+use layout::numbering::claims_from;
+use layout::numbering::gone_variable;
+use layout::numbering::next_interval;
+use model::Book;
+use plan_rules::apart::mark;
+use plan_rules::apart::row_of;
+ghost use mathlib.Core.Path.{_≡_};
+ghost use mathlib.Core.List.{map};
+ghost use Prim.Native.Nat.{ℕ, _+_, _≤_, _<_};
+ghost use lib.ListN.{length, getD};
+ghost use lib.Seq.{sets};
+ghost use lib.Dec.{eqb};
+ghost use Rattle.spec.specs.Lists.{upTo};
+ghost use Rattle.spec.specs.Instance.{instanceOf};
+ghost use Rattle.spec.specs.Plan as plans;
+ghost use Rattle.spec.specs.Formula.{variables};
+ghost use Rattle.spec.specs.Assignment as assignment;
+ghost use Rattle.spec.specs.Entry.{overwrite};
+ghost use Rattle.spec.specs.Held.{held};
+ghost use Rattle.layout.specs.Moves.{heldMove};
+ghost use Rattle.plan_rules.specs.Marks.{PlanLabelled, isMarked};
+ghost use Rattle.plan_coding.specs.Encoded.{moveBytes, intervalBytes, trainBytes};
+
+// Writes a byte for each of the first n nodes: 1 where the plan has a border.
+fn write_borders(plan: &[u8], n: usize, out: &mut [u8])
+    requires { ⌜ (n ≤ length (now plan)) × (n ≤ length (now out)) ⌝ }
+    ensures { λ _. ⌜ now (out .exit) ≡ sets (now (out .entry)) 0 (map (λ k. plans.bit (eqb (getD (now (plan .entry)) k 0) 1)) (upTo n)) ⌝ }
+{
+    let mut k = 0;
+    while k < n {
+        out[k] = if plan[k] == 1 { 1 } else { 0 };
+        k += 1;
+    }
+}
+
+// Whether a move is the run with a number.
+fn is_run(m: Move, r: usize) -> bool
+    ensures { λ v. ⌜ v ≡ plans.runs (heldMove m) (eqb r) ⌝ }
+{
+    match m {
+        Move::Run(q) => r == q,
+        Move::Absent => false,
+        Move::Gone => false,
+    }
+}
+
+// Writes a byte for each of n runs, 1 for the one that the move is, and gone's byte, from `at` on, the
+// interval's first variable.
+fn write_move(m: Move, n: usize, at: usize, out: &mut [u8])
+    requires { ⌜ at + n + 1 ≤ length (now out) ⌝ }
+    ensures { λ _. ⌜ now (out .exit) ≡ sets (now (out .entry)) at (moveBytes (heldMove m) n) ⌝ }
+{
+    let mut r = 0;
+    while r < n {
+        out[at + r] = if is_run(m, r) { 1 } else { 0 };
+        r += 1;
+    }
+    let gone = gone_variable(at, n);
+    out[gone] = if is_gone(m) { 1 } else { 0 };
+}
+
+// Writes a byte for each of the first n segments from `at` on: 1 where its label is marked.
+fn write_marked(labels: &[usize], marks: &[u8; 64], n: usize, at: usize, out: &mut [u8])
+    requires { ⌜ (n ≤ length (now labels)) × ((s : ℕ) → s < n → getD (now labels) s 0 < 64) × (at + n ≤ length (now out)) ⌝ }
+    ensures { λ _. ⌜ now (out .exit) ≡ sets (now (out .entry)) at
+        (map (λ s. plans.bit (isMarked (now (marks .entry)) (getD (now (labels .entry)) s 0))) (upTo n)) ⌝ }
+{
+    let mut s = 0;
+    while s < n {
+        let label = labels[s];
+        out[at + s] = if marks[label] == 1 { 1 } else { 0 };
+        s += 1;
+    }
+}
+
+// Writes the bytes of a train's interval from `at` on, its first variable; answers where they end.
+fn write_interval(
+    b: Book,
+    runs: [usize; 8],
+    rows: &[u8],
+    sizes: &[u8],
+    labels: &[usize],
+    plan: &[u8],
+    train: usize,
+    interval: usize,
+    at: usize,
+    out: &mut [u8],
+) -> usize
+    requires { ⌜ PlanLabelled b runs (now rows) (now sizes) (now labels) (now plan) × (train < b .«train_count») × (interval < b .intervals)
+        × (at + length (intervalBytes (instanceOf (held b)) (plans.planOf (instanceOf (held b)) (now plan)) train interval) ≤ length (now out)) ⌝ }
+    ensures { λ r. ⌜ (r ≡ at + length (intervalBytes (instanceOf (held b)) (plans.planOf (instanceOf (held b)) (now (plan .entry))) train interval))
+        × (now (out .exit) ≡ sets (now (out .entry)) at
+        (intervalBytes (instanceOf (held b)) (plans.planOf (instanceOf (held b)) (now (plan .entry))) train interval)) ⌝ }
+{
+    let n = runs[train];
+    let segments = b.segment_count;
+    let m = move_at(b, plan, train, interval);
+    write_move(m, n, at, out);
+    let mut marks = [0u8; 64];
+    mark(labels, rows, row_of(m, sizes, train), &mut marks);
+    write_marked(labels, &marks, segments, claims_from(at, n), out);
+    next_interval(at, n, segments)
+}
+
+// Writes the bytes of a train from `at` on; answers where they end.
+fn write_train(
+    b: Book,
+    runs: [usize; 8],
+    rows: &[u8],
+    sizes: &[u8],
+    labels: &[usize],
+    plan: &[u8],
+    train: usize,
+    at: usize,
+    out: &mut [u8],
+) -> usize
+    requires { ⌜ PlanLabelled b runs (now rows) (now sizes) (now labels) (now plan) × (train < b .«train_count»)
+        × (at + length (trainBytes (instanceOf (held b)) (plans.planOf (instanceOf (held b)) (now plan)) train) ≤ length (now out)) ⌝ }
+    ensures { λ r. ⌜ (r ≡ at + length (trainBytes (instanceOf (held b)) (plans.planOf (instanceOf (held b)) (now (plan .entry))) train))
+        × (now (out .exit) ≡ sets (now (out .entry)) at
+        (trainBytes (instanceOf (held b)) (plans.planOf (instanceOf (held b)) (now (plan .entry))) train)) ⌝ }
+{
+    let intervals = b.intervals;
+    let mut next = at;
+    let mut interval = 0;
+    while interval < intervals {
+        next = write_interval(
+            b,
+            runs,
+            rows,
+            sizes,
+            labels,
+            plan,
+            train,
+            interval,
+            next,
+            out,
+        );
+        interval += 1;
+    }
+    next
+}
+
+// Writes the assignment of a plan over the start of the output.
+pub fn encode(
+    b: Book,
+    runs: [usize; 8],
+    rows: &[u8],
+    sizes: &[u8],
+    labels: &[usize],
+    plan: &[u8],
+    out: &mut [u8],
+)
+    requires { ⌜ PlanLabelled b runs (now rows) (now sizes) (now labels) (now plan)
+        × (variables (instanceOf (held b)) ≤ length (now out)) ⌝ }
+    ensures { λ _. ⌜ now (out .exit) ≡ overwrite (now (out .entry))
+        (assignment.encode (instanceOf (held b)) (plans.planOf (instanceOf (held b)) (now (plan .entry)))) ⌝ }
+{
+    let nodes = b.node_count;
+    write_borders(plan, nodes, out);
+    let trains = b.train_count;
+    let mut at = nodes;
+    let mut i = 0;
+    while i < trains {
+        at = write_train(b, runs, rows, sizes, labels, plan, i, at, out);
+        i += 1;
+    }
+}

@@ -1,0 +1,3 @@
+// An assignment as a plan, and a plan as an assignment.
+pub mod decoding;
+pub mod encoding;

@@ -1,0 +1,115 @@
+-- What the functions over one train know: its moves are its own, its runs lie inside the tables, and what the places' functions
+-- answer about a run is what the instance says. Assumes nothing.
+use mathlib.Core.Path.{_≡_, refl, sym, ap, ap₂, _∙_, subst}
+use mathlib.Core.Bool.{Bool}
+use Prim.Native.Nat.{ℕ, _+_, _*_, _≤_, _<_}
+use native.Mathlib.Omega.{arith}
+use lib.ListN.{length, getD}
+use lib.Dec.{T}
+use Rattle.model.specs.declared.Book.{Book as BookStruct}
+use Rattle.spec.specs.Lists.{Bytes, same}
+use Rattle.spec.specs.Runs.{startPlace, endPlace}
+use Rattle.spec.specs.Instance.{Instance, instanceOf, compile, runLists, runAt}
+use Rattle.spec.specs.Plan as plan
+use Rattle.spec.specs.Plan.{isMove, planOf, planLength, planFits}
+use Rattle.spec.specs.Held.{held}
+use Rattle.laws.proofs.Tests.{and-iff, eqb-iff, ltb-iff, all-upTo}
+use Rattle.run_tables.specs.Placed.{placeAt, endAt}
+use Rattle.run_tables.specs.Tables.{Passed}
+use Rattle.run_tables.proofs.Answers.{end-inside, least-held, ending-held}
+use Rattle.run_tables.proofs.Here.{in-instance}
+use Rattle.run_tables.proofs.Small.{intervals-is}
+use Rattle.layout.specs.declared.moves.Move.{Move}
+use Rattle.layout.specs.declared.moves.Move.the-variants.{Run}
+use Rattle.layout.specs.Moves.{heldMove}
+use Rattle.plan_rules.proofs.Loops.{prior, prior-all}
+use Rattle.plan_rules.specs.Kept.{Planned, TrainReady}
+
+-- ---- bytes that are a plan
+
+module _ (I : Instance) (s : Bytes) (fits : T (planFits I s)) where
+  pub plan-long : length s ≡ planLength I
+  unfolding planFits
+  plan-long = (simp (and-iff, eqb-iff) at fits) .0 .0
+
+  pub nodes-inside : I .nodes ≤ length s
+  unfolding planLength
+  nodes-inside = omega (arith, plan-long)
+
+  pub own-move : (i t : ℕ) → i < I .trains → t < I .intervals → T (isMove I i (planOf I s .move i t))
+  unfolding planFits
+  own-move i t l k = (simp (and-iff, all-upTo) at fits) .1 i l t k
+
+-- ---- a train's move
+
+-- the answer about a move, for the case that it is
+pub told : (f : plan.Move → Bool) {m case : Move} → m ≡ case → f (heldMove case) ≡ f (heldMove m)
+told f e = ap (λ (o : Move). f (heldMove o)) (sym e)
+
+pub run-below : (I : Instance) (i : ℕ) {m : Move} {r : ℕ} → T (isMove I i (heldMove m)) → m ≡ Run r → r < I .runs i
+unfolding isMove
+run-below I i {r = r} t e = ltb-iff r (I .runs i) .0 (subst (λ (o : Move). T (isMove I i (heldMove o))) e t)
+
+-- a move of the plan, as `moves::move_at` answers it
+module _ {b : BookStruct} {i : ℕ} {s : Bytes} (h : Planned b i s) where
+  own-here : (t : ℕ) → t < b .intervals → T (isMove (instanceOf (held b)) i (planOf (instanceOf (held b)) s .move i t))
+  own-here t k =
+      own-move (instanceOf (held b)) s (h .fits) i t (in-instance b (h .passed) i (h .known))
+      (subst (λ (n : ℕ). t < n) (sym (intervals-is b (h .passed))) k)
+
+  pub move-own : (m : Move) (t : ℕ) → t < b .intervals → heldMove m ≡ planOf (instanceOf (held b)) s .move i t
+      → T (isMove (instanceOf (held b)) i (heldMove m))
+  move-own m t k e = rw e (own-here t k)
+
+  -- the move before an interval's
+  pub prior-own : (m : Move) (t : ℕ) → t ≤ b .intervals → heldMove m ≡ prior (planOf (instanceOf (held b)) s .move i) t
+      → T (isMove (instanceOf (held b)) i (heldMove m))
+  unfolding isMove
+  prior-own m t k e =
+      rw e (prior-all (planOf (instanceOf (held b)) s .move i) (λ x. T (isMove (instanceOf (held b)) i x)) tt (b .intervals)
+      (λ u l. own-here u l) t k)
+
+  -- what `moves::move_at` asks
+  pub move-asks : (t : ℕ) → t < b .intervals
+      → Passed b × (length s ≡ planLength (instanceOf (held b))) × (i < b .«train_count») × (t < b .intervals)
+  move-asks t k = (h .passed, plan-long (instanceOf (held b)) s (h .fits), h .known, k)
+
+-- a train with its tables, and a plan
+pub planned : {b : BookStruct} {i l : ℕ} {rows sizes s : Bytes} → TrainReady b i l rows sizes → T (planFits (instanceOf (held b)) s)
+    → Planned b i s
+planned h f = record { passed = h .passed; known = h .known; fits = f }
+
+-- ---- a train's run
+
+module _ {b : BookStruct} {i l : ℕ} {rows sizes : Bytes} (h : TrainReady b i l rows sizes) (r : ℕ)
+    (k : r < instanceOf (held b) .runs i) where
+  pub few : r < 256
+  few = omega (arith, h .tables .few)
+
+  pub start-inside : {at : ℕ} → at ≡ 16 * r → at + l ≤ length rows
+  start-inside e = omega (arith, few, h .short, h .tables .rowsLong)
+
+  -- what `places::end_of` asks
+  pub end-asks : (r < 256) × (r < length sizes) × (l ≤ getD sizes r 0)
+  end-asks = (few, omega (arith, few, h .tables .sizesLong), least-held b i r (h .reached) (h .tables) k)
+
+  pub end-room : {at : ℕ} → at ≡ endAt sizes r l → at + l ≤ length rows
+  end-room {at} e = end-inside sizes r l at (length rows) (h .tables .rowsLong) few (end-asks .2) (h .tables .most r k) e
+
+  pub starting : {at : ℕ} → at ≡ 16 * r → placeAt rows at l ≡ startPlace l (runAt (runLists (held b)) i r)
+  starting e = ap (λ (n : ℕ). placeAt rows n l) e ∙ rw (h .reached) (h .tables .starting r k)
+
+  pub ending : {at : ℕ} → at ≡ endAt sizes r l → placeAt rows at l ≡ endPlace l (runAt (runLists (held b)) i r)
+  ending e = ap (λ (n : ℕ). placeAt rows n l) e ∙ ending-held b i r (h .reached) (h .tables) k
+
+-- whether a run follows, as `places::follows` answers it
+module _ {b : BookStruct} {i l : ℕ} {rows sizes : Bytes} (h : TrainReady b i l rows sizes) (r q : ℕ)
+    (k : r < instanceOf (held b) .runs i) (j : q < instanceOf (held b) .runs i) where
+  pub follows-asks : (length rows ≡ 4096) × (length sizes ≡ 256) × (r < 256) × (q < 256) × (l ≤ getD sizes r 0) × (getD sizes r 0 ≤ 16)
+  follows-asks = (h .tables .rowsLong, h .tables .sizesLong, few h r k, few h q j, end-asks h r k .2, h .tables .most r k)
+
+  pub follows-answer : {test : Bool} → test ≡ same (placeAt rows (endAt sizes r l) l) (placeAt rows (16 * q) l)
+      → test ≡ instanceOf (held b) .follows i r q
+  unfolding instanceOf compile
+  follows-answer t = t ∙ ap₂ same (ending h r k refl) (starting h q j refl)
+      ∙ ap (λ (n : ℕ). same (endPlace n (runAt (runLists (held b)) i r)) (startPlace n (runAt (runLists (held b)) i q))) (h .reached)

@@ -1,0 +1,182 @@
+-- Trains that share a section, by the labels of segments: a run touches a marked label exactly where it shares a section with a run
+-- that was marked; and rule 6 train by train. Assumes nothing.
+use mathlib.Core.Path.{_≡_, sym, ap, _∙_, subst}
+use mathlib.Core.Bool.{Bool, not, _||_}
+use Prim.Native.Nat.{ℕ, _+_, _-_, _/_, _≤_, _<_}
+use native.Mathlib.Numerals.{add-one}
+use native.Mathlib.Omega.{arith}
+use mathlib.Core.List.{List, map, map-map, List·Memᴰ, Memᴰ·of-map}
+use lib.ListN.{length, getD, replicate, length-map, length-replicate}
+use lib.Seq.{slice, length-slice}
+use lib.Dec.{T, eqb, ltb}
+use Rattle.model.specs.declared.Book.{Book as BookStruct}
+use Rattle.spec.specs.Lists.{Bytes, all, any, has, upTo, range, count, one}
+use Rattle.spec.specs.Book.{segmentOf}
+use Rattle.spec.specs.Instance.{Instance, instanceOf}
+use Rattle.spec.specs.Sections.{together, shareSection}
+use Rattle.spec.specs.Plan.{Plan, ofRun, isMove, planOf}
+use Rattle.spec.specs.Held.{held}
+use Rattle.laws.proofs.Tests.{meaning, bool-ext, eqb-iff, ltb-iff, all-iff, any-iff, any-upTo, getD-mem}
+use Rattle.laws.proofs.Rows.{any-map, any-append, any-one}
+use Rattle.laws.proofs.Parts.{upTo-suc}
+use Rattle.demands.proofs.Wellformed.{map-at}
+use Rattle.run_tables.specs.Placed.{placeAt}
+use Rattle.run_tables.proofs.Small.{segments-is}
+use Rattle.plan_rules.specs.declared.apart.Row.{Row}
+use Rattle.plan_rules.specs.Marks.{PlanLabelled, RowFits, rowOf, labelsOf, isMarked, marking, touched, sharesBefore, intervalApart}
+use Rattle.plan_rules.proofs.Marking.{marked-by, unmarked, length-marking}
+use Rattle.plan_rules.proofs.Rows.{getD-slice, is-move, row-inside, row-segments, row-known}
+
+-- ---- rule 6, train by train
+
+-- no two of n pairs, the earlier first or the later first
+pub pairs-reordered : (share : ℕ → ℕ → Bool) (n : ℕ)
+    → all (λ i. all (λ j. not (share i j)) (range (i + 1) n)) (upTo n) ≡ all (λ j. not (any (λ i. share i j) (upTo j))) (upTo n)
+pairs-reordered share n =
+    bool-ext
+    (all (λ i. all (λ j. not (share i j)) (range (i + 1) n)) (upTo n))
+    (all (λ j. not (any (λ i. share i j) (upTo j))) (upTo n))
+    (λ h. let k = simp meaning at h in simp meaning (λ j l r. k (r .0) (omega (arith, r .1)) j (omega (arith, r .1)) l (r .2)))
+    (λ h. let k = simp meaning at h in simp meaning (λ i l j a z shares. k j z (i, omega arith, shares)))
+
+-- rule 6 of an interval
+pub apart-iff : (I : Instance) (p : Plan) (t : ℕ)
+    → all (λ i. all (λ j. not (shareSection I (p .border) (ofRun (p .move i t) (λ r. I .path i r)) (ofRun (p .move j t) (λ r. I .path j r))))
+    (range (i + 1) (I .trains))) (upTo (I .trains))
+    ≡ intervalApart I p t
+unfolding intervalApart sharesBefore touched
+apart-iff I p t =
+    pairs-reordered
+    (λ i j. shareSection I (p .border) (ofRun (p .move i t) (λ r. I .path i r)) (ofRun (p .move j t) (λ r. I .path j r)))
+    (I .trains)
+
+-- ---- a plan with labels
+
+-- exactly the labels that the first k trains touch are marked
+abbrev pub Marked : Instance → Plan → ℕ → List ℕ → ℕ → Bytes → Type 0
+Marked I p t labels k marks =
+    (length marks ≡ 64)
+    × ((l : ℕ) → isMarked marks l ≡ any (λ i. has l (map (λ s. getD labels s 0) (touched I p t i))) (upTo k))
+
+module _ (b : BookStruct) (runs : List ℕ) (rows sizes : Bytes) (labels : List ℕ) (plan : Bytes)
+    (ready : PlanLabelled b runs rows sizes labels plan) (t : ℕ) (inside : t < b .intervals) where
+  abbrev I : Instance
+  I = instanceOf (held b)
+
+  abbrev p : Plan
+  p = planOf I plan
+
+  -- a segment's label
+  abbrev label : ℕ → ℕ
+  label s = getD labels s 0
+
+  -- what a train's run touches, and where the tables hold it
+  abbrev here : ℕ → List ℕ
+  here i = touched I p t i
+
+  abbrev row : ℕ → Row
+  row i = rowOf sizes i (p .move i t)
+
+  few : I .segments ≤ 64
+  few = let passed = ready .0 .counted .passed in omega (arith, segments-is b passed, passed .packed .counts .segments)
+
+  module _ (i : ℕ) (known : i < b .«train_count») where
+    valid : T (isMove I i (p .move i t))
+    valid = is-move b (ready .0 .counted .passed) plan (ready .1) i t known inside
+
+    pub here-known : (s : ℕ) → List·Memᴰ s (here i) → s < I .segments
+    unfolding touched
+    here-known = row-known b runs rows sizes (ready .0) i known (p .move i t) valid
+
+    segments-here : map segmentOf (placeAt rows (row i .at) (row i .size)) ≡ here i
+    unfolding touched
+    segments-here = row-segments b runs rows sizes (ready .0) i known (p .move i t) valid
+
+    pub labels-here : labelsOf labels rows (row i) ≡ map label (here i)
+    unfolding labelsOf
+    labels-here = sym (map-map label segmentOf (placeAt rows (row i .at) (row i .size))) ∙ ap (map label) segments-here
+
+    -- the segment at k
+    segment-at : (k : ℕ) → row i .at ≤ k → k < row i .at + row i .size → getD rows k 0 / 2 < I .segments
+    unfolding placeAt segmentOf
+    segment-at k a z =
+        let at = row i .at in
+        let size = row i .size in
+        let fits = row-inside b runs rows sizes (ready .0) i known (p .move i t) valid in
+        let long : length (slice at (at + size) rows) ≡ size = length-slice at (at + size) rows fits ∙ omega arith in
+        let below : k - at < length (slice at (at + size) rows) = omega (arith, long) in
+        let back : at + (k - at) ≡ k = omega arith in
+        let same : getD (map segmentOf (slice at (at + size) rows)) (k - at) 0 ≡ getD rows k 0 / 2 =
+        map-at segmentOf (slice at (at + size) rows) (k - at) 0 0 below
+        ∙ ap segmentOf (getD-slice rows at size fits (k - at) 0 (omega arith) ∙ ap (λ (n : ℕ). getD rows n 0) back) in
+        here-known (getD rows k 0 / 2)
+        (subst (λ (s : ℕ). List·Memᴰ s (here i)) same
+        (subst (λ (ss : List ℕ). List·Memᴰ (getD (map segmentOf (slice at (at + size) rows)) (k - at) 0) ss) segments-here
+        (getD-mem _ (k - at) 0 (rw length-map below))))
+
+    pub fits-here : RowFits labels rows (row i)
+    fits-here =
+        record {
+          fits = row-inside b runs rows sizes (ready .0) i known (p .move i t) valid;
+          inside = λ k a z. omega (arith, segment-at k a z, ready .2 .long, few);
+          below = λ k a z. omega (arith, ready .2 .below _ (segment-at k a z), few);
+        }
+
+    -- its labels are labels of marks
+    pub labels-few : T (all (λ l. ltb l 64) (map label (here i)))
+    labels-few =
+        all-iff _ _ .1 (λ l m.
+        let r = Memᴰ·of-map label (here i) m in
+        ltb-iff l 64 .1 (omega (arith, r .2, ready .2 .below (r .0) (here-known (r .0) (r .1)), few)))
+
+  pub marked-none : Marked I p t labels 0 (replicate 64 0)
+  unfolding any upTo count
+  marked-none = (length-replicate {A = ℕ} 64 0, λ l. unmarked 64 l)
+
+  pub marked-next : (k : ℕ) → k < b .«train_count» → (marks : Bytes) → Marked I p t labels k marks
+      → Marked I p t labels (k + 1) (marking marks (map label (here k)))
+  marked-next k known marks h = (
+    length-marking (map label (here k)) marks ∙ h .0,
+    λ l.
+        marked-by (map label (here k)) marks l (rw (h .0) (labels-few k known))
+        ∙ ap (λ (x : Bool). x || has l (map label (here k))) (h .1 l)
+        ∙ ap (λ (x : Bool). any (λ i. has l (map label (here i))) (upTo k) || x) (sym (any-one (λ i. has l (map label (here i))) k))
+        ∙ sym (any-append (λ i. has l (map label (here i))) (upTo k) (one k))
+        ∙ ap (any (λ i. has l (map label (here i)))) (sym (upTo-suc k) ∙ ap upTo (sym (add-one k))),
+  )
+
+  -- a train touches a marked label where it shares a section with an earlier one
+  module _ (j : ℕ) (known : j < b .«train_count») (marks : Bytes) (h : Marked I p t labels j marks) where
+    touch-shares : T (any (isMarked marks) (map label (here j))) → T (sharesBefore I p t j)
+    unfolding sharesBefore shareSection has
+    touch-shares m =
+        let u = any-iff (λ s. isMarked marks (label s)) (here j) .0 (rw any-map at m) in
+        let i = any-upTo (λ i. has (label (u .0)) (map label (here i))) j .0 (rw (h .1 (label (u .0))) at (u .2)) in
+        let s = any-iff (λ s. eqb (label (u .0)) (label s)) (here (i .0)) .0 (rw any-map at (i .2)) in
+        let ks = here-known (i .0) (omega (arith, i .1)) (s .0) (s .1) in
+        let ku = here-known j known (u .0) (u .1) in
+        let same = rw (ready .2 .same (s .0) (u .0) ks ku) at (eqb-iff (label (s .0)) (label (u .0)) .1 (sym (eqb-iff _ _ .0 (s .2)))) in
+        any-upTo (λ i. shareSection I (p .border) (here i) (here j)) j .1 (
+          i .0,
+          i .1,
+          any-iff (λ s. any (together I (p .border) s) (here j)) (here (i .0)) .1
+              (s .0, s .1, any-iff (together I (p .border) (s .0)) (here j) .1 (u .0, u .1, same)),
+        )
+
+    shares-touch : T (sharesBefore I p t j) → T (any (isMarked marks) (map label (here j)))
+    unfolding sharesBefore shareSection has
+    shares-touch m =
+        let i = any-upTo (λ i. shareSection I (p .border) (here i) (here j)) j .0 m in
+        let s = any-iff (λ s. any (together I (p .border) s) (here j)) (here (i .0)) .0 (i .2) in
+        let u = any-iff (together I (p .border) (s .0)) (here j) .0 (s .2) in
+        let ks = here-known (i .0) (omega (arith, i .1)) (s .0) (s .1) in
+        let ku = here-known j known (u .0) (u .1) in
+        let same = eqb-iff (label (s .0)) (label (u .0)) .0 (rw (ready .2 .same (s .0) (u .0) ks ku) (u .2)) in
+        let has′ : T (any (eqb (label (u .0))) (map label (here (i .0)))) =
+        rw any-map (any-iff (λ s. eqb (label (u .0)) (label s)) (here (i .0)) .1 (s .0, s .1, eqb-iff _ _ .1 (sym same))) in
+        let marked : T (isMarked marks (label (u .0))) =
+        rw (h .1 (label (u .0))) (any-upTo (λ i. has (label (u .0)) (map label (here i))) j .1 (i .0, i .1, has′)) in
+        rw any-map (any-iff (λ s. isMarked marks (label s)) (here j) .1 (u .0, u .1, marked))
+
+    pub touch-is : any (isMarked marks) (map label (here j)) ≡ sharesBefore I p t j
+    touch-is = bool-ext _ _ touch-shares shares-touch

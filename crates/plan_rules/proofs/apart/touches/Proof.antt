@@ -1,0 +1,126 @@
+-- `apart::touches` meets its contract. The loop's invariant: the answer for the whole row is that for what stands from k on. Assumes
+-- nothing.
+use borrow.Author.Needs.{needs}
+use borrow.Author.Tests.{eq-eqb, ne-eqb}
+use native.Mathlib.Omega.{arith}
+use mathlib.Core.Path.{_≡_, refl, sym, ap, _∙_}
+use mathlib.Core.Bool.{Bool, _||_}
+use mathlib.Core.List.{List}
+use Prim.Native.Nat.{ℕ, _+_, _-_, _/_, _≤_, _<_}
+use denote.Ref.{now}
+use lib.ListN.{length, getD}
+use lib.Seq.{slice}
+use Rattle.spec.specs.Lists.{Bytes, any}
+use Rattle.spec.specs.Book.{segmentOf}
+use Rattle.laws.proofs.Rows.{any-map}
+use Rattle.network.proofs.Walks.{any-next, any-end}
+use Rattle.run_tables.specs.Placed.{placeAt}
+use Rattle.plan_rules.specs.Marks.{labelsOf, isMarked}
+use Rattle.plan_rules.proofs.Marking.{label-here}
+use Rattle.plan_rules.proofs.apart.touches.Statement.{statement}
+use Rattle.plan_rules.proofs.apart.touches.Tie as tie
+
+-- whether the label of a directed segment is marked
+abbrev marked : Bytes → List ℕ → ℕ → Bool
+marked marks labels d = isMarked marks (getD labels (segmentOf d) 0)
+
+abbrev Inv-loop : tie.InvT-loop
+Inv-loop labels marks rows end k₀ k =
+    (k₀ ≤ k) × (any (marked marks labels) (slice k₀ end rows) ≡ any (marked marks labels) (slice k end rows))
+
+abbrev μ-loop : tie.MeasureT-loop
+μ-loop labels marks rows end k₀ k = end - k
+
+add-end : tie.Need-add-end Inv-loop μ-loop
+add-end c = omega arith
+
+loop-holds : tie.Need-loop-holds Inv-loop μ-loop
+loop-holds c = (omega arith, refl)
+
+shared-slice-read-wide : tie.Need-shared-slice-read-wide Inv-loop μ-loop
+shared-slice-read-wide c = omega arith
+
+wide-requires : tie.Need-wide-requires Inv-loop μ-loop
+wide-requires c κs = search needs
+
+mul-label : tie.Need-mul-label Inv-loop μ-loop
+mul-label c = omega (arith, c .wide .ensures .1)
+
+-- the label at k is that of a segment of the row
+module _ (c : tie.After-wide Inv-loop μ-loop) where
+  abbrev start : tie.Start Inv-loop μ-loop
+  start = c .before .before .before .before .before .before .before
+
+  abbrev here : ℕ
+  here = c .before .before .before .loop .k
+
+  label : (c .wide .result / 2 < length (now (start .args .labels))) × (getD (now (start .args .labels)) (c .wide .result / 2) 0 < 64)
+  label = label-here (start .pre) (c .before .before .before .loop .inv .0) (c .before .before .loop-test .taken) (c .wide .ensures .0)
+
+  abbrev behind : ℕ → Bool
+  behind k =
+      any (marked (now (start .args .marks)) (now (start .args .labels)))
+      (slice k (start .args .row .at + start .args .row .size) (now (start .args .rows)))
+
+  -- a turn: this segment's label, or those behind it
+  turn : behind (start .args .row .at)
+      ≡ (isMarked (now (start .args .marks)) (getD (now (start .args .labels)) (c .wide .result / 2) 0) || behind (here + 1))
+  unfolding segmentOf
+  turn =
+      c .before .before .before .loop .inv .1
+      ∙ any-next _ _ _ 0 (c .before .before .loop-test .taken) (start .pre .fits) _
+      ∙ ap (λ (d : ℕ). isMarked (now (start .args .marks)) (getD (now (start .args .labels)) (d / 2) 0) || behind (here + 1))
+      (sym (c .wide .ensures .0))
+
+shared-slice-read-label : tie.Need-shared-slice-read-label Inv-loop μ-loop
+shared-slice-read-label c = label (c .before) .0
+
+element-copy-out-if1 : tie.Need-element-copy-out-if1 Inv-loop μ-loop
+element-copy-out-if1 c = label (c .before) .1
+
+-- the answer for the row
+whole : (c : tie.After-wide Inv-loop μ-loop) → behind c (start c .args .row .at)
+    ≡ any (isMarked (now (start c .args .marks))) (labelsOf (now (start c .args .labels)) (now (start c .args .rows)) (start c .args .row))
+unfolding labelsOf placeAt
+whole c = sym (any-map _ _ _)
+
+returns : tie.Need-returns Inv-loop μ-loop
+unfolding isMarked
+returns c =
+    let w = c .before .before .before in
+    sym (sym (whole w) ∙ turn w ∙ ap (λ (t : Bool). t || behind w (here w + 1)) (eq-eqb _ _ (c .if1 .taken)))
+
+add-k : tie.Need-add-k Inv-loop μ-loop
+add-k c = omega arith
+
+loop-less : tie.Need-loop-less Inv-loop μ-loop
+loop-less c = omega arith
+
+loop-again : tie.Need-loop-again Inv-loop μ-loop
+unfolding isMarked
+loop-again c =
+    let w = c .before .before .before in
+    (omega arith, turn w ∙ ap (λ (t : Bool). t || behind w (here w + 1)) (ne-eqb _ _ (c .if1 .left)))
+
+returns-2 : tie.Need-returns-2 Inv-loop μ-loop
+unfolding labelsOf placeAt
+returns-2 c = sym (any-map _ _ _ ∙ c .before .loop .inv .1 ∙ any-end _ _ _ (c .loop-test .left) _)
+
+pub touches-spec : {M : Type 1} → statement M
+touches-spec =
+    tie.close
+    (tie.spec
+    Inv-loop
+    μ-loop
+    add-end
+    loop-holds
+    shared-slice-read-wide
+    wide-requires
+    mul-label
+    shared-slice-read-label
+    element-copy-out-if1
+    returns
+    add-k
+    loop-less
+    loop-again
+    returns-2)

@@ -1,0 +1,106 @@
+-- `rules::absent_before` meets its contract. The loop's invariant: the answer for all intervals is that for those from t on.
+-- Assumes nothing.
+use borrow.Author.Tests.{not-true, not-false}
+use native.Mathlib.Omega.{arith}
+use mathlib.Core.Path.{_≡_, sym, ap, _∙_}
+use mathlib.Core.Bool.{Bool, not, cond}
+use Prim.Native.Nat.{ℕ, _-_, _<_}
+use denote.Ref.{now}
+use lib.ListN.{getD}
+use lib.Dec.{ltb}
+use Rattle.model.specs.declared.Book.{Book as BookStruct}
+use Rattle.spec.specs.Lists.{Bytes, all, range}
+use Rattle.spec.specs.Instance.{instanceOf}
+use Rattle.spec.specs.Plan.{Move, isAbsent, planOf, absentBefore}
+use Rattle.spec.specs.Held.{held}
+use Rattle.laws.proofs.Loops.{all-turn, all-broken, all-done}
+use Rattle.run_tables.proofs.Here.{noTrain, few-trains, departs-here, departs-asks}
+use Rattle.run_tables.proofs.Small.{intervals-is}
+use Rattle.plan_rules.proofs.Ready.{move-asks}
+use Rattle.plan_rules.proofs.Loops.{absentStep, absent-steps}
+use Rattle.plan_rules.proofs.rules.absent_before.Statement.{statement}
+use Rattle.plan_rules.proofs.rules.absent_before.Tie as tie
+
+-- the test of an interval
+abbrev step : BookStruct → Bytes → ℕ → ℕ → ℕ → Bool
+step b plan train d t = absentStep (instanceOf (held b)) (planOf (instanceOf (held b)) plan) train d t
+
+abbrev Inv-loop : tie.InvT-loop
+Inv-loop train plan b d intervals t₀ t =
+    absentBefore (instanceOf (held b)) (planOf (instanceOf (held b)) plan) train ≡ all (step b plan train d) (range t intervals)
+
+abbrev μ-loop : tie.MeasureT-loop
+μ-loop train plan b d intervals t₀ t = intervals - t
+
+few : (s : tie.Start Inv-loop μ-loop) → s .args .train < 8
+few s = few-trains (s .args .t1) (s .pre .passed) (s .args .train) (s .pre .known)
+
+mul-d : tie.Need-mul-d Inv-loop μ-loop
+mul-d c = omega (arith, few (c .before))
+
+element-copy-out-d : tie.Need-element-copy-out-d Inv-loop μ-loop
+element-copy-out-d c = few (c .before)
+
+loop-holds : tie.Need-loop-holds Inv-loop μ-loop
+loop-holds c =
+    let s = c .before in
+    let b = s .args .t1 in
+    let p = s .pre in
+    absent-steps (instanceOf (held b)) _ (s .args .train) (sym (departs-here b (p .passed) (s .args .train) (p .known)))
+    (intervals-is b (p .passed)) (omega (arith, departs-asks b (p .passed) (s .args .train) (p .known) .0))
+
+move-at-requires : tie.Need-move-at-requires Inv-loop μ-loop
+move-at-requires c κs = move-asks (c .before .before .before .pre) (c .before .loop .t) (c .loop-test .taken)
+
+absent-if-requires : tie.Need-absent-if-requires Inv-loop μ-loop
+absent-if-requires c κs = tt
+
+-- the answer about this interval
+module _ (c : tie.After-absent-if Inv-loop μ-loop) where
+  abbrev start : tie.Start Inv-loop μ-loop
+  start = c .before .before .before .before .before
+
+  abbrev d : ℕ
+  d = getD (start .args .t1 .trains) (start .args .train) noTrain .departure
+
+  abbrev time : ℕ
+  time = c .before .before .before .loop .t
+
+  here : c .absent-if .result ≡ step (start .args .t1) (now (start .args .plan)) (start .args .train) d time
+  here = c .absent-if .ensures ∙ ap (λ (m : Move). cond (ltb time d) (isAbsent m) (not (isAbsent m))) (c .before .move-at .ensures)
+
+returns : tie.Need-returns Inv-loop μ-loop
+returns c =
+    let k = c .before in
+    all-broken _ (k .before .before .before .loop .inv) (k .before .before .loop-test .taken) (sym (here k) ∙ not-true _ (c .if1 .taken))
+
+add-t : tie.Need-add-t Inv-loop μ-loop
+add-t c = omega arith
+
+loop-less : tie.Need-loop-less Inv-loop μ-loop
+loop-less c = omega arith
+
+loop-again : tie.Need-loop-again Inv-loop μ-loop
+loop-again c =
+    let k = c .before in
+    all-turn _ (k .before .before .before .loop .inv) (k .before .before .loop-test .taken) (sym (here k) ∙ not-false _ (c .if1 .left))
+
+returns-2 : tie.Need-returns-2 Inv-loop μ-loop
+returns-2 c = all-done _ (c .before .loop .inv) (c .loop-test .left)
+
+pub absent-before-spec : {M : Type 1} → statement M
+absent-before-spec =
+    tie.close
+    (tie.spec
+    Inv-loop
+    μ-loop
+    mul-d
+    element-copy-out-d
+    loop-holds
+    move-at-requires
+    absent-if-requires
+    returns
+    add-t
+    loop-less
+    loop-again
+    returns-2)

@@ -1,0 +1,58 @@
+-- What the programs print of a book and a second input is the specification's: from the parts of both that a program holds, and
+-- with the slices that it lends. Assumes nothing.
+use mathlib.Core.Path.{_≡_, refl, ap, ap₂, _∙_}
+use mathlib.Core.Bool.{Bool, true, false, _||_}
+use Prim.Native.Nat.{ℕ}
+use native.Mathlib.Omega.{arith}
+use Rattle.spec.specs.Lists.{Bytes, Verdict, accepted, refused, andThen}
+use Rattle.spec.specs.Entry.{checkRefutation}
+use Rattle.spec.specs.Programs.{sliceBytes, sliceOf, programLent, isLong, unlessLong, acceptedLine, printed, printAssignment, printPlan, printRefutation}
+use Rattle.programs.proofs.FormulaProgram.{held, held-whole, unless-same}
+use Rattle.programs.specs.declared.verdicts.Check.{Check}
+use Rattle.programs.specs.declared.verdicts.Check.the-variants.{Assignment, Plan, Refutation}
+use Rattle.programs.specs.Verdicts.{bare, verdictOf}
+
+-- the output that a program lends
+pub output-lent : 65536 ≡ sliceOf 1
+unfolding sliceOf sliceBytes
+output-lent = refl
+
+neither : (a b : Bool) → (a || b) ≡ false → (a ≡ false) × (b ≡ false)
+neither false b h = (refl, h)
+neither true b h = let z : _≡_ {A = ℕ} 0 1 = cc in let no′ : ⊥ = omega arith in absurd no′
+
+line : {A : Type 0} → Verdict A → Bytes
+line v = printed (λ _. acceptedLine) v
+
+bare-line : (long : Bool) (v : Verdict (Unit {0})) → line (unlessLong long (bare v)) ≡ line (unlessLong long v)
+unfolding line bare andThen unlessLong printed
+bare-line true v = refl
+bare-line false (accepted u) = refl
+bare-line false (refused n d) = refl
+
+module _ (book s : Bytes) where
+  abbrev long : Bool
+  long = isLong book || isLong s
+
+  -- a program's verdict, on what it holds
+  abbrev verdict : Check → Verdict Bytes
+  verdict check = unlessLong long (verdictOf check (held book) (held s) 65536)
+
+  whole : (check : Check) → verdict check ≡ unlessLong long (verdictOf check book s (sliceOf 1))
+  whole check = unless-same long λ h.
+      ap₂ (λ (b t : Bytes). verdictOf check b t 65536)
+      (held-whole book (neither (isLong book) (isLong s) h .0))
+      (held-whole s (neither (isLong book) (isLong s) h .1))
+      ∙ ap (verdictOf check book s) output-lent
+
+  pub assignment-printed : printed (λ _. acceptedLine) (verdict Assignment) ≡ printAssignment book s
+  unfolding verdictOf printAssignment line
+  assignment-printed = ap line (whole Assignment)
+
+  pub plan-printed : printed (λ _. acceptedLine) (verdict Plan) ≡ printPlan book s
+  unfolding verdictOf printPlan line
+  plan-printed = ap line (whole Plan)
+
+  pub refutation-printed : printed (λ _. acceptedLine) (verdict Refutation) ≡ printRefutation book s
+  unfolding verdictOf printRefutation line
+  refutation-printed = ap line (whole Refutation) ∙ bare-line long (checkRefutation book s programLent)

@@ -1,0 +1,10 @@
+pub mod Figures
+pub mod Pieces
+pub mod Signs
+pub mod Stores
+pub mod Text
+pub mod Words
+pub mod FormulaProgram
+pub mod Texts
+pub mod Lines
+pub mod CheckPrograms

@@ -1,0 +1,72 @@
+-- `dimacs::put_bytes` meets its contract. The loop's invariant: the first i bytes stand in the buffer from `at` on. Assumes nothing.
+use native.Mathlib.Omega.{arith}
+use native.Mathlib.Numerals.{add-one}
+use native.Mathlib.Nat.{add-zero, add-assoc}
+use mathlib.Core.Path.{sym}
+use Prim.Native.Nat.{_+_, _-_, _≤_}
+use lib.ListN.{length, take, getD}
+use lib.Seq.{take-suc, take-all}
+use Rattle.programs.proofs.Stores.{Stored, stored-none, stored-byte, stored-same, stored-length}
+use Rattle.programs.proofs.dimacs.put_bytes.Statement.{statement}
+use Rattle.programs.proofs.dimacs.put_bytes.Tie as tie
+
+abbrev Inv-loop : tie.InvT-loop
+Inv-loop buf₀ at s i₀ buf i = (i ≤ length s) × Stored buf₀ at (take i s) buf (at + i)
+
+abbrev μ-loop : tie.MeasureT-loop
+μ-loop buf₀ at s i₀ buf i = length s - i
+
+loop-holds : tie.Need-loop-holds Inv-loop μ-loop
+loop-holds c = (omega arith, rw add-zero (stored-none _ _))
+
+add-put : tie.Need-add-put Inv-loop μ-loop
+add-put c = omega arith
+
+shared-slice-read-put : tie.Need-shared-slice-read-put Inv-loop μ-loop
+shared-slice-read-put c = omega arith
+
+put-requires : tie.Need-put-requires Inv-loop μ-loop
+put-requires c κs = tt
+
+add-i : tie.Need-add-i Inv-loop μ-loop
+add-i c = omega arith
+
+loop-less : tie.Need-loop-less Inv-loop μ-loop
+loop-less c = omega arith
+
+loop-again : tie.Need-loop-again Inv-loop μ-loop
+loop-again c =
+    let k = c .before .before .before .before .before .before in
+    let a = k .before .before .before .args in
+    let i = k .loop .i in
+    let s = stored-byte (k .loop .inv .1) (getD (a .s .now) i 0) (c .before .before .put .ensures) in
+    (omega arith, rw (sym (add-assoc (a .at) i 1), add-one i, take-suc (a .s .now) i 0 (omega arith)) s)
+
+add-result : tie.Need-add-result Inv-loop μ-loop
+add-result c = omega arith
+
+same-length : tie.Need-same-length Inv-loop μ-loop
+same-length c = stored-length (c .before .loop .inv .1)
+
+returns : tie.Need-returns Inv-loop μ-loop
+returns c =
+    let l = c .before .loop in
+    let s = stored-same (l .inv .1) (take-all (l .i) (c .before .before .before .before .args .s .now) (omega arith)) in
+    (s .ends, s .bytes)
+
+pub put-bytes-spec : {M : Type 1} → statement M
+put-bytes-spec =
+    tie.close
+    (tie.spec
+    Inv-loop
+    μ-loop
+    loop-holds
+    add-put
+    shared-slice-read-put
+    put-requires
+    add-i
+    loop-less
+    loop-again
+    add-result
+    same-length
+    returns)

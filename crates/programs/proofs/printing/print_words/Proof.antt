@@ -1,0 +1,84 @@
+-- `printing::print_words` is safe and ends: the place stays within the words, and each piece leads further on. Assumes nothing.
+use borrow.Author.Needs.{needs}
+use mathlib.Core.Path.{_≡_, sym, ap, _∙_}
+use Prim.Native.Nat.{_≤_, _-_}
+use native.Mathlib.Omega.{arith}
+use lib.ListN.{length, take, drop}
+use lib.Seq.{sets, length-sets}
+use Rattle.programs.specs.Text.{wordsText, taken}
+use Rattle.programs.proofs.Texts.{piece-some, piece-le}
+use Rattle.programs.proofs.printing.print_words.Statement.{statement}
+use Rattle.programs.proofs.printing.print_words.Tie as tie
+
+abbrev Inv-loop : tie.InvT-loop
+Inv-loop words buf₀ from₀ buf from = (from ≤ length words) × (length buf ≡ 65536)
+
+abbrev μ-loop : tie.MeasureT-loop
+μ-loop words buf₀ from₀ buf from = length words - from
+
+large-buffer-requires : tie.Need-large-buffer-requires Inv-loop μ-loop
+large-buffer-requires c κs = search needs
+
+loop-holds : tie.Need-loop-holds Inv-loop μ-loop
+loop-holds c = (omega arith, sym (c .large-buffer .ensures))
+
+slice-aggregate-put-words : tie.Need-slice-aggregate-put-words Inv-loop μ-loop
+slice-aggregate-put-words c = sym (c .before .before .loop .inv .1)
+
+put-words-requires : tie.Need-put-words-requires Inv-loop μ-loop
+put-words-requires c κs =
+    let i = c .before .before .loop .inv in
+    (i .0, omega (arith, i .1))
+
+-- a piece leaves the buffer's length as it is
+filled : (c : tie.After-put-words Inv-loop μ-loop) → length (c .put-words .last .0) ≡ 65536
+filled c =
+    let k = c .before .before .before in
+    let ls = drop (k .loop .from) (k .before .before .args .words .now) in
+    let text = wordsText (take (taken (length (k .loop .buf)) ls) ls) in
+    ap length {y = sets (k .loop .buf) 0 text} (c .put-words .ensures .3) ∙ length-sets (k .loop .buf) 0 text ∙ k .loop .inv .1
+
+slice-aggregate-print : tie.Need-slice-aggregate-print Inv-loop μ-loop
+slice-aggregate-print c = sym (filled (c .before .before))
+
+print-requires : tie.Need-print-requires Inv-loop μ-loop
+print-requires c κs = search needs
+
+returns : tie.Need-returns Inv-loop μ-loop
+returns c = search needs
+
+loop-less : tie.Need-loop-less Inv-loop μ-loop
+loop-less c =
+    let k = c .before .before .before .before .before .before .before in
+    let w = k .before .before .args .words .now in
+    let e = c .before .before .before .before .put-words .ensures .0 in
+    let less = c .before .before .before .before .before .before .loop-test .taken in
+    let more = piece-some (length (k .loop .buf)) w (k .loop .from) (omega (arith, k .loop .inv .1)) less in
+    omega (arith, e, more, less)
+
+loop-again : tie.Need-loop-again Inv-loop μ-loop
+loop-again c =
+    let k = c .before .before .before .before .before .before .before in
+    let w = k .before .before .args .words .now in
+    let e = c .before .before .before .before .put-words .ensures .0 in
+    (omega (arith, e, piece-le (length (k .loop .buf)) w (k .loop .from) (k .loop .inv .0)), filled (c .before .before .before .before))
+
+returns-2 : tie.Need-returns-2 Inv-loop μ-loop
+returns-2 c = search needs
+
+pub print-words-spec : {M : Type 1} → statement M
+print-words-spec =
+    tie.close
+    (tie.spec
+    Inv-loop
+    μ-loop
+    large-buffer-requires
+    loop-holds
+    slice-aggregate-put-words
+    put-words-requires
+    slice-aggregate-print
+    print-requires
+    returns
+    loop-less
+    loop-again
+    returns-2)

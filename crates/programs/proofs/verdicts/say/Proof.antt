@@ -1,0 +1,73 @@
+-- `verdicts::say` meets its contract, case by case. Assumes nothing.
+use borrow.Author.Needs.{needs}
+use native.Mathlib.Omega.{arith}
+use mathlib.Core.Path.{_≡_, sym, ap, _∙_}
+use lib.ListN.{length}
+use lib.Seq.{sets}
+use Rattle.spec.specs.Lists.{Bytes}
+use Rattle.spec.specs.Programs.{acceptedLine}
+use Rattle.checking.specs.declared.OutputAnswer.{OutputAnswer}
+use Rattle.programs.specs.Lines.{answerLine, resultLength}
+use Rattle.programs.proofs.verdicts.say.Statement.{statement}
+use Rattle.programs.proofs.verdicts.say.Tie as tie
+
+enum-known-answer : tie.Need-enum-known-answer
+enum-known-answer c = search needs
+
+slice-aggregate-put-bytes : tie.Need-slice-aggregate-put-bytes
+slice-aggregate-put-bytes c = search needs
+
+put-bytes-requires : tie.Need-put-bytes-requires
+put-bytes-requires c κs = search needs
+
+enum-known-answer-2 : tie.Need-enum-known-answer-2
+enum-known-answer-2 c = search needs
+
+put-refusal-requires : tie.Need-put-refusal-requires
+put-refusal-requires c κs = search needs
+
+same-length : tie.Need-same-length
+same-length c = search needs
+
+-- an answer is the case that it is
+module _ {a a′ : OutputAnswer} (e : a ≡ a′) where
+  told : (old : Bytes) → sets old 0 (answerLine a′) ≡ sets old 0 (answerLine a)
+  told old = ap (λ (o : OutputAnswer). sets old 0 (answerLine o)) (sym e)
+
+  measured : length (answerLine a′) ≡ length (answerLine a)
+  measured = ap (λ (o : OutputAnswer). length (answerLine o)) (sym e)
+
+  counted : resultLength a′ ≡ resultLength a
+  counted = ap resultLength (sym e)
+
+returns : tie.Need-returns
+unfolding acceptedLine
+returns c =
+    let k = c .before .before in
+    let t = k .before .before .before .before .answer .given .1 in
+    let e = k .put-bytes .ensures in
+    (e .1 ∙ told t _, e .0 ∙ measured t, omega (arith, e .0), counted t)
+
+same-length-2 : tie.Need-same-length-2
+same-length-2 c = search needs
+
+returns-2 : tie.Need-returns-2
+returns-2 c =
+    let k = c .before .before in
+    let t = k .before .before .before .answer2 .given .1 in
+    let e = k .put-refusal .ensures in
+    (e .2 ∙ told t _, e .0 ∙ measured t, omega (arith, e .1), counted t)
+
+pub say-spec : {M : Type 1} → statement M
+say-spec =
+    tie.close
+    (tie.spec
+    enum-known-answer
+    slice-aggregate-put-bytes
+    put-bytes-requires
+    enum-known-answer-2
+    put-refusal-requires
+    same-length
+    returns
+    same-length-2
+    returns-2)

@@ -1,0 +1,121 @@
+-- `verdicts::verdict_text` meets its contract: 12 where an input is too long, else what the check that is asked for says. Assumes
+-- nothing.
+use borrow.Author.Needs.{needs}
+use mathlib.Core.Path.{_≡_, refl, ap, _∙_}
+use mathlib.Core.Bool.{Bool, false}
+use Prim.Native.Nat.{ℕ}
+use denote.Ref.{now}
+use lib.ListN.{length}
+use Rattle.spec.specs.Lists.{Bytes, refused}
+use Rattle.spec.specs.Entry.{checkRefutation}
+use Rattle.spec.specs.Programs.{programLent, unlessLong}
+use Rattle.programs.proofs.FormulaProgram.{is-long, not-long}
+use Rattle.programs.specs.declared.verdicts.Check.{Check}
+use Rattle.programs.specs.Verdicts.{verdictOf}
+use Rattle.programs.proofs.Lines.{tells, tells-same, output-same, refused-output, bare-output}
+use Rattle.programs.proofs.verdicts.verdict_text.Statement.{statement}
+use Rattle.programs.proofs.verdicts.verdict_text.Tie as tie
+
+-- the verdict of the check that is asked for, where no input is too long
+asked : (book s : Bytes) (room : ℕ) {long : Bool} {check case : Check} → long ≡ false → check ≡ case
+    → unlessLong long (verdictOf check book s room) ≡ verdictOf case book s room
+asked book s room {check = check} h told =
+    not-long (verdictOf check book s room) h ∙ ap (λ (k : Check). verdictOf k book s room) told
+
+say-requires : tie.Need-say-requires
+say-requires c κs = search needs
+
+same-length : tie.Need-same-length
+same-length c = search needs
+
+returns : tie.Need-returns
+returns c =
+    let then = c .before .before .before .before in
+    let out = now (then .before .before .before .before .before .args .out) in
+    let q = is-long _ (then .if1 .taken) in
+    (tells-same q (tells (refused 12 0) _ _ refl (c .before .before .say .ensures)), output-same q out (refused-output out 12 0))
+
+enum-told : tie.Need-enum-told
+enum-told c = search needs
+
+assignment-text-requires : tie.Need-assignment-text-requires
+assignment-text-requires c κs = search needs
+
+enum-told-2 : tie.Need-enum-told-2
+enum-told-2 c = search needs
+
+plan-text-requires : tie.Need-plan-text-requires
+plan-text-requires c κs = search needs
+
+enum-told-3 : tie.Need-enum-told-3
+enum-told-3 c = search needs
+
+lent-refutation-text-requires : tie.Need-lent-refutation-text-requires
+lent-refutation-text-requires c κs = search needs
+
+same-length-2 : tie.Need-same-length-2
+same-length-2 c = search needs
+
+same-length-3 : tie.Need-same-length-3
+same-length-3 c = search needs
+
+returns-2 : tie.Need-returns-2
+unfolding verdictOf
+returns-2 c =
+    let call = c .before .before .before .before in
+    let told = call .before .before .before in
+    let args = told .before .before .before .before .before .before .before .args in
+    let q = asked (now (args .book)) (now (args .second)) (length (now (args .out))) (told .before .before .if1 .left) (told .enum-told .given .1) in
+    (tells-same q (call .assignment-text .ensures .0), output-same q _ (call .assignment-text .ensures .1))
+
+same-length-4 : tie.Need-same-length-4
+same-length-4 c = search needs
+
+same-length-5 : tie.Need-same-length-5
+same-length-5 c = search needs
+
+returns-3 : tie.Need-returns-3
+unfolding verdictOf
+returns-3 c =
+    let call = c .before .before .before .before in
+    let told = call .before .before .before in
+    let args = told .before .before .before .before .before .before .before .args in
+    let q = asked (now (args .book)) (now (args .second)) (length (now (args .out))) (told .before .before .if1 .left) (told .enum-told2 .given .1) in
+    (tells-same q (call .plan-text .ensures .0), output-same q _ (call .plan-text .ensures .1))
+
+same-length-6 : tie.Need-same-length-6
+same-length-6 c = search needs
+
+returns-4 : tie.Need-returns-4
+unfolding verdictOf
+returns-4 c =
+    let call = c .before .before in
+    let told = call .before .before in
+    let args = told .before .before .before .before .before .before .before .args in
+    let book = now (args .book) in
+    let s = now (args .second) in
+    let out = now (args .out) in
+    let q = asked book s (length out) (told .before .before .if1 .left) (told .enum-told3 .given .1) in
+    (tells-same q (call .lent-refutation-text .ensures), output-same q out (bare-output out (checkRefutation book s programLent)))
+
+pub verdict-text-spec : {M : Type 1} → statement M
+verdict-text-spec =
+    tie.close
+    (tie.spec
+    say-requires
+    same-length
+    returns
+    enum-told
+    assignment-text-requires
+    enum-told-2
+    plan-text-requires
+    enum-told-3
+    lent-refutation-text-requires
+    same-length-2
+    same-length-3
+    returns-2
+    same-length-4
+    same-length-5
+    returns-3
+    same-length-6
+    returns-4)

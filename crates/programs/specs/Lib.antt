@@ -1,0 +1,4 @@
+pub mod Text
+pub mod Opening
+pub mod Lines
+pub mod Verdicts

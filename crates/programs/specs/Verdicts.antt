@@ -1,0 +1,29 @@
+-- The verdict of each program over the checks, and what the program says of it. Assumes nothing.
+use mathlib.Core.Path.{_≡_}
+use Prim.Native.Nat.{ℕ, _≤_}
+use mathlib.Core.List.{[]}
+use lib.ListN.{length}
+use lib.Seq.{sets}
+use Rattle.spec.specs.Lists.{Bytes, Verdict, accepted, andThen}
+use Rattle.spec.specs.Entry.{written, checkAssignment, checkPlan, checkRefutation}
+use Rattle.spec.specs.Programs.{programLent, acceptedLine, printed}
+use Rattle.programs.specs.declared.verdicts.Check.{Check}
+use Rattle.programs.specs.declared.verdicts.Check.the-variants.{Assignment, Plan, Refutation}
+use Rattle.programs.specs.declared.verdicts.Said.{Said}
+
+-- a verdict without a result, as one with an empty result
+unfoldable pub bare : Verdict (Unit {0}) → Verdict Bytes
+bare v = andThen v λ _. accepted []
+
+-- the verdict on a book and a second input, with this much room for a result
+unfoldable pub verdictOf : Check → Bytes → Bytes → ℕ → Verdict Bytes
+verdictOf Assignment book s room = checkAssignment book s room
+verdictOf Plan book s room = checkPlan book s room
+verdictOf Refutation book s room = bare (checkRefutation book s programLent)
+
+-- the verdict's line stands at the front of what was lent for it, whole, and `r` says how long it and the result are
+pub record Tells (v : Verdict Bytes) (before after : Bytes) (r : Said) : Type 0 where
+  pub text : after ≡ sets before 0 (printed (λ _. acceptedLine) v)
+  pub text-length : r .len ≡ length (printed (λ _. acceptedLine) v)
+  pub whole : r .len ≤ 64
+  pub result-length : r .result ≡ length (written v)

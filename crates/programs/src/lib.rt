@@ -1,0 +1,4 @@
+// What the commands print: the formula's text in pieces, and the line of a verdict.
+pub mod dimacs;
+pub mod printing;
+pub mod verdicts;

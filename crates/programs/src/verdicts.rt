@@ -1,0 +1,216 @@
+// The programs over the checks: their files, and what they print. `verdict_text` makes the line of a
+// verdict, 12 first where an input is too long, and the result where there is one; its contract says that
+// these are the specification's. The other functions only read files by their names, and hand bytes to the
+// output and to a file. A slice has at most 64 KiB.
+use checking::OutputAnswer;
+use checking::check_assignment;
+use checking::check_plan;
+use crate::dimacs::put_bytes;
+use crate::dimacs::put_refusal;
+use crate::printing::Loaded;
+use crate::printing::load_from;
+use crate::printing::print;
+use reader::reading::Answer;
+use refutations::check_refutation;
+ghost use mathlib.Core.Path.{_≡_};
+ghost use Prim.Native.Nat.{_≤_};
+ghost use lib.ListN.{length};
+ghost use lib.Seq.{sets};
+ghost use lib.IntN.{pos};
+ghost use Rattle.io.specs.Counts.{Counts};
+ghost use Rattle.spec.specs.Entry.{overwrite, written, zeroed, checkAssignment, checkPlan, checkRefutation};
+ghost use Rattle.spec.specs.Programs.{programLent, unlessLong};
+ghost use Rattle.refutations.specs.Lent.{lengths};
+ghost use Rattle.programs.specs.Lines.{answerLine, resultLength};
+ghost use Rattle.programs.specs.Verdicts.{bare, verdictOf, Tells};
+
+// Which check a program makes.
+pub enum Check {
+    Assignment,
+    Plan,
+    Refutation,
+}
+
+// How many bytes are printed, and how many bytes the result has.
+pub struct Said {
+    pub len: usize,
+    pub result: usize,
+}
+
+// Stores the line of an answer.
+fn say(answer: OutputAnswer, line: &mut [u8]) -> Said
+    requires { ⌜ length (now line) ≡ 64 ⌝ }
+    ensures { λ r. ⌜ (now (line .exit) ≡ sets (now (line .entry)) 0 (answerLine answer)) × (r .len ≡ length (answerLine answer))
+        × (r .len ≤ 64) × (r .result ≡ resultLength answer) ⌝ }
+{
+    match answer {
+        OutputAnswer::Wrote(n) => Said {
+            len: put_bytes(line, 0, b"accepted\n"),
+            result: n,
+        },
+        OutputAnswer::Refused(number, detail) => Said {
+            len: put_refusal(line, number, detail),
+            result: 0,
+        },
+    }
+}
+
+// The line of the verdict on an assignment, and its plan.
+fn assignment_text(book: &[u8], values: &[u8], plan: &mut [u8], line: &mut [u8]) -> Said
+    requires { ⌜ length (now line) ≡ 64 ⌝ }
+    ensures { λ r. ⌜ Tells (checkAssignment (now (book .entry)) (now (values .entry)) (length (now (plan .entry))))
+        (now (line .entry)) (now (line .exit)) r
+        × (now (plan .exit) ≡ overwrite (now (plan .entry))
+        (written (checkAssignment (now (book .entry)) (now (values .entry)) (length (now (plan .entry)))))) ⌝ }
+{
+    let answer = check_assignment(book, values, plan);
+    say(answer, line)
+}
+
+// The line of the verdict on a plan, and its assignment.
+fn plan_text(book: &[u8], plan: &[u8], values: &mut [u8], line: &mut [u8]) -> Said
+    requires { ⌜ length (now line) ≡ 64 ⌝ }
+    ensures { λ r. ⌜ Tells (checkPlan (now (book .entry)) (now (plan .entry)) (length (now (values .entry))))
+        (now (line .entry)) (now (line .exit)) r
+        × (now (values .exit) ≡ overwrite (now (values .entry))
+        (written (checkPlan (now (book .entry)) (now (plan .entry)) (length (now (values .entry)))))) ⌝ }
+{
+    let answer = check_plan(book, plan, values);
+    say(answer, line)
+}
+
+// The line of the verdict on a refutation, which has no result.
+pub fn refutation_text(
+    book: &[u8],
+    r: &[u8],
+    words: &mut [i32],
+    clauses: &mut [usize],
+    values: &mut [u8],
+    trail: &mut [usize],
+    line: &mut [u8],
+) -> Said
+    requires { ⌜ length (now line) ≡ 64 ⌝ }
+    ensures { λ s. ⌜ Tells (bare (checkRefutation (now (book .entry)) (now (r .entry))
+        (lengths (now (words .entry)) (now (clauses .entry)) (now (values .entry)) (now (trail .entry))))) (now (line .entry)) (now (line .exit)) s
+        × (now (words .exit) ≡ zeroed (pos 0) (length (now (words .entry))))
+        × (now (clauses .exit) ≡ zeroed 0 (length (now (clauses .entry))))
+        × (now (values .exit) ≡ zeroed 0 (length (now (values .entry))))
+        × (now (trail .exit) ≡ zeroed 0 (length (now (trail .entry)))) ⌝ }
+{
+    let answer = check_refutation(book, r, words, clauses, values, trail);
+    match answer {
+        Answer::Accepted => say(OutputAnswer::Wrote(0), line),
+        Answer::Refused(number, detail) => say(OutputAnswer::Refused(number, detail), line),
+    }
+}
+
+// The same, with slices of 64 KiB each.
+fn lent_refutation_text(book: &[u8], r: &[u8], line: &mut [u8]) -> Said
+    requires { ⌜ length (now line) ≡ 64 ⌝ }
+    ensures { λ s. ⌜ Tells (bare (checkRefutation (now (book .entry)) (now (r .entry)) programLent)) (now (line .entry)) (now (line .exit)) s ⌝ }
+{
+    let mut words = [0i32; 16384];
+    let mut clauses = [0usize; 8192];
+    let mut values = [0u8; 65536];
+    let mut trail = [0usize; 8192];
+    refutation_text(
+        book,
+        r,
+        &mut words,
+        &mut clauses,
+        &mut values,
+        &mut trail,
+        line,
+    )
+}
+
+// What a program says of a book and a second input: the line of the verdict in `line`, and the result, if
+// there is one, at the start of `out`. Where an input is too long, `long`, neither is looked at, and the
+// refusal is 12.
+pub fn verdict_text(
+    check: Check,
+    book: &[u8],
+    second: &[u8],
+    long: bool,
+    out: &mut [u8],
+    line: &mut [u8],
+) -> Said
+    requires { ⌜ length (now line) ≡ 64 ⌝ }
+    ensures { λ r. ⌜ Tells (unlessLong long (verdictOf check (now (book .entry)) (now (second .entry)) (length (now (out .entry)))))
+        (now (line .entry)) (now (line .exit)) r
+        × (now (out .exit) ≡ overwrite (now (out .entry))
+        (written (unlessLong long (verdictOf check (now (book .entry)) (now (second .entry)) (length (now (out .entry))))))) ⌝ }
+{
+    if long {
+        return say(OutputAnswer::Refused(12, 0), line);
+    }
+    match check {
+        Check::Assignment => assignment_text(book, second, out, line),
+        Check::Plan => plan_text(book, second, out, line),
+        Check::Refutation => lent_refutation_text(book, second, line),
+    }
+}
+
+// Reads the file of this name; where it can't be read, standard error says why.
+fn load(name: &[u8], buf: &mut [u8]) -> Loaded
+    ensures { λ r. ⌜ Counts (r .len) (now (buf .exit)) ⌝ }
+{
+    let fd = os::open_read(name);
+    if fd < 0 {
+        os::fail(name);
+        return Loaded {
+            len: 0,
+            long: false,
+            read: false,
+        };
+    }
+    let loaded = load_from(fd, buf);
+    if !loaded.read {
+        os::fail(name);
+    }
+    libc::close(fd);
+    loaded
+}
+
+// Writes bytes into the file of this name; where it can't be written, standard error says why.
+fn save(name: &[u8], bytes: &[u8]) {
+    let fd = os::open_overwrite(name);
+    if fd < 0 {
+        os::fail(name);
+        return;
+    }
+    if !io::write_all(fd, bytes) {
+        os::fail(name);
+    }
+    libc::close(fd);
+}
+
+// Prints the line of a verdict; its result, if it has one, goes to the file of this name, if one was
+// named.
+fn hand_out(said: Said, line: &[u8], out: &[u8], result: &[u8], named: bool) {
+    let n = said.result;
+    if !print(line, said.len) {
+        return;
+    }
+    if 0 < n && n <= out.len() && named {
+        save(result, &out[..n]);
+    }
+}
+
+// Judges the files of these names: the book, the second input, and the result, if one was named. Where an
+// input can't be read, nothing is printed.
+pub fn judge_files(check: Check, book: &[u8], second: &[u8], result: &[u8], named: bool) {
+    let mut bytes = io::large_buffer();
+    let mut more = io::large_buffer();
+    let a = load(book, &mut bytes);
+    let b = load(second, &mut more);
+    if a.read && b.read {
+        let mut out = io::large_buffer();
+        let mut line = [0u8; 64];
+        let n = a.len;
+        let m = b.len;
+        let long = a.long || b.long;
+        let said = verdict_text(check, &bytes[..n], &more[..m], long, &mut out, &mut line);
+        hand_out(said, &line, &out, result, named);
+    }
+}

@@ -1,0 +1,104 @@
+-- `clause_table::store_clause` meets its contract. The loop's invariant: the first i literals were stored from `at` on. Assumes nothing.
+use borrow.Author.Needs.{needs, sfits-of}
+use native.Mathlib.Omega.{arith}
+use mathlib.Core.Path.{_≡_, sym, ap, _∙_}
+use mathlib.Core.List.{[], _++_}
+use Prim.Native.Nat.{ℕ, _+_, _-_, _≤_, _<_}
+use lib.ListN.{length, set, length-append, List·getD-append}
+use lib.Seq.{getD-at}
+use lib.IntN.{pos}
+use mir.Syntax.{w32}
+use mir.Facts.{toZ-ofZ}
+use denote.Ref.{now}
+use Rattle.spec.specs.Lists.{Bytes, one}
+use Rattle.refutation_file.specs.Rows.{numberCount, literalsIn}
+use Rattle.propagation.proofs.Storing.{Stored, stored-start, stored-next, stored-done}
+use Rattle.refutation_file.proofs.RowNumbers.{literals-length}
+use Rattle.propagation.proofs.clause_table.store_clause.Statement.{statement}
+use Rattle.propagation.proofs.clause_table.store_clause.Tie as tie
+
+-- and the 0 behind them
+length-closed : (row : Bytes) → length (literalsIn row ++ one (pos 0)) ≡ numberCount row + 1
+length-closed row = length-append (literalsIn row) (one (pos 0)) ∙ ap (λ (n : ℕ). n + 1) (literals-length row)
+
+abbrev Inv-loop : tie.InvT-loop
+Inv-loop row words₀ at n i₀ words i = (i ≤ n) × Stored words₀ at (literalsIn row ++ one (pos 0)) words i
+
+abbrev μ-loop : tie.MeasureT-loop
+μ-loop row words₀ at n i₀ words i = n - i
+
+loop-holds : tie.Need-loop-holds Inv-loop μ-loop
+loop-holds c = (omega arith, stored-start _ _ _ (omega (arith, length-closed (now (c .before .args .row)))))
+
+literal-at-requires : tie.Need-literal-at-requires Inv-loop μ-loop
+literal-at-requires c κs = search needs
+
+add-t9 : tie.Need-add-t9 Inv-loop μ-loop
+add-t9 c = search needs
+
+mul-t10 : tie.Need-mul-t10 Inv-loop μ-loop
+mul-t10 c = search needs
+
+slice-set-from-words : tie.Need-slice-set-from-words Inv-loop μ-loop
+slice-set-from-words c = search needs
+
+add-i : tie.Need-add-i Inv-loop μ-loop
+add-i c = search needs
+
+loop-less : tie.Need-loop-less Inv-loop μ-loop
+loop-less c = search needs
+
+loop-again : tie.Need-loop-again Inv-loop μ-loop
+loop-again c =
+    let t = c .before .before in
+    let row = now (t .before .before .args .row) in
+    let l : t .loop .i < length (literalsIn row) = omega (arith, literals-length row) in (
+      omega arith,
+      stored-next (pos 0) (t .loop .inv .1) (omega (arith, length-closed row))
+          (toZ-ofZ {w = w32} (sfits-of (c .literal-at .ok))
+          ∙ c .literal-at .ensures
+          ∙ sym (List·getD-append (literalsIn row) (one (pos 0)) (pos 0) (t .loop .i) l)),
+    )
+
+add-words : tie.Need-add-words Inv-loop μ-loop
+add-words c = search needs
+
+mul-words : tie.Need-mul-words Inv-loop μ-loop
+mul-words c = search needs
+
+slice-set-of-words : tie.Need-slice-set-of-words Inv-loop μ-loop
+slice-set-of-words c = search needs
+
+same-length : tie.Need-same-length Inv-loop μ-loop
+same-length c = search needs
+
+returns : tie.Need-returns Inv-loop μ-loop
+returns c =
+    let t = c .before in
+    let row = now (t .before .before .args .row) in
+    let e : numberCount row ≡ t .loop .i = omega (arith, t .loop .inv .0) in
+    ap (λ (n : ℕ). set (t .loop .words) (t .before .before .args .at + n) (pos 0)) e
+    ∙ stored-done
+    (stored-next (pos 0) (t .loop .inv .1) (omega (arith, length-closed row))
+    (sym (getD-at (literalsIn row) (pos 0) [] (pos 0) (t .loop .i) (literals-length row ∙ e))))
+    (omega (arith, length-closed row))
+
+pub store-clause-spec : {M : Type 1} → statement M
+store-clause-spec =
+    tie.close
+    (tie.spec
+    Inv-loop
+    μ-loop
+    loop-holds
+    literal-at-requires
+    add-t9
+    mul-t10
+    slice-set-from-words
+    add-i
+    loop-less
+    loop-again
+    add-words
+    mul-words
+    slice-set-of-words
+    same-length
+    returns)

@@ -1,0 +1,99 @@
+-- `hints::take_false` meets its contract. The loop's invariant: the last i literals are false, every other variable is open, and the
+-- trail has theirs and then what it had. Assumes nothing.
+use borrow.Author.Needs.{sfits-of}
+use native.Mathlib.Omega.{arith}
+use mathlib.Core.Path.{_≡_, sym, ap, _∙_}
+use Prim.Native.Nat.{ℕ, _-_, _<_}
+use lib.ListN.{length, getD}
+use lib.IntN.{pos}
+use mir.Syntax.{w32}
+use mir.Val.{toZ, ofZ}
+use mir.Facts.{toZ-ofZ}
+use Rattle.refutation_file.specs.Rows.{literalsIn}
+use Rattle.refutation_file.proofs.RowNumbers.{literals-length}
+use Rattle.propagation.proofs.Taking.{Taking, taking-start, next, taking-here, taking-next, taking-done}
+use Rattle.propagation.proofs.hints.take_false.Statement.{statement}
+use Rattle.propagation.proofs.hints.take_false.Tie as tie
+
+abbrev Inv-loop : tie.InvT-loop
+Inv-loop row values₀ trail₀ n i₀ values trail i = Taking (literalsIn row) (length values₀) trail₀ values trail i
+
+abbrev μ-loop : tie.MeasureT-loop
+μ-loop row values₀ trail₀ n i₀ values trail i = n - i
+
+loop-holds : tie.Need-loop-holds Inv-loop μ-loop
+loop-holds c = let p = c .before .before .before .pre in taking-start _ _ _ (p .1) (p .2)
+
+sub-literal-at : tie.Need-sub-literal-at Inv-loop μ-loop
+sub-literal-at c = omega arith
+
+sub-literal-at-2 : tie.Need-sub-literal-at-2 Inv-loop μ-loop
+sub-literal-at-2 c = omega arith
+
+literal-at-requires : tie.Need-literal-at-requires Inv-loop μ-loop
+literal-at-requires c κs = omega arith
+
+-- the literal that was found is the next one
+module _ (c : tie.After-literal-at Inv-loop μ-loop) where
+  abbrev start : tie.Start Inv-loop μ-loop
+  start = c .before .before .before .before .before .before .before .before
+
+  abbrev head : tie.At-loop Inv-loop μ-loop
+  head = c .before .before .before .before
+
+  less : head .loop .i < length (literalsIn (start .args .row .now))
+  less = omega (arith, literals-length (start .args .row .now), c .before .before .before .loop-test .taken)
+
+  found : toZ w32 (ofZ w32 (c .literal-at .result)) ≡ next (head .loop .inv) (start .pre .0) less
+  found =
+      toZ-ofZ (sfits-of (c .literal-at .ok))
+      ∙ c .literal-at .ensures
+      ∙ ap (λ (n : ℕ). getD (literalsIn (start .args .row .now)) (n - 1 - head .loop .i) (pos 0))
+      (sym (literals-length (start .args .row .now)))
+
+make-false-requires : tie.Need-make-false-requires Inv-loop μ-loop
+make-false-requires c κs =
+    let h = taking-here (head c .loop .inv) (start c .pre .0) (less c) in
+    rw (found c) (h .0, h .1, omega (arith, h .1, head c .loop .inv .size, start c .pre), h .2)
+
+add-i : tie.Need-add-i Inv-loop μ-loop
+add-i c = omega arith
+
+loop-less : tie.Need-loop-less Inv-loop μ-loop
+loop-less c = omega arith
+
+loop-again : tie.Need-loop-again Inv-loop μ-loop
+loop-again c =
+    let l = c .before .before .before .before .before in
+    let m = c .before .before .before .before .make-false .ensures in
+    taking-next (head l .loop .inv) (start l .pre .0) (less l) (rw (found l) at (m .0)) (rw (found l) at (m .1))
+
+same-length : tie.Need-same-length Inv-loop μ-loop
+same-length c = c .before .loop .inv .size
+
+same-length-2 : tie.Need-same-length-2 Inv-loop μ-loop
+same-length-2 c = c .before .loop .inv .space
+
+returns : tie.Need-returns Inv-loop μ-loop
+returns c =
+    let e = literals-length (c .before .before .before .before .before .args .row .now) in
+    let d = taking-done (c .before .loop .inv) (omega (arith, e, c .loop-test .left)) in
+    (d .0, rw e at (d .1), rw e at (d .2))
+
+pub take-false-spec : {M : Type 1} → statement M
+take-false-spec =
+    tie.close
+    (tie.spec
+    Inv-loop
+    μ-loop
+    loop-holds
+    sub-literal-at
+    sub-literal-at-2
+    literal-at-requires
+    make-false-requires
+    add-i
+    loop-less
+    loop-again
+    same-length
+    same-length-2
+    returns)

@@ -1,0 +1,300 @@
+-- `hints::try_hints` meets its contract. The invariant of the loop over the hints (`Gone`): the step is proved if and only if the
+-- hints from number k on prove it from the values now. That of the loop over a clause's literals (`Scanning`): the clause does
+-- what the scan of the literals from `at` on gives, with the open literal that was found. Assumes nothing.
+use borrow.Author.Needs.{needs}
+use native.Mathlib.Omega.{arith}
+use mathlib.Core.Path.{_≡_}
+use mathlib.Core.Logic.{⊎-elim}
+use Prim.Native.Nat.{_-_, _≤_, _<_}
+use lib.ListN.{length, getD}
+use lib.IntN.{ℤ, pos}
+use Rattle.spec.specs.Formula.{Clause}
+use Rattle.spec.specs.Assignment.{truth}
+use Rattle.spec.specs.Refutation.{Values, clauseAt, clausesOf}
+use Rattle.propagation.specs.declared.hints.Value.{Value as Answer}
+use Rattle.propagation.specs.Known.{valuesIn}
+use Rattle.refutation_file.specs.Rows.{numberCount, numbersIn}
+use Rattle.propagation.proofs.Scan.{Scanning, OpenOne, Ahead, in-words, ahead, read-back, passes, notes, open-one, meant, value-told}
+use Rattle.propagation.proofs.Scan.{ends-true, ends-second, ends-proving, ends-making}
+use Rattle.propagation.proofs.HintTurns.{Gone, hint-fits, sets-out, clause-begins, has-room, goes-on, runs-out, refuses, concludes}
+use Rattle.propagation.proofs.hints.try_hints.Statement.{statement}
+use Rattle.propagation.proofs.hints.try_hints.Tie as tie
+
+abbrev Inv-loop : tie.InvT-loop
+Inv-loop hints words starts values trail first n set proved k at₀ unit₀ at unit =
+    Scanning words (valuesIn values) (length values) (clauseAt (clausesOf words) (getD (numbersIn hints) k 0)) at unit
+
+abbrev μ-loop : tie.MeasureT-loop
+μ-loop hints words starts values trail first n set proved k at₀ unit₀ at unit = length words - at
+
+abbrev Inv-hints : tie.InvT-hints
+Inv-hints hints words starts values₀ trail₀ first n set₀ proved₀ k₀ values trail set proved k =
+    Gone words hints values₀ trail₀ first values trail set proved k
+
+abbrev μ-hints : tie.MeasureT-hints
+μ-hints hints words starts values₀ trail₀ first n set₀ proved₀ k₀ values trail set proved k = n - k
+
+-- ---- at the head of the loop over the hints
+
+-- the function's entry
+abbrev entry : tie.At-hints Inv-loop μ-loop Inv-hints μ-hints → tie.Start Inv-loop μ-loop Inv-hints μ-hints
+entry c = c .before .before .before .before .before
+
+-- the variables are few
+few : (c : tie.At-hints Inv-loop μ-loop Inv-hints μ-hints) → length (c .hints .values) < 2147483648
+few c = omega (arith, c .hints .inv .sameValues, entry c .pre .3)
+
+hints-holds : tie.Need-hints-holds Inv-loop μ-loop Inv-hints μ-hints
+hints-holds c = sets-out _ _ (c .before .before .before .before .pre .2)
+
+number-at-requires : tie.Need-number-at-requires Inv-loop μ-loop Inv-hints μ-hints
+number-at-requires c κs = search needs
+
+-- the hint names a clause
+names : (c : tie.After-number-at Inv-loop μ-loop Inv-hints μ-hints)
+    → (1 ≤ c .number-at .result) × (c .number-at .result ≤ length (entry (c .before .before) .args .starts .now))
+names c =
+    let f = hint-fits _ _ _ (entry (c .before .before) .pre .1) (c .before .hints-test .taken) in
+    let e = c .number-at .ensures .0 in
+    omega arith
+
+sub-at : tie.Need-sub-at Inv-loop μ-loop Inv-hints μ-hints
+sub-at c = names c .0
+
+mul-at : tie.Need-mul-at Inv-loop μ-loop Inv-hints μ-hints
+mul-at c = search needs
+
+shared-slice-read-at : tie.Need-shared-slice-read-at Inv-loop μ-loop Inv-hints μ-hints
+shared-slice-read-at c = omega (arith, names (c .before))
+
+loop-holds : tie.Need-loop-holds Inv-loop μ-loop Inv-hints μ-hints
+loop-holds c =
+    let t = c .before .before .before in
+    let n = c .before in
+    clause-begins (t .hints .inv) (entry t .pre .0) (n .number-at .ensures .0) (names n .0) (names n .1)
+
+-- ---- at the head of the loop over a clause's literals
+
+-- the head of the outer loop
+abbrev outer : tie.At-loop Inv-loop μ-loop Inv-hints μ-hints → tie.At-hints Inv-loop μ-loop Inv-hints μ-hints
+outer c = c .before .before .before .before
+
+-- what is known
+abbrev known : tie.At-loop Inv-loop μ-loop Inv-hints μ-hints → Values
+known c = valuesIn (outer c .hints .values)
+
+-- the clause that the hint names
+abbrev named : tie.At-loop Inv-loop μ-loop Inv-hints μ-hints → Clause
+named c =
+    let a = entry (outer c) .args in
+    clauseAt (clausesOf (a .words .now)) (getD (numbersIn (a .hints .now)) (outer c .hints .k) 0)
+
+-- the word that is read
+abbrev word : tie.At-loop Inv-loop μ-loop Inv-hints μ-hints → ℤ
+word c = getD (entry (outer c) .args .words .now) (c .loop .at) (pos 0)
+
+-- this is the number of a hint
+turn : (c : tie.At-loop Inv-loop μ-loop Inv-hints μ-hints) → outer c .hints .k < numberCount (entry (outer c) .args .hints .now)
+turn c = c .before .before .before .hints-test .taken
+
+-- there is a word to read
+reads : (c : tie.At-loop Inv-loop μ-loop Inv-hints μ-hints) → c .loop .at < length (entry (outer c) .args .words .now)
+reads c = in-words (c .loop .inv)
+
+mul-if1 : tie.Need-mul-if1 Inv-loop μ-loop Inv-hints μ-hints
+mul-if1 c = let h = reads c in search needs
+
+shared-slice-copy-out-if1 : tie.Need-shared-slice-copy-out-if1 Inv-loop μ-loop Inv-hints μ-hints
+shared-slice-copy-out-if1 c = reads c
+
+-- ---- where a literal was read
+
+mul-l : tie.Need-mul-l Inv-loop μ-loop Inv-hints μ-hints
+mul-l c = let h = reads (c .before .before) in search needs
+
+shared-slice-copy-out-l : tie.Need-shared-slice-copy-out-l Inv-loop μ-loop Inv-hints μ-hints
+shared-slice-copy-out-l c = reads (c .before .before)
+
+-- the head of the loop, from where the answer is known
+abbrev inner : tie.After-truth Inv-loop μ-loop Inv-hints μ-hints → tie.At-loop Inv-loop μ-loop Inv-hints μ-hints
+inner c = c .before .before .before .before .before
+
+-- a word that is not 0 is a literal of the clause
+abbrev Stands : tie.At-loop Inv-loop μ-loop Inv-hints μ-hints → Type 0
+Stands c =
+    let words = entry (outer c) .args .words .now in
+    Ahead words (known c) (length (outer c .hints .values)) (named c) (c .loop .at) (c .loop .unit) (word c)
+
+stands : (c : tie.Then1 Inv-loop μ-loop Inv-hints μ-hints) → Stands (c .before .before)
+stands c = ahead (c .before .before .loop .inv) (c .if1 .taken)
+
+truth-requires : tie.Need-truth-requires Inv-loop μ-loop Inv-hints μ-hints
+truth-requires c κs =
+    let t = c .before .before in
+    let a = stands t in
+    let f = few (outer (t .before .before)) in
+    rw (read-back a f) (a .low, a .high, omega (arith, a .high))
+
+enum-told : tie.Need-enum-told Inv-loop μ-loop Inv-hints μ-hints
+enum-told c = search needs
+
+enum-told-2 : tie.Need-enum-told-2 Inv-loop μ-loop Inv-hints μ-hints
+enum-told-2 c = search needs
+
+enum-told-3 : tie.Need-enum-told-3 Inv-loop μ-loop Inv-hints μ-hints
+enum-told-3 c = search needs
+
+-- the literal is what the answer says
+told : (c : tie.After-truth Inv-loop μ-loop Inv-hints μ-hints) {r : Answer} → c .truth .result ≡ r
+    → truth (known (inner c)) (word (inner c)) ≡ meant r
+told c e =
+    let b = read-back (stands (c .before .before .before)) (few (outer (inner c))) in
+    value-told (truth (known (inner c)) (word (inner c))) (rw (← b) (c .truth .ensures)) e
+
+add-at : tie.Need-add-at Inv-loop μ-loop Inv-hints μ-hints
+add-at c = let h = reads (inner (c .before)) in search needs
+
+loop-less : tie.Need-loop-less Inv-loop μ-loop Inv-hints μ-hints
+loop-less c = let h = reads (inner (c .before)) in omega arith
+
+loop-again : tie.Need-loop-again Inv-loop μ-loop Inv-hints μ-hints
+loop-again c =
+    let t = c .before in
+    let s = stands (t .before .before .before) in
+    let f = few (outer (inner t)) in
+    ⊎-elim (λ w. rw (w .2) (passes s (told t (w .1 .given .1))))
+    (λ w. rw (w .3) (notes s f (told t (w .1 .given .1)) (w .2 .left))) (c .match .came)
+
+-- ---- where the clause ends
+
+add-k : tie.Need-add-k Inv-loop μ-loop Inv-hints μ-hints
+add-k c = search needs
+
+-- an open literal was found
+abbrev Found : tie.At-loop Inv-loop μ-loop Inv-hints μ-hints → Type 0
+Found c = OpenOne (known c) (length (outer c .hints .values)) (c .loop .unit)
+
+finds : (c : tie.Else3 Inv-loop μ-loop Inv-hints μ-hints) → Found (c .before .before .before)
+finds c = open-one (c .before .before .before .loop .inv .found) (c .if3 .left)
+
+make-true-requires : tie.Need-make-true-requires Inv-loop μ-loop Inv-hints μ-hints
+make-true-requires c κs =
+    let e = c .before .before in
+    let t = outer (e .before .before .before) in
+    let o = finds e in
+    (o .low, o .high, omega (arith, o .high, few t), has-room (t .hints .inv) o)
+
+add-set : tie.Need-add-set Inv-loop μ-loop Inv-hints μ-hints
+add-set c =
+    let e = c .before .before .before .before .before .before .before in
+    let t = outer (e .before .before .before) in
+    let r = has-room (t .hints .inv) (finds e) in
+    let s = t .hints .inv .sameTrail in
+    search needs
+
+hints-less : tie.Need-hints-less Inv-loop μ-loop Inv-hints μ-hints
+hints-less c = search needs
+
+hints-again : tie.Need-hints-again Inv-loop μ-loop Inv-hints μ-hints
+hints-again c =
+    let e = c .before .before .before .before .before .before .before in
+    let l = e .before .before .before in
+    let t = outer l in
+    let m = c .before .before .before .before .make-true .ensures in
+    let w = ends-making (l .loop .inv) (few t) (e .before .if1 .left) (e .if3 .left) in
+    goes-on (t .hints .inv) (turn l) (finds e) w (m .0) (m .1)
+
+-- ---- the four ways out: no hint is left, a true literal, a second open one, and all literals false
+
+same-length : tie.Need-same-length Inv-loop μ-loop Inv-hints μ-hints
+same-length c = search needs
+
+same-length-2 : tie.Need-same-length-2 Inv-loop μ-loop Inv-hints μ-hints
+same-length-2 c = search needs
+
+returns : tie.Need-returns Inv-loop μ-loop Inv-hints μ-hints
+returns c =
+    let g = c .before .hints .inv in
+    (runs-out g (c .hints-test .left), g .trailed, g .grown, g .behind)
+
+same-length-3 : tie.Need-same-length-3 Inv-loop μ-loop Inv-hints μ-hints
+same-length-3 c = search needs
+
+same-length-4 : tie.Need-same-length-4 Inv-loop μ-loop Inv-hints μ-hints
+same-length-4 c = search needs
+
+returns-2 : tie.Need-returns-2 Inv-loop μ-loop Inv-hints μ-hints
+returns-2 c =
+    let a = c .before .before in
+    let g = outer (inner a) .hints .inv in
+    let e = ends-true (stands (a .before .before .before)) (told a (c .enum-told2 .given .1)) in
+    (refuses g (turn (inner a)) e, g .trailed, g .grown, g .behind)
+
+same-length-5 : tie.Need-same-length-5 Inv-loop μ-loop Inv-hints μ-hints
+same-length-5 c = search needs
+
+same-length-6 : tie.Need-same-length-6 Inv-loop μ-loop Inv-hints μ-hints
+same-length-6 c = search needs
+
+returns-3 : tie.Need-returns-3 Inv-loop μ-loop Inv-hints μ-hints
+returns-3 c =
+    let a = c .before .before .before in
+    let g = outer (inner a) .hints .inv in
+    let e = ends-second (stands (a .before .before .before)) (told a (c .before .enum-told3 .given .1)) (c .if2 .taken) in
+    (refuses g (turn (inner a)) e, g .trailed, g .grown, g .behind)
+
+same-length-7 : tie.Need-same-length-7 Inv-loop μ-loop Inv-hints μ-hints
+same-length-7 c = search needs
+
+same-length-8 : tie.Need-same-length-8 Inv-loop μ-loop Inv-hints μ-hints
+same-length-8 c = search needs
+
+returns-4 : tie.Need-returns-4 Inv-loop μ-loop Inv-hints μ-hints
+returns-4 c =
+    let l = c .before .before .before in
+    let g = outer l .hints .inv in
+    let e = ends-proving (l .loop .inv) (few (outer l)) (c .before .if1 .left) (c .if3 .taken) in
+    (concludes g (turn l) e, g .trailed, g .grown, g .behind)
+
+pub try-hints-spec : {M : Type 1} → statement M
+try-hints-spec =
+    tie.close
+    (tie.spec
+    Inv-loop
+    μ-loop
+    Inv-hints
+    μ-hints
+    hints-holds
+    number-at-requires
+    sub-at
+    mul-at
+    shared-slice-read-at
+    loop-holds
+    mul-if1
+    shared-slice-copy-out-if1
+    mul-l
+    shared-slice-copy-out-l
+    truth-requires
+    enum-told
+    enum-told-2
+    enum-told-3
+    add-at
+    loop-less
+    loop-again
+    add-k
+    make-true-requires
+    add-set
+    hints-less
+    hints-again
+    same-length
+    same-length-2
+    returns
+    same-length-3
+    same-length-4
+    returns-2
+    same-length-5
+    same-length-6
+    returns-3
+    same-length-7
+    same-length-8
+    returns-4)

@@ -1,0 +1,12 @@
+pub mod Calls
+pub mod Packing
+pub mod Tables
+pub mod Trains
+pub mod FrameTests
+pub mod Steps
+pub mod ByKind
+pub mod Ends
+pub mod Whole
+pub mod Way
+pub mod Accepted
+pub mod Verdicts

@@ -1,0 +1,80 @@
+-- `content::train_fits` meets its contract: `starts` says what the flag is where the arms of the first `&&` meet.
+-- Assumes nothing.
+use borrow.Author.Needs.{needs}
+use borrow.Author.Tests.{le-leb, lt-leb}
+use mathlib.Core.Path.{_≡_, sym, _∙_}
+use mathlib.Core.Bool.{Bool, _&&_}
+use mathlib.Core.Logic.{⊎-elim}
+use Prim.Native.Nat.{_*_}
+use native.Mathlib.Omega.{arith}
+use lib.ListN.{length, drop}
+use lib.Dec.{leb, ltb}
+use Rattle.laws.proofs.Numbers.{field-one}
+use Rattle.spec.specs.Lists.{all}
+use Rattle.spec.specs.Numbers.{field}
+use Rattle.spec.specs.Read.{trainFits, trainIn}
+use Rattle.spec.specs.Held.{held}
+use Rattle.network.proofs.Walks.{length-of-map}
+use Rattle.spec.specs.Frames.{trainFixed}
+use Rattle.reader.proofs.Packing.{segments-held}
+use Rattle.reader.proofs.content.train_fits.Statement.{statement}
+use Rattle.reader.proofs.content.train_fits.Tie as tie
+
+pair-requires : tie.Need-pair-requires
+pair-requires c κs = search needs
+
+shared-slice-read-wide : tie.Need-shared-slice-read-wide
+shared-slice-read-wide c = search needs
+
+wide-requires : tie.Need-wide-requires
+wide-requires c κs = search needs
+
+mul-all-below : tie.Need-mul-all-below
+mul-all-below c = search needs
+
+all-below-requires : tie.Need-all-below-requires
+all-below-requires c κs = search needs
+
+-- a metre at least, and a departure below T
+abbrev early : tie.Start → Bool
+early c = leb 1 (field (c .args .p .now) 0 2) && ltb (field (c .args .p .now) 4 1) (c .args .b .intervals)
+
+starts : (c : tie.Joined1) → c .if1 .if2 ≡ early (c .before .before .before)
+starts c =
+    let m = c .before .pair .ensures .0 in
+    let d = field-one (c .before .before .before .args .p .now) 4 (omega arith) in
+    ⊎-elim
+    (λ w. w .4 ∙ simp (← m, le-leb _ _ (w .0 .taken), w .2 .ensures .0, d))
+    (λ w. w .1 ∙ simp (← m, lt-leb _ _ (w .0 .left)))
+    (c .if1 .came)
+
+-- the definition, over the struct
+whole : (c : tie.Start)
+    → (early c && all (λ d. ltb d (2 * c .args .b .«segment_count»)) (drop trainFixed (c .args .p .now)))
+    ≡ trainFits (held (c .args .b)) (trainIn (c .args .p .now))
+unfolding trainFits trainIn held
+whole c =
+    let e : length (c .args .b .segments) ≡ 64 = search (needs, length-of-map) in
+    simp (segments-held (c .args .b) (c .pre .0) e)
+
+returns : tie.Need-returns
+returns c =
+    let f = sym (starts (c .before .before .before)) ∙ c .before .before .if2 .taken in
+    c .all-below .ensures ∙ sym (simp f) ∙ whole (c .before .before .before .before .before .before)
+
+returns-2 : tie.Need-returns-2
+returns-2 c =
+    let f = sym (starts (c .before)) ∙ c .if2 .left in
+    c .if2 .left ∙ sym (simp f) ∙ whole (c .before .before .before .before)
+
+pub train-fits-spec : {M : Type 1} → statement M
+train-fits-spec =
+    tie.close
+    (tie.spec
+    pair-requires
+    shared-slice-read-wide
+    wide-requires
+    mul-all-below
+    all-below-requires
+    returns
+    returns-2)

@@ -1,0 +1,3 @@
+// The reader of a book: the content of each kind of frame, and the frames in their order.
+pub mod content;
+pub mod reading;

@@ -1,0 +1,4 @@
+pub mod RowNumbers
+pub mod Signs
+pub mod Found
+pub mod Places

@@ -1,0 +1,14 @@
+pub mod Rests
+pub mod PlaceRows
+pub mod Least
+pub mod Trains
+pub mod Lookups
+pub mod Passing
+pub mod Small
+pub mod Answers
+pub mod Held
+pub mod Here
+pub mod Chains
+pub mod Filled
+pub mod Turned
+pub mod Instances

@@ -1,0 +1,23 @@
+-- `places::follows` meets its contract. Assumes nothing.
+use borrow.Author.Needs.{needs}
+use native.Mathlib.Omega.{arith}
+use mathlib.Core.Path.{_∙_}
+use Rattle.run_tables.specs.Placed.{endAt}
+use Rattle.run_tables.proofs.places.follows.Statement.{statement}
+use Rattle.run_tables.proofs.places.follows.Tie as tie
+
+end-of-requires : tie.Need-end-of-requires
+end-of-requires c κs = search needs
+
+start-of-requires : tie.Need-start-of-requires
+start-of-requires c κs = search needs
+
+same-places-requires : tie.Need-same-places-requires
+unfolding endAt
+same-places-requires c κs = (omega arith, omega arith)
+
+returns : tie.Need-returns
+returns c = c .same-places .ensures ∙ simp (c .before .before .end-of .ensures, c .before .start-of .ensures)
+
+pub follows-spec : {M : Type 1} → statement M
+follows-spec = tie.close (tie.spec end-of-requires start-of-requires same-places-requires returns)
