@@ -1,7 +1,7 @@
 // What a book says: its counts, and the runs of its trains.
+use frames::bytes::wide;
 use libc::STDOUT_FILENO;
 use model::Book;
-use network::track::wide;
 use reader::reading::Answer;
 use reader::reading::read_book;
 use run_tables::tables::ALL_BYTES;

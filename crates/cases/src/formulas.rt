@@ -1,7 +1,7 @@
 // A book's formula, as its text or as a digest of it.
 use crate::lent::lent;
+use frames::bytes::wide;
 use libc::STDOUT_FILENO;
-use network::track::wide;
 use programs::dimacs::put_words;
 use programs::printing::Opened;
 use programs::printing::open_text;

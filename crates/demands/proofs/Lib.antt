@@ -8,6 +8,7 @@ pub mod Exact
 pub mod RunLists
 -- The formula and the plan rules say the same
 pub mod Sections
+pub mod Labels
 pub mod Meaning
 pub mod Coding
 pub mod Moves

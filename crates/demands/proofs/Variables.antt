@@ -16,7 +16,8 @@ use Rattle.laws.proofs.Rows.{rows}
 use Rattle.laws.proofs.Parts.{Part, part-behind, part-in, part-at, part-each, length-each, length-upTo, sum-constant, map-at}
 use Rattle.spec.specs.Lists.{all, upTo, each, sumTo}
 use Rattle.spec.specs.Instance.{Instance}
-use Rattle.spec.specs.Formula.{width, firstVar, base, borderVar, runVar, goneVar, claimVar, ownVariables}
+use Rattle.spec.specs.Extra.{extraVariables}
+use Rattle.spec.specs.Formula.{width, firstVar, base, borderVar, runVar, goneVar, claimVar, ownVariables, variables}
 use Rattle.spec.specs.Library.{Meaning, border, run, gone, claim, noVariable, meaningsIn, meanings, meaningOf}
 
 -- a row of values has as many as there are numbers
@@ -45,12 +46,13 @@ module _ (I : Instance) where
   length-train i = length-each (meaningsIn I i) (λ _. width I i) (length-interval i) (I .intervals) ∙ sum-constant (width I i) (I .intervals)
 
   -- one a variable
-  pub length-meanings : length (meanings I) ≡ ownVariables I
-  unfolding meanings ownVariables firstVar
+  pub length-meanings : length (meanings I) ≡ variables I
+  unfolding variables extraVariables meanings ownVariables firstVar
   length-meanings =
       length-append (map border (upTo (I .nodes))) _
       ∙ ap₂ _+_ (length-values border (I .nodes))
       (length-each (λ i. each (upTo (I .intervals)) (meaningsIn I i)) (λ i. I .intervals * width I i) length-train (I .trains))
+      ∙ sym (add-zero _)
 
   -- ---- a border
 
@@ -114,7 +116,7 @@ module _ (I : Instance) where
   all-stand = simp (rows, meaning) ((λ n h. tt), λ i l t h. ((λ r k. tt), (tt, λ s k. tt)))
 
   -- 0 and the numbers above the last variable, and no other
-  pub none-stands : (v : ℕ) → (meaningOf I v ≡ noVariable) ↔ ((v ≡ 0) ⊎ (ownVariables I < v))
+  pub none-stands : (v : ℕ) → (meaningOf I v ≡ noVariable) ↔ ((v ≡ 0) ⊎ (variables I < v))
   unfolding meaningOf stands
   none-stands zero = (λ _. inl refl, λ _. refl)
   none-stands (suc v) = (

@@ -13,7 +13,7 @@ use Rattle.clauses.proofs.Laws.{only-false}
 use Rattle.clauses.proofs.Turns.{upTo-range, range-next}
 use Rattle.run_tables.specs.Tables.{leastFrom}
 use Rattle.run_tables.specs.Ready.{ChainsHeld}
-use Rattle.run_tables.proofs.Least.{least-from, least-holds}
+use Rattle.laws.proofs.Least.{least-from, least-holds}
 use Rattle.formula.specs.Chained.{Chained}
 
 -- ---- the rows of the numbers that pass

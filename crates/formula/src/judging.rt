@@ -1,9 +1,9 @@
 // Judging an assignment: 13, its length and bytes, then 14, the least clause of the formula that is
 // false. Nothing is written; the formula is walked, not kept. Assumes nothing.
 use crate::walk::walk_formula;
+use frames::bytes::all_below;
 use layout::numbering::variable_count;
 use model::Book;
-use network::scans::all_below;
 use reader::reading::Answer;
 ghost use mathlib.Core.Path.{_≡_};
 ghost use Rattle.spec.specs.Instance.{instanceOf};

@@ -1,4 +1,4 @@
 // The formula: its families, one walk over them, and the judgement of an assignment by that walk.
 pub mod families;
-pub mod walk;
 pub mod judging;
+pub mod walk;

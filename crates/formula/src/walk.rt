@@ -1,9 +1,6 @@
 // The formula of a book: one walk over its families, in their order, that measures, writes and judges
 // (`clauses::Walk`). Families B, C, D, E, G and H go by train and interval through the same two
 // loops. Assumes nothing.
-use clauses::Walk;
-use clauses::begin;
-use clauses::close;
 use crate::families::family_a;
 use crate::families::rows_b;
 use crate::families::rows_c;
@@ -13,6 +10,9 @@ use crate::families::rows_g;
 use crate::families::rows_h;
 use crate::families::rows_i;
 use crate::families::servers;
+use clauses::Walk;
+use clauses::begin;
+use clauses::close;
 use layout::numbering::base_from;
 use layout::numbering::first_claim;
 use layout::numbering::first_variable;
@@ -21,11 +21,11 @@ use listing::TRAIN_BYTES;
 use model::Book;
 use model::Call;
 use model::MAX_RUNS;
-use network::scans::calls_of;
+use network::calls::call_at;
+use network::calls::calls_of;
 use network::track::length_in_segments;
 use run_tables::places::in_window;
 use run_tables::places::served_at_departure;
-use run_tables::tables::call_at;
 ghost use mathlib.Core.Path.{_≡_};
 ghost use mathlib.Core.List.{_++_};
 ghost use Prim.Native.Nat.{_≤_, _<_};

@@ -2,6 +2,8 @@
 // place of a file. Each kind is a type whose associated constants are its number and the length of its
 // payload; its constructor `cursor` gives the stretch of a file that the payload's fixed part takes.
 // Assumes nothing.
+pub mod bytes;
+
 ghost use mathlib.Core.Path.{_≡_};
 ghost use Prim.Native.Nat.{ℕ, _+_, _≤_, _<_};
 ghost use lib.ListN.{length, drop};

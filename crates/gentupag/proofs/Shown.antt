@@ -23,7 +23,7 @@ use Rattle.run_tables.specs.Placed.{placeAt, runHeld}
 use Rattle.run_tables.specs.Tables.{Passed}
 use Rattle.run_tables.specs.Ready.{RunsHeld}
 use Rattle.gentupag.specs.declared.answers.Run.{Run}
-use Rattle.gentupag.specs.Answers.{runIn}
+use Rattle.gentupag.specs.Answers.{runAnswer}
 
 -- ---- of a book
 
@@ -60,18 +60,18 @@ module _ (b : Book) (i r : ℕ) where
 module _ (b : BookStruct) (p : Passed b) (i r : ℕ) where
   -- what is to be answered
   abbrev asked : Run
-  asked = runIn (accepted (runAsked (held b) i r))
+  asked = runAnswer (accepted (runAsked (held b) i r))
 
-  pub asked-away : {answer : Run} → b .«train_count» ≤ i → answer ≡ runIn (accepted noTrain) → answer ≡ asked
+  pub asked-away : {answer : Run} → b .«train_count» ≤ i → answer ≡ runAnswer (accepted noTrain) → answer ≡ asked
   asked-away h a =
-      a ∙ ap (λ (x : RunAsked). runIn (accepted x)) (sym (away (held b) i r (omega (arith, trains-counted (p .packed)))))
+      a ∙ ap (λ (x : RunAsked). runAnswer (accepted x)) (sym (away (held b) i r (omega (arith, trains-counted (p .packed)))))
 
   module _ (known : i < b .«train_count») {n : ℕ} (e : n ≡ instanceOf (held b) .runs i) where
     inside : i < length (held b .trains)
     inside = omega (arith, trains-counted (p .packed))
 
-    pub asked-gone : {answer : Run} → n ≤ r → answer ≡ runIn (accepted (noRun n)) → answer ≡ asked
-    asked-gone h a = a ∙ ap (λ (x : RunAsked). runIn (accepted x)) (sym (gone (held b) i r inside e h))
+    pub asked-gone : {answer : Run} → n ≤ r → answer ≡ runAnswer (accepted (noRun n)) → answer ≡ asked
+    asked-gone h a = a ∙ ap (λ (x : RunAsked). runAnswer (accepted x)) (sym (gone (held b) i r inside e h))
 
     -- by the train's tables
     pub asked-found : {rows sizes : Bytes} {place size : ℕ} {path : List ℕ} → RunsHeld (held b) i rows sizes → r < n
@@ -83,25 +83,25 @@ module _ (b : BookStruct) (p : Passed b) (i r : ℕ) where
         let run = runAt (runLists (held b)) i r in
         let whole : path ≡ padded 16 0 run =
         er ∙ ap (λ (m : ℕ). padded 16 0 (placeAt rows (16 * r) m)) es ∙ ap (padded 16 0) (k .run r l) in
-        rw (ep, es ∙ k .size r l, whole) (ap (λ (x : RunAsked). runIn (accepted x)) (sym (found (held b) i r inside e h)))
+        rw (ep, es ∙ k .size r l, whole) (ap (λ (x : RunAsked). runAnswer (accepted x)) (sym (found (held b) i r inside e h)))
 
 -- ---- of a book's bytes
 
 module _ (bytes : Bytes) (read : BookRead) (e : read ≡ bookReadOf (readBook bytes)) (i r : ℕ) where
   -- what is to be answered, by the verdict on the book
   abbrev answered : Verdict Book → Run
-  answered v = runIn (andThen v λ b. accepted (runAsked b i r))
+  answered v = runAnswer (andThen v λ b. accepted (runAsked b i r))
 
-  pub asked-on : {answer : Run} → read .answer ≡ Accepted → answer ≡ runIn (accepted (runAsked (held (read .book)) i r))
-      → answer ≡ runIn (askRun bytes i r)
+  pub asked-on : {answer : Run} → read .answer ≡ Accepted → answer ≡ runAnswer (accepted (runAsked (held (read .book)) i r))
+      → answer ≡ runAnswer (askRun bytes i r)
   unfolding askRun andThen
   asked-on told a =
       let f = accepted-by read (readBook bytes) e told in
       a
-      ∙ ap (λ (b : Book). runIn (accepted (runAsked b i r))) (ap held (f .2) ∙ held-packed (f .0))
+      ∙ ap (λ (b : Book). runAnswer (accepted (runAsked b i r))) (ap held (f .2) ∙ held-packed (f .0))
       ∙ ap answered (sym (f .1))
 
-  pub asked-stopped : {answer : Run} {n d : ℕ} → read .answer ≡ Refused n d → answer ≡ runIn (refused n d)
-      → answer ≡ runIn (askRun bytes i r)
+  pub asked-stopped : {answer : Run} {n d : ℕ} → read .answer ≡ Refused n d → answer ≡ runAnswer (refused n d)
+      → answer ≡ runAnswer (askRun bytes i r)
   unfolding askRun andThen
   asked-stopped told a = a ∙ ap answered (sym (refused-by read (readBook bytes) e told))

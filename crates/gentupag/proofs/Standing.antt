@@ -7,9 +7,10 @@ use native.Mathlib.Nat.{div-lt-iff-lt-mul, div-mul-le-self, lt-suc-self, suc-mul
 use native.Mathlib.Omega.{arith}
 use Rattle.spec.specs.Lists.{accepted}
 use Rattle.spec.specs.Instance.{Instance}
-use Rattle.spec.specs.Formula.{width, firstVar, base, borderVar, runVar, goneVar, claimVar, ownVariables}
+use Rattle.spec.specs.Extra.{extraVariables}
+use Rattle.spec.specs.Formula.{width, firstVar, base, borderVar, runVar, goneVar, claimVar, ownVariables, variables}
 use Rattle.spec.specs.Library.{Meaning, border, run, gone, claim, noVariable, meaningOf}
-use Rattle.gentupag.specs.Answers.{variableIn}
+use Rattle.gentupag.specs.Answers.{variableAnswer}
 use Rattle.demands.proofs.Variables.{border-stands, run-stands, gone-stands, claim-stands, none-stands}
 
 -- a number among m rows of w, the first of which starts at x: the row that it is in
@@ -24,8 +25,8 @@ module _ (x w m at : ℕ) (wide : 0 < w) (from : x ≤ at) (below : at < x + m *
   row-to = omega (arith, div-lt-iff-lt-mul wide .0 (lt-suc-self ((at - x) / w)), suc-mul ((at - x) / w) w)
 
 -- the answer, from what the variable stands for
-pub answered : {m n : Meaning} → m ≡ n → variableIn (accepted n) ≡ variableIn (accepted m)
-answered e = ap (λ (m : Meaning). variableIn (accepted m)) (sym e)
+pub answered : {m n : Meaning} → m ≡ n → variableAnswer (accepted n) ≡ variableAnswer (accepted m)
+answered e = ap (λ (m : Meaning). variableAnswer (accepted m)) (sym e)
 
 module _ (I : Instance) where
   -- no variable, and a border
@@ -33,8 +34,8 @@ module _ (I : Instance) where
   none-at v e = none-stands I v .1 (inl e)
 
   pub none-behind : (v : ℕ) → firstVar I (I .trains) < v → meaningOf I v ≡ noVariable
-  unfolding ownVariables
-  none-behind v h = none-stands I v .1 (inr h)
+  unfolding variables ownVariables extraVariables
+  none-behind v h = none-stands I v .1 (inr (omega (arith, h)))
 
   pub border-at : (v : ℕ) → 0 < v → v - 1 < I .nodes → meaningOf I v ≡ border (v - 1)
   unfolding borderVar

@@ -46,11 +46,11 @@ abbrev pub totalsOf : Verdict entry.Written → Totals
 totalsOf (accepted w) = record { number = 0; detail = 0; variables = w .variableCount; clauses = w .clauseCount; words = w .wordCount }
 totalsOf (refused n d) = record { number = n; detail = d; variables = 0; clauses = 0; words = 0 }
 
-abbrev pub sizesIn : Verdict library.Sizes → Sizes
-sizesIn (accepted s) = record
+abbrev pub sizesAnswer : Verdict library.Sizes → Sizes
+sizesAnswer (accepted s) = record
   { number = 0; detail = 0; intervals = s .intervals; nodes = s .nodes; «free_nodes» = s .freeNodes; segments = s .segments
   ; trains = s .trains; variables = s .variableCount; clauses = s .clauseCount; words = s .wordCount; «plan_bytes» = s .planBytes }
-sizesIn (refused n d) = record
+sizesAnswer (refused n d) = record
   { number = n; detail = d; intervals = 0; nodes = 0; «free_nodes» = 0; segments = 0; trains = 0; variables = 0; clauses = 0
   ; words = 0; «plan_bytes» = 0 }
 
@@ -58,17 +58,17 @@ sizesIn (refused n d) = record
 abbrev noPath : Bytes
 noPath = replicate 16 0
 
-abbrev pub runIn : Verdict library.RunAsked → Run
-runIn (accepted library.noTrain) = record { number = 0; detail = 0; missing = 1; runs = 0; place = 0; length = 0; path = noPath }
-runIn (accepted (library.noRun n)) = record { number = 0; detail = 0; missing = 2; runs = n; place = 0; length = 0; path = noPath }
-runIn (accepted (library.shown n l ds)) = record
+abbrev pub runAnswer : Verdict library.RunAsked → Run
+runAnswer (accepted library.noTrain) = record { number = 0; detail = 0; missing = 1; runs = 0; place = 0; length = 0; path = noPath }
+runAnswer (accepted (library.noRun n)) = record { number = 0; detail = 0; missing = 2; runs = n; place = 0; length = 0; path = noPath }
+runAnswer (accepted (library.shown n l ds)) = record
   { number = 0; detail = 0; missing = 0; runs = n; place = l; length = length ds; path = padded 16 0 ds }
-runIn (refused n d) = record { number = n; detail = d; missing = 0; runs = 0; place = 0; length = 0; path = noPath }
+runAnswer (refused n d) = record { number = n; detail = d; missing = 0; runs = 0; place = 0; length = 0; path = noPath }
 
-abbrev pub variableIn : Verdict library.Meaning → Variable
-variableIn (accepted library.noVariable) = record { number = 0; detail = 0; kind = 0; train = 0; interval = 0; item = 0 }
-variableIn (accepted (library.border n)) = record { number = 0; detail = 0; kind = 1; train = 0; interval = 0; item = n }
-variableIn (accepted (library.run i t r)) = record { number = 0; detail = 0; kind = 2; train = i; interval = t; item = r }
-variableIn (accepted (library.gone i t)) = record { number = 0; detail = 0; kind = 3; train = i; interval = t; item = 0 }
-variableIn (accepted (library.claim i t s)) = record { number = 0; detail = 0; kind = 4; train = i; interval = t; item = s }
-variableIn (refused n d) = record { number = n; detail = d; kind = 0; train = 0; interval = 0; item = 0 }
+abbrev pub variableAnswer : Verdict library.Meaning → Variable
+variableAnswer (accepted library.noVariable) = record { number = 0; detail = 0; kind = 0; train = 0; interval = 0; item = 0 }
+variableAnswer (accepted (library.border n)) = record { number = 0; detail = 0; kind = 1; train = 0; interval = 0; item = n }
+variableAnswer (accepted (library.run i t r)) = record { number = 0; detail = 0; kind = 2; train = i; interval = t; item = r }
+variableAnswer (accepted (library.gone i t)) = record { number = 0; detail = 0; kind = 3; train = i; interval = t; item = 0 }
+variableAnswer (accepted (library.claim i t s)) = record { number = 0; detail = 0; kind = 4; train = i; interval = t; item = s }
+variableAnswer (refused n d) = record { number = n; detail = d; kind = 0; train = 0; interval = 0; item = 0 }

@@ -1,8 +1,8 @@
 // The sections of a book's segments under a set of borders. Assumes nothing.
 use crate::answers::Output;
+use frames::bytes::all_below;
 use model::Book;
 use model::MAX_SEGMENTS;
-use network::scans::all_below;
 use reader::reading::Answer;
 use reader::reading::read_book;
 use sections::labels::label_sections;

@@ -32,7 +32,7 @@ ghost use Rattle.spec.specs.Read.{readBook};
 ghost use Rattle.spec.specs.Entry.{zeroed, writeFormula, formulaOutput, checkAssignment, planOutput, checkPlan, assignmentOutput, checkRefutation};
 ghost use Rattle.spec.specs.Library.{measureBook, labelSections, labelsOutput, askRun, askVariable};
 ghost use Rattle.refutations.specs.Lent.{lengths};
-ghost use Rattle.gentupag.specs.Answers.{verdictShown, outputShown, totalsShown, verdictOf, outputOf, totalsOf, sizesIn, runIn, variableIn};
+ghost use Rattle.gentupag.specs.Answers.{verdictShown, outputShown, totalsShown, verdictOf, outputOf, totalsOf, sizesAnswer, runAnswer, variableAnswer};
 
 // A verdict as a struct.
 fn verdict_from(answer: Answer) -> Verdict
@@ -104,7 +104,7 @@ pub extern "C" fn gentupag_read_book(book: &[u8]) -> Verdict
 // The sizes of a book: what it counts, and how much its outputs need.
 #[no_mangle]
 pub extern "C" fn gentupag_measure_book(book: &[u8]) -> Sizes
-    ensures { λ r. ⌜ r ≡ sizesIn (measureBook (now (book .entry))) ⌝ }
+    ensures { λ r. ⌜ r ≡ sizesAnswer (measureBook (now (book .entry))) ⌝ }
 {
     measure_book(book)
 }
@@ -172,7 +172,7 @@ pub extern "C" fn gentupag_label_sections(book: &[u8], borders: &[u8], out: &mut
 // A run of a train, by its number in the train's list.
 #[no_mangle]
 pub extern "C" fn gentupag_show_run(book: &[u8], train: usize, run: usize) -> Run
-    ensures { λ r. ⌜ r ≡ runIn (askRun (now (book .entry)) train run) ⌝ }
+    ensures { λ r. ⌜ r ≡ runAnswer (askRun (now (book .entry)) train run) ⌝ }
 {
     run_of(book, train, run)
 }
@@ -180,7 +180,7 @@ pub extern "C" fn gentupag_show_run(book: &[u8], train: usize, run: usize) -> Ru
 // What a variable stands for, counted from 1 as in the formula's text.
 #[no_mangle]
 pub extern "C" fn gentupag_explain_variable(book: &[u8], variable: usize) -> Variable
-    ensures { λ r. ⌜ r ≡ variableIn (askVariable (now (book .entry)) variable) ⌝ }
+    ensures { λ r. ⌜ r ≡ variableAnswer (askVariable (now (book .entry)) variable) ⌝ }
 {
     variable_of(book, variable)
 }

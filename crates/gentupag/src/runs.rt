@@ -1,14 +1,14 @@
 // A train's runs, by their numbers in its list. Assumes nothing.
-use crate::answers::NOTHING_MISSING;
 use crate::answers::NO_RUN;
 use crate::answers::NO_TRAIN;
+use crate::answers::NOTHING_MISSING;
 use crate::answers::Run;
+use frames::bytes::wide;
 use listing::RUN_BYTES;
 use listing::TRAIN_BYTES;
 use model::Book;
 use model::MAX_RUNS;
 use network::track::length_in_segments;
-use network::track::wide;
 use reader::reading::Answer;
 use reader::reading::read_book;
 use run_tables::tables::ALL_BYTES;
@@ -24,7 +24,7 @@ ghost use Rattle.spec.specs.Library.{runAsked, askRun};
 ghost use Rattle.run_tables.specs.Placed.{placeAt};
 ghost use Rattle.run_tables.specs.Tables.{Passed};
 ghost use Rattle.run_tables.specs.Ready.{RunsHeld};
-ghost use Rattle.gentupag.specs.Answers.{runIn};
+ghost use Rattle.gentupag.specs.Answers.{runAnswer};
 
 // An answer without a run: a refusal, or what is missing.
 fn without_run(number: usize, detail: usize, missing: usize, runs: usize) -> Run
@@ -60,7 +60,7 @@ fn path_of(rows: &[u8], run: usize, size: usize) -> [u8; 16]
 fn run_among(b: Book, train: usize, n: usize, rows: &[u8], sizes: &[u8], run: usize) -> Run
     requires { ⌜ Passed b × (train < b .«train_count») × (n ≡ instanceOf (held b) .runs train)
         × RunsHeld (held b) train (now rows) (now sizes) ⌝ }
-    ensures { λ r. ⌜ r ≡ runIn (accepted (runAsked (held b) train run)) ⌝ }
+    ensures { λ r. ⌜ r ≡ runAnswer (accepted (runAsked (held b) train run)) ⌝ }
 {
     if n <= run {
         return without_run(0, 0, NO_RUN, n);
@@ -82,7 +82,7 @@ fn run_among(b: Book, train: usize, n: usize, rows: &[u8], sizes: &[u8], run: us
 // A run of a train, of a book that passed.
 fn run_for(b: Book, train: usize, run: usize) -> Run
     requires { ⌜ Passed b ⌝ }
-    ensures { λ r. ⌜ r ≡ runIn (accepted (runAsked (held b) train run)) ⌝ }
+    ensures { λ r. ⌜ r ≡ runAnswer (accepted (runAsked (held b) train run)) ⌝ }
 {
     if b.train_count <= train {
         return without_run(0, 0, NO_TRAIN, 0);
@@ -104,7 +104,7 @@ fn run_for(b: Book, train: usize, run: usize) -> Run
 
 // A run of a train of the book that the bytes hold.
 pub fn run_of(book: &[u8], train: usize, run: usize) -> Run
-    ensures { λ r. ⌜ r ≡ runIn (askRun (now (book .entry)) train run) ⌝ }
+    ensures { λ r. ⌜ r ≡ runAnswer (askRun (now (book .entry)) train run) ⌝ }
 {
     let r = read_book(book);
     let answer = r.answer;

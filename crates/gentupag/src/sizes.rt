@@ -25,7 +25,7 @@ ghost use Rattle.spec.specs.Library.{freeNodesOf, sizesOf, measureBook};
 ghost use Rattle.run_tables.specs.Tables.{Passed};
 ghost use Rattle.run_tables.specs.Ready.{RunsReady, ChainsReady};
 ghost use Rattle.sections.specs.Meets.{MeetsReady};
-ghost use Rattle.gentupag.specs.Answers.{sizesIn};
+ghost use Rattle.gentupag.specs.Answers.{sizesAnswer};
 
 // Whether a node of this kind may have a border or none.
 fn is_free(kind: u8) -> bool
@@ -63,7 +63,7 @@ fn measure_by(
     end: usize,
 ) -> Sizes
     requires { ⌜ RunsReady b runs (now rows) (now sizes) × ChainsReady b (now firsts) (now nexts) × MeetsReady b (now meets) end ⌝ }
-    ensures { λ r. ⌜ r ≡ sizesIn (accepted (sizesOf (instanceOf (held b)))) ⌝ }
+    ensures { λ r. ⌜ r ≡ sizesAnswer (accepted (sizesOf (instanceOf (held b)))) ⌝ }
 {
     let none = &rows[0..0];
     let mut nowhere = [0i32; 1];
@@ -97,7 +97,7 @@ fn measure_by(
 // The sizes of a book that passed: its tables are filled, then the formula is measured.
 fn measure_for(b: Book) -> Sizes
     requires { ⌜ Passed b ⌝ }
-    ensures { λ r. ⌜ r ≡ sizesIn (accepted (sizesOf (instanceOf (held b)))) ⌝ }
+    ensures { λ r. ⌜ r ≡ sizesAnswer (accepted (sizesOf (instanceOf (held b)))) ⌝ }
 {
     let mut rows = [0u8; ALL_BYTES];
     let mut sizes = [0u8; ALL_RUNS];
@@ -131,7 +131,7 @@ fn refused_sizes(number: usize, detail: usize) -> Sizes
 
 // The sizes of the book that the bytes hold.
 pub fn measure_book(book: &[u8]) -> Sizes
-    ensures { λ r. ⌜ r ≡ sizesIn (measureBook (now (book .entry))) ⌝ }
+    ensures { λ r. ⌜ r ≡ sizesAnswer (measureBook (now (book .entry))) ⌝ }
 {
     let r = read_book(book);
     let answer = r.answer;

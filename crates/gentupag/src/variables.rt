@@ -26,7 +26,7 @@ ghost use Rattle.spec.specs.Held.{held};
 ghost use Rattle.spec.specs.Library.{meaningOf, askVariable};
 ghost use Rattle.run_tables.specs.Tables.{Passed};
 ghost use Rattle.run_tables.specs.Ready.{Counted};
-ghost use Rattle.gentupag.specs.Answers.{variableIn};
+ghost use Rattle.gentupag.specs.Answers.{variableAnswer};
 
 // The answer for a variable of some kind.
 fn stands_for(kind: usize, train: usize, interval: usize, item: usize) -> Variable
@@ -54,7 +54,7 @@ fn in_interval(
 ) -> Variable
     requires { ⌜ Counted b runs × (train < b .«train_count») × (interval < b .intervals)
         × (first ≡ base (instanceOf (held b)) train interval) × (first ≤ at) × (at < first + width (instanceOf (held b)) train) ⌝ }
-    ensures { λ r. ⌜ r ≡ variableIn (accepted (meaningOf (instanceOf (held b)) (suc at))) ⌝ }
+    ensures { λ r. ⌜ r ≡ variableAnswer (accepted (meaningOf (instanceOf (held b)) (suc at))) ⌝ }
 {
     let n = runs[train];
     let gone = gone_variable(first, n);
@@ -72,7 +72,7 @@ fn in_interval(
 fn in_train(b: Book, runs: [usize; 8], train: usize, at: usize) -> Variable
     requires { ⌜ Counted b runs × (train < b .«train_count») × (firstVar (instanceOf (held b)) train ≤ at)
         × (at < firstVar (instanceOf (held b)) (train + 1)) ⌝ }
-    ensures { λ r. ⌜ r ≡ variableIn (accepted (meaningOf (instanceOf (held b)) (suc at))) ⌝ }
+    ensures { λ r. ⌜ r ≡ variableAnswer (accepted (meaningOf (instanceOf (held b)) (suc at))) ⌝ }
 {
     let n = runs[train];
     let segments = b.segment_count;
@@ -86,7 +86,7 @@ fn in_train(b: Book, runs: [usize; 8], train: usize, at: usize) -> Variable
 // trains: v belongs to the first train whose variables end behind it.
 fn variable_by(b: Book, runs: [usize; 8], v: usize) -> Variable
     requires { ⌜ Counted b runs ⌝ }
-    ensures { λ r. ⌜ r ≡ variableIn (accepted (meaningOf (instanceOf (held b)) v)) ⌝ }
+    ensures { λ r. ⌜ r ≡ variableAnswer (accepted (meaningOf (instanceOf (held b)) v)) ⌝ }
 {
     if v == 0 {
         return stands_for(NO_VARIABLE, 0, 0, 0);
@@ -109,7 +109,7 @@ fn variable_by(b: Book, runs: [usize; 8], v: usize) -> Variable
 // The same, with the runs counted first.
 fn variable_for(b: Book, v: usize) -> Variable
     requires { ⌜ Passed b ⌝ }
-    ensures { λ r. ⌜ r ≡ variableIn (accepted (meaningOf (instanceOf (held b)) v)) ⌝ }
+    ensures { λ r. ⌜ r ≡ variableAnswer (accepted (meaningOf (instanceOf (held b)) v)) ⌝ }
 {
     let mut rows = [0u8; ALL_BYTES];
     let mut sizes = [0u8; ALL_RUNS];
@@ -119,7 +119,7 @@ fn variable_for(b: Book, v: usize) -> Variable
 
 // What variable v of the book that the bytes hold stands for, v counted from 1.
 pub fn variable_of(book: &[u8], v: usize) -> Variable
-    ensures { λ r. ⌜ r ≡ variableIn (askVariable (now (book .entry)) v) ⌝ }
+    ensures { λ r. ⌜ r ≡ variableAnswer (askVariable (now (book .entry)) v) ⌝ }
 {
     let r = read_book(book);
     let answer = r.answer;

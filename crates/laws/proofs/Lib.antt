@@ -5,3 +5,4 @@ pub mod Frames
 pub mod Parts
 pub mod Arrays
 pub mod Loops
+pub mod Least

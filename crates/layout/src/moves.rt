@@ -1,8 +1,8 @@
 // The moves of a plan: what a train does in an interval, and 15, whether bytes are a plan at all: their
 // length, a border or none a node, and moves that the trains have. Assumes nothing.
+use frames::bytes::all_below;
 use frames::pair;
 use model::Book;
-use network::scans::all_below;
 ghost use mathlib.Core.Path.{_≡_};
 ghost use Prim.Native.Nat.{_≤_, _<_};
 ghost use lib.ListN.{length};

@@ -3,6 +3,7 @@
 // tables, a row of 16 bytes and a length a run, so that a run is found by its number at once; at most
 // 256 are kept, and the listing stops at the 257th. A table that is filled once a book has the
 // successors of each directed segment. Assumes nothing.
+use frames::bytes::wide;
 use model::Book;
 use model::MAX_REACH;
 use model::MAX_RUNS;
@@ -13,7 +14,6 @@ use network::track::joined;
 use network::track::length_in_segments;
 use network::track::speed_in_segments;
 use network::track::start_in;
-use network::track::wide;
 ghost use mathlib.Core.Path.{_≡_};
 ghost use mathlib.Core.List.{_++_, map};
 ghost use Prim.Native.Nat.{ℕ, _+_, _*_, _≤_, _<_};

@@ -1,5 +1,5 @@
--- What is left of a list or a range behind a place, one element at a time: a test over it, the elements that pass a test, and a row
--- that is filled into an array of zeros. Assumes nothing.
+-- What is left of a list or a range behind a place, one element at a time: a test over it, the elements that pass a test, the last
+-- of them, and a row that is filled into an array of zeros. Assumes nothing.
 use mathlib.Core.Path.{_≡_, sym, ap, _∙_}
 use mathlib.Core.Bool.{Bool, true, false, _&&_, _||_}
 use Prim.Native.Nat.{ℕ, suc, _+_, _-_, _≤_, _<_}
@@ -8,19 +8,9 @@ use native.Mathlib.Omega.{arith}
 use mathlib.Core.List.{List, _++_}
 use lib.ListN.{length, getD, drop, set, replicate, length-append, drop-of-length-le}
 use lib.Seq.{slice, drop-cons, set-at, append-snoc}
-use Rattle.spec.specs.Lists.{all, any, pick, only, one, upTo, range, count}
+use Rattle.spec.specs.Lists.{any, lastOr, pick, only, one, upTo, range, count}
 use Rattle.spec.specs.Held.{padded}
 use Rattle.network.proofs.Walks.{slice-next, slice-end}
-
--- a test over what stands from i on
-module _ {ℓ} {A : Type ℓ} (f : A → Bool) (xs : List A) (i : ℕ) where
-  pub all-drop-next : (d : A) → i < length xs → all f (drop i xs) ≡ (f (getD xs i d) && all f (drop (i + 1) xs))
-  unfolding all
-  all-drop-next d l = rw (add-one, drop-cons xs i d)
-
-  pub all-drop-end : length xs ≤ i → all f (drop i xs) ≡ true
-  unfolding all
-  all-drop-end l = ap (all f) (drop-of-length-le xs l)
 
 -- how many of those from i up to n pass a test
 module _ {ℓ} {A : Type ℓ} (f : A → Bool) (xs : List A) (n i : ℕ) (d : A) (l : i < n) (fits : n ≤ length xs) where
@@ -55,3 +45,19 @@ module _ (f : ℕ → Bool) (n i : ℕ) where
 pub any-range-all : (f : ℕ → Bool) (n : ℕ) → any f (upTo n) ≡ any f (range 0 n)
 unfolding upTo range
 any-range-all f n = let e : n ≡ n - 0 = omega arith in ap (λ (k : ℕ). any f (count 0 k)) e
+
+-- the last of those from i up to n that pass a test, or z
+module _ {ℓ} {A : Type ℓ} (f : A → Bool) (xs : List A) (n i : ℕ) (z : A) where
+  module _ (d : A) (l : i < n) (fits : n ≤ length xs) where
+    pub last-taken : f (getD xs i d) ≡ true
+        → lastOr z (pick f (slice i n xs)) ≡ lastOr (getD xs i d) (pick f (slice (i + 1) n xs))
+    unfolding lastOr pick only
+    last-taken e = ap (λ ys. lastOr z (pick f ys)) (slice-next xs n i d l fits) ∙ simp e
+
+    pub last-left : f (getD xs i d) ≡ false → lastOr z (pick f (slice i n xs)) ≡ lastOr z (pick f (slice (i + 1) n xs))
+    unfolding pick only
+    last-left e = ap (λ ys. lastOr z (pick f ys)) (slice-next xs n i d l fits) ∙ simp e
+
+  pub last-end : n ≤ i → lastOr z (pick f (slice i n xs)) ≡ z
+  unfolding lastOr pick
+  last-end l = ap (λ ys. lastOr z (pick f ys)) (slice-end xs n i l)

@@ -1,3 +1,4 @@
-// Questions to a book: its track, and scans of its rows and of a payload.
-pub mod track;
+// Questions to a book: its track, its trains' calls, and scans of its segments.
+pub mod calls;
 pub mod scans;
+pub mod track;

@@ -1,7 +1,6 @@
-// Scans of a payload and of a book's rows that the content of a frame is checked by. One loop each.
-// Assumes nothing.
+// Scans of a book's segments: whether one has a TTD, and whether a border may divide it. Assumes nothing.
 use crate::track::denies_border;
-use crate::track::wide;
+use frames::bytes::wide;
 use model::Book;
 use model::MAX_NODES;
 ghost use mathlib.Core.Path.{_≡_};
@@ -13,52 +12,6 @@ ghost use Rattle.spec.specs.Lists as lists;
 ghost use Rattle.spec.specs.Book as book;
 ghost use Rattle.spec.specs.Read as read;
 ghost use Rattle.spec.specs.Held.{held, CountsFit, padded};
-
-// Whether every byte from `from` on is below a limit.
-pub fn all_below(p: &[u8], from: usize, limit: usize) -> bool
-    requires { ⌜ from ≤ length (now p) ⌝ }
-    ensures { λ r. ⌜ r ≡ lists.all (λ d. ltb d limit) (drop from (now (p .entry))) ⌝ }
-{
-    let mut i = from;
-    while i < p.len() {
-        if limit <= wide(p[i]) {
-            return false;
-        }
-        i += 1;
-    }
-    true
-}
-
-// The bytes from `from` on, at most eight, in an array.
-pub fn row_of(p: &[u8], from: usize) -> [u8; 8]
-    requires { ⌜ (from ≤ length (now p)) × (length (now p) ≤ from + 8) ⌝ }
-    ensures { λ r. ⌜ r ≡ padded 8 0 (drop from (now (p .entry))) ⌝ }
-{
-    let mut row = [0u8; 8];
-    let mut i = from;
-    while i < p.len() {
-        row[i - from] = p[i];
-        i += 1;
-    }
-    row
-}
-
-// How many calls a train has.
-pub fn calls_of(b: Book, train: usize) -> usize
-    requires { ⌜ CountsFit b ⌝ }
-    ensures { λ r. ⌜ (r ≡ length (book.callsOf (held b) train)) × (r ≤ b .«call_count») ⌝ }
-{
-    let n = b.call_count;
-    let mut found = 0;
-    let mut i = 0;
-    while i < n {
-        if wide(b.calls[i].train) == train {
-            found += 1;
-        }
-        i += 1;
-    }
-    found
-}
 
 // Whether some segment has the TTD.
 pub fn some_has(b: Book, ttd: usize) -> bool

@@ -2,6 +2,7 @@
 // segments lead to which, lengths and speeds in segments, and whether a row is a path. Reader, run
 // lists, formula and plan check go by these; only the filler of the run lists' successors asks for the
 // two halves of "leads to" by itself. Assumes nothing.
+use frames::bytes::wide;
 use model::Book;
 use model::Join;
 use model::Segment;
@@ -16,13 +17,6 @@ ghost use Rattle.spec.specs.Lists as lists;
 ghost use Rattle.spec.specs.Book as book;
 ghost use Rattle.spec.specs.Runs as runs;
 ghost use Rattle.spec.specs.Held.{held, heldTrain, CountsFit, NumbersFit};
-
-// A byte as a number.
-pub fn wide(x: u8) -> usize
-    ensures { λ r. ⌜ (r ≡ x) × (r < 256) ⌝ }
-{
-    x as usize
-}
 
 // Whether a node of this kind may never have a border.
 pub fn denies_border(kind: u8) -> bool

@@ -1,12 +1,12 @@
 // Rule 6, that no section holds segments of two trains' runs in an interval, by the labels of sections:
 // in each interval the labels that earlier trains touch are marked, so that the rule costs the segments
 // of the interval's runs. Assumes nothing.
+use frames::bytes::wide;
 use layout::moves::Move;
 use layout::moves::move_at;
 use listing::TRAIN_BYTES;
 use model::Book;
 use model::MAX_RUNS;
-use network::track::wide;
 use run_tables::places::start_of;
 ghost use mathlib.Core.Path.{_≡_};
 ghost use Prim.Native.Nat.{_<_};

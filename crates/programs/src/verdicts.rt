@@ -2,14 +2,14 @@
 // verdict, 12 first where an input is too long, and the result where there is one; its contract says that
 // these are the specification's. The other functions only read files by their names, and hand bytes to the
 // output and to a file. A slice has at most 64 KiB.
-use checking::OutputAnswer;
-use checking::check_assignment;
-use checking::check_plan;
 use crate::dimacs::put_bytes;
 use crate::dimacs::put_refusal;
 use crate::printing::Loaded;
 use crate::printing::load_from;
 use crate::printing::print;
+use checking::OutputAnswer;
+use checking::check_assignment;
+use checking::check_plan;
 use reader::reading::Answer;
 use refutations::check_refutation;
 ghost use mathlib.Core.Path.{_≡_};

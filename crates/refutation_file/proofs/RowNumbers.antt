@@ -15,7 +15,7 @@ use Rattle.spec.specs.Lists.{Bytes, upTo}
 use Rattle.spec.specs.Numbers.{field, signed}
 use Rattle.spec.specs.Formula.{Clause}
 use Rattle.spec.specs.Refutation.{variableOf, risesFrom, hintsFit}
-use Rattle.network.proofs.Rests.{all-drop-next, all-drop-end}
+use Rattle.frames.proofs.Drops.{all-drop-next, all-drop-end}
 use Rattle.laws.proofs.Numbers.{field-next, field-two}
 use Rattle.laws.proofs.Parts.{length-upTo, map-at}
 use Rattle.refutation_file.specs.Rows.{numberCount, numbersIn, literalsIn}

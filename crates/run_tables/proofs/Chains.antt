@@ -17,7 +17,7 @@ use Rattle.laws.proofs.Parts.{map-at, map-same, length-upTo}
 use Rattle.run_tables.specs.Placed.{placeAt, endAt}
 use Rattle.run_tables.specs.Tables.{leastFrom, firstFollowers, nextAlike}
 use Rattle.run_tables.specs.Ready.{RunsHeld, ChainsHeld}
-use Rattle.run_tables.proofs.Least.{least-same}
+use Rattle.laws.proofs.Least.{least-same}
 use Rattle.run_tables.proofs.Lookups.{stored-at}
 
 -- by the tables of n runs: whether q starts where r ends, and whether p starts where q does; the first of the one kind, and the

@@ -1,6 +1,5 @@
 pub mod Rests
 pub mod PlaceRows
-pub mod Least
 pub mod Trains
 pub mod Lookups
 pub mod Passing

@@ -1,7 +1,7 @@
--- What is left of two places, or of a row, behind an element: whether the two are the same from there on, and the last element that
--- passes a test. Rows of different lengths are not the same. Assumes nothing.
+-- What is left of two places behind an element: whether the two are the same from there on. Rows of different lengths are not the
+-- same. Assumes nothing.
 use mathlib.Core.Path.{_≡_, ap, ap₂, _∙_}
-use mathlib.Core.Bool.{Bool, true, false, _&&_}
+use mathlib.Core.Bool.{true, false, _&&_}
 use Prim.Native.Nat.{ℕ, _+_, _≤_, _<_}
 use native.Mathlib.Nat.{add-assoc}
 use native.Mathlib.Omega.{arith}
@@ -9,7 +9,7 @@ use mathlib.Core.List.{List}
 use lib.ListN.{length, getD}
 use lib.Seq.{slice}
 use lib.Dec.{eqb}
-use Rattle.spec.specs.Lists.{same, pick, only, lastOr}
+use Rattle.spec.specs.Lists.{same}
 use Rattle.laws.proofs.Tests.{false-of, same-iff}
 use Rattle.network.proofs.Walks.{slice-next, slice-end}
 
@@ -33,19 +33,3 @@ module _ (xs ys : List ℕ) (at from l i : ℕ) where
 -- rows of different lengths are not the same
 pub same-lengths : (xs ys : List ℕ) → (length xs ≡ length ys → ⊥) → same xs ys ≡ false
 same-lengths xs ys h = false-of (same xs ys) (λ e. h (ap length (same-iff xs ys .0 e)))
-
--- the last of those from i up to n that pass a test, or z
-module _ {ℓ} {A : Type ℓ} (f : A → Bool) (xs : List A) (n i : ℕ) (z : A) where
-  module _ (d : A) (l : i < n) (fits : n ≤ length xs) where
-    pub last-taken : f (getD xs i d) ≡ true
-        → lastOr z (pick f (slice i n xs)) ≡ lastOr (getD xs i d) (pick f (slice (i + 1) n xs))
-    unfolding lastOr pick only
-    last-taken e = ap (λ ys. lastOr z (pick f ys)) (slice-next xs n i d l fits) ∙ simp e
-
-    pub last-left : f (getD xs i d) ≡ false → lastOr z (pick f (slice i n xs)) ≡ lastOr z (pick f (slice (i + 1) n xs))
-    unfolding pick only
-    last-left e = ap (λ ys. lastOr z (pick f ys)) (slice-next xs n i d l fits) ∙ simp e
-
-  pub last-end : n ≤ i → lastOr z (pick f (slice i n xs)) ≡ z
-  unfolding lastOr pick
-  last-end l = ap (λ ys. lastOr z (pick f ys)) (slice-end xs n i l)

@@ -2,11 +2,11 @@
 // whether it serves a call, and who may leave. One function for each rule. Places lie in tables of
 // directed segments, as `listing::list_runs` fills them: the run with number r has 16 bytes from 16 r
 // on, and its length in a table beside. Assumes nothing.
+use frames::bytes::wide;
 use listing::RUN_BYTES;
 use model::Book;
 use model::Call;
 use model::Train;
-use network::track::wide;
 ghost use mathlib.Core.Path.{_≡_};
 ghost use mathlib.Core.Bool.{_&&_};
 ghost use Prim.Native.Nat.{_+_, _*_, _≤_, _<_};
@@ -115,29 +115,6 @@ pub fn served_at_departure(b: Book, c: Call, t: Train) -> bool
     ensures { λ r. ⌜ r ≡ ((leb (c .first) (t .departure) && leb (t .departure) (c .last)) && placeServes (held b) c (heldTrain t .place)) ⌝ }
 {
     in_window(c, t.departure) && given_serves(b, c, t)
-}
-
-// A train's goal: its last call in the file, or zeros where it has none.
-pub fn goal(b: Book, train: usize) -> Call
-    requires { ⌜ CountsFit b ⌝ }
-    ensures { λ r. ⌜ r ≡ goalOf (held b) train ⌝ }
-{
-    let n = b.call_count;
-    let mut last = Call {
-        train: 0,
-        segment: 0,
-        first: 0,
-        last: 0,
-    };
-    let mut i = 0;
-    while i < n {
-        let c = b.calls[i];
-        if wide(c.train) == train {
-            last = c;
-        }
-        i += 1;
-    }
-    last
 }
 
 // Whether a train with this goal that ends at a place of l directed segments may be gone after that.

@@ -5,6 +5,7 @@
 use crate::places::follows;
 use crate::places::same_places;
 use crate::places::start_of;
+use frames::bytes::wide;
 use listing::FAN_BYTES;
 use listing::SUCCESSOR_BYTES;
 use listing::TRAIN_BYTES;
@@ -15,7 +16,6 @@ use model::Call;
 use model::MAX_RUNS;
 use model::MAX_TRAINS;
 use network::track::length_in_segments;
-use network::track::wide;
 ghost use mathlib.Core.Path.{_≡_};
 ghost use mathlib.Core.List.{map};
 ghost use Prim.Native.Nat.{ℕ, _+_, _*_, _-_, _≤_, _<_};
@@ -197,31 +197,5 @@ pub fn chain_trains(
             &mut nexts[at..at + MAX_RUNS],
         );
         i += 1;
-    }
-}
-
-// A train's call with a number, in file order, or zeros where there is none.
-pub fn call_at(b: Book, train: usize, number: usize) -> Call
-    requires { ⌜ CountsFit b ⌝ }
-    ensures { λ r. ⌜ r ≡ callAt (held b) train number ⌝ }
-{
-    let n = b.call_count;
-    let mut left = number;
-    let mut i = 0;
-    while i < n {
-        let c = b.calls[i];
-        if wide(c.train) == train {
-            if left == 0 {
-                return c;
-            }
-            left -= 1;
-        }
-        i += 1;
-    }
-    Call {
-        train: 0,
-        segment: 0,
-        first: 0,
-        last: 0,
     }
 }

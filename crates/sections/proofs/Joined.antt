@@ -19,7 +19,7 @@ use Rattle.demands.proofs.Sections.{neighbours-iff, together-refl, together-tra
 use Rattle.sections.specs.Meets.{meetBytes}
 use Rattle.sections.proofs.Triples.{triples, triples-next, triples-end, triples-meet}
 use Rattle.sections.specs.Labels.{mergedLabel, joinedLabel}
-use Rattle.sections.proofs.Least.{least, least-le, least-below, least-together}
+use Rattle.demands.proofs.Labels.{least, least-le, least-below, least-together}
 
 -- ---- labels of two sections that become one
 

@@ -21,7 +21,7 @@ use Rattle.sections.proofs.Triples.{bytes-next, bytes-end}
 use Rattle.sections.specs.Labels.{joinedLabel, sectionLabels}
 use Rattle.sections.proofs.Joined.{Joined, joined-start, joined-meets, joined-border, joined-open, joined-least}
 use Rattle.sections.proofs.Stored.{Stored, stored, sets-of}
-use Rattle.sections.proofs.Least.{least}
+use Rattle.demands.proofs.Labels.{least}
 
 -- the labels of the sections that the triples before `at` make; the table is else as it was
 pub record Labelled (b : BookStruct) (border : Borders) (meets : Bytes) (end at : ℕ) (old new : List ℕ) : Type 0 where

@@ -2,7 +2,6 @@ pub mod Rows
 pub mod Few
 pub mod Ready
 pub mod Triples
-pub mod Least
 pub mod Joined
 pub mod Same
 pub mod Stored

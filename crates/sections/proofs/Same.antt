@@ -18,7 +18,7 @@ use Rattle.run_tables.specs.Placed.{bordersOf}
 use Rattle.run_tables.specs.Tables.{Passed}
 use Rattle.run_tables.proofs.Small.{passed-few}
 use Rattle.sections.specs.Labels.{sectionLabels, LabelsHeld}
-use Rattle.sections.proofs.Least.{least, least-below, least-iff}
+use Rattle.demands.proofs.Labels.{least, least-below, least-iff}
 use Rattle.sections.proofs.Stored.{stored}
 
 module _ (b : BookStruct) (p : Passed b) (border : Borders) (old : List ℕ) (room : length old ≡ 64) where

@@ -1,8 +1,8 @@
 // The section rule in running code, once for all segments: under a set of borders each segment gets
 // the label of its section, which is the section's least segment. Two segments are together where
 // their labels are equal. Assumes nothing.
+use frames::bytes::wide;
 use model::Book;
-use network::track::wide;
 ghost use mathlib.Core.Path.{_≡_};
 ghost use mathlib.Core.List.{map};
 ghost use Prim.Native.Nat.{_≤_, _<_};

@@ -1,3 +1,3 @@
 // Sections: which segments meet at a node, and the label of each segment under a set of borders.
-pub mod meets;
 pub mod labels;
+pub mod meets;

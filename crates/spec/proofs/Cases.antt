@@ -131,6 +131,12 @@ dividedBook =
     headFrame ++ nodeFrame 2 ++ nodeFrame 1 ++ nodeFrame 0 ++ segmentFrame 0 1 ++ frame 3 (1 ∷ 2 ∷ 1 ∷ [])
     ++ trainFrame 80 36 (0 ∷ []) ++ callFrame 0 0 1 ++ endFrame
 
+-- Two segments of TTD 0 at node 1, whose kind is asked for, and TTD 0 unbreakable
+unbreakableBook : ℕ → Bytes
+unbreakableBook kind =
+    headFrame ++ nodeFrame 0 ++ nodeFrame kind ++ nodeFrame 0 ++ segmentFrame 0 1 ++ segmentFrame 1 2
+    ++ trainFrame 80 36 (0 ∷ []) ++ callFrame 0 0 1 ++ frame 7 (0 ∷ []) ++ endFrame
+
 -- ---- what is asked
 
 -- l and k of the train that was read
@@ -158,6 +164,10 @@ emptyStep hints = fileOf (one (record { literals = []; hints = hints }))
 
 refuted : Bytes → Bytes → Answer
 refuted s r = answered (checkRefutation s r programLent) λ _. yes-accepted
+
+-- with so many words lent
+refutedWith : ℕ → Bytes → Bytes → Answer
+refutedWith n s r = answered (checkRefutation s r (record { words = n; clauses = 99; values = 99; trail = 99 })) λ _. yes-accepted
 
 totalsOf : Bytes → ℕ → Answer
 totalsOf s n = answered (writeFormula s n) λ w. rows ((w .variableCount ∷ w .clauseCount ∷ w .wordCount ∷ []) ∷ [])
@@ -282,6 +292,19 @@ further =
       asked = decodes dividedBook (1 ∷ 0 ∷ 0 ∷ 1 ∷ 0 ∷ 0 ∷ 0 ∷ 0 ∷ 1 ∷ 1 ∷ []) 5;
       answer = text (1 ∷ 0 ∷ 0 ∷ 0 ∷ 0 ∷ []);
     }
+    -- T is at most 32; 9 for a TTD that a node of kind 1 or 2 may divide, and only there
+    ∷ record { asked = totalsOf (headWith 33 ++ nodeFrame 0 ++ endFrame) 0; answer = refusal 6 0 }
+    ∷ record { asked = totalsOf (unbreakableBook 0) 0; answer = refusal 12 0 }
+    ∷ record { asked = totalsOf (unbreakableBook 1) 0; answer = refusal 9 0 }
+    ∷ record { asked = totalsOf (unbreakableBook 2) 0; answer = refusal 9 0 }
+    -- a refutation in its bytes: one frame of kind 20 with 14 bytes, no literal, hints 16, 17, 19
+    ∷ record {
+      asked = refuted (bookM 1) (14 ∷ 0 ∷ 20 ∷ 0 ∷ 0 ∷ 0 ∷ 16 ∷ 0 ∷ 0 ∷ 0 ∷ 17 ∷ 0 ∷ 0 ∷ 0 ∷ 19 ∷ 0 ∷ 0 ∷ 0 ∷ []);
+      answer = yes-accepted;
+    }
+    -- 12 of a step has detail 0: the formula has 71 words, and the empty step needs one more
+    ∷ record { asked = refutedWith 71 (bookM 0) (emptyStep (19 ∷ [])); answer = refusal 12 0 }
+    ∷ record { asked = refutedWith 72 (bookM 0) (emptyStep (19 ∷ [])); answer = yes-accepted }
     -- "Comparing trains only at whole times lets two swap places"
     ∷ record { asked = encodes facingBook (0 ∷ 1 ∷ 0 ∷ 4 ∷ 0 ∷ 5 ∷ 0 ∷ []) 99; answer = refusal 16 6 }
     -- a node of kind 2 always has a border
@@ -317,7 +340,7 @@ table = starred ++ (further ++ asked)
 
 pub cases : map (λ c. c .asked) table ≡ map (λ c. c .answer) table
 unfolding
-    table starred further asked answered sizes labels runShown runNumber meant variableNumber bookL headWith headFrame trainFrom callOf passingBook bookN facingBook callingBook dividedBook totalsOf decodes encodes nodeFrame segmentFrame trainFrame callFrame endFrame pairBook joinFrame bookM tripleBook reach runList sections oneSection clauseNumber emptyStep refuted
+    table starred further asked answered sizes labels runShown runNumber meant variableNumber bookL headWith headFrame trainFrom callOf passingBook bookN facingBook callingBook unbreakableBook refutedWith dividedBook totalsOf decodes encodes nodeFrame segmentFrame trainFrame callFrame endFrame pairBook joinFrame bookM tripleBook reach runList sections oneSection clauseNumber emptyStep refuted
     count upTo range each only all any pick empty lastOr same has different sumTo leastFrom firstFault andThen
     littleEndian number field signed unsigned digits decimal decimalZ
     frame payloadLength kindField payloadOf behind cutShort kindNumber stepKind kindOrder findKind rankIn rank lengthFits stepLengthFits

@@ -26,24 +26,24 @@ not′ v = negsuc v
 
 -- "by train and interval: its runs, gone, and one claim a segment": the variables of an interval whose first one is x, of a
 -- train with n runs. A claim (document 01's term): the train keeps the segment to itself in the interval.
-abbrev pub runIn : ℕ → ℕ → ℕ
-runIn x r = x + r
+abbrev pub runVariable : ℕ → ℕ → ℕ
+runVariable x r = x + r
 
-abbrev pub goneIn : ℕ → ℕ → ℕ
-goneIn n x = x + n
+abbrev pub goneVariable : ℕ → ℕ → ℕ
+goneVariable n x = x + n
 
-abbrev pub claimIn : ℕ → ℕ → ℕ → ℕ
-claimIn n x s = x + (n + 1 + s)
+abbrev pub claimVariable : ℕ → ℕ → ℕ → ℕ
+claimVariable n x s = x + (n + 1 + s)
 
 -- B, of an interval: "no run, not gone"
 unfoldable pub clausesB : ℕ → ℕ → List Clause
-clausesB n x = map (λ r. one (not′ (runIn x r))) (upTo n) ++ one (one (not′ (goneIn n x)))
+clausesB n x = map (λ r. one (not′ (runVariable x r))) (upTo n) ++ one (one (not′ (goneVariable n x)))
 
 -- C, of an interval: "some run or gone; then no two (pairs in order)". Gone's variable is the one behind the runs'.
 unfoldable pub clausesC : ℕ → ℕ → List Clause
 clausesC n x =
-    one (map (λ r. is (runIn x r)) (upTo n) ++ one (is (goneIn n x)))
-    ++ each (upTo (n + 1)) λ m. map (λ k. not′ (runIn x m) ∷ one (not′ (runIn x k))) (range (m + 1) (n + 1))
+    one (map (λ r. is (runVariable x r)) (upTo n) ++ one (is (goneVariable n x)))
+    ++ each (upTo (n + 1)) λ m. map (λ k. not′ (runVariable x m) ∷ one (not′ (runVariable x k))) (range (m + 1) (n + 1))
 
 -- "not both", of n pairs of variables
 unfoldable pub clausesI : ℕ → (ℕ → ℕ) → (ℕ → ℕ) → List Clause
@@ -68,13 +68,13 @@ module _ (I : Instance) where
   borderVar n = n
 
   unfoldable pub runVar : ℕ → ℕ → ℕ → ℕ
-  runVar i t r = runIn (base i t) r
+  runVar i t r = runVariable (base i t) r
 
   unfoldable pub goneVar : ℕ → ℕ → ℕ
-  goneVar i t = goneIn (I .runs i) (base i t)
+  goneVar i t = goneVariable (I .runs i) (base i t)
 
   unfoldable pub claimVar : ℕ → ℕ → ℕ → ℕ
-  claimVar i t s = claimIn (I .runs i) (base i t) s
+  claimVar i t s = claimVariable (I .runs i) (base i t) s
 
   -- the variables of the nine families, and all variables
   unfoldable pub ownVariables : ℕ
@@ -88,28 +88,28 @@ module _ (I : Instance) where
   -- D: "not a run that starts elsewhere; not gone"
   unfoldable pub clausesD : ℕ → ℕ → List Clause
   clausesD i x =
-      (each (upTo (I .runs i)) λ r. only (not (I .given i r)) (one (one (not′ (runIn x r)))))
-      ++ one (one (not′ (goneIn (I .runs i) x)))
+      (each (upTo (I .runs i)) λ r. only (not (I .given i r)) (one (one (not′ (runVariable x r)))))
+      ++ one (one (not′ (goneVariable (I .runs i) x)))
 
   -- E, of one run: it "implies a run starting at its end, in list order, or, last, gone if its end contains the goal"; y is the
   -- first variable of the next interval
   unfoldable pub followersE : ℕ → ℕ → ℕ → List ℤ
-  followersE i y r = each (upTo (I .runs i)) λ q. only (I .follows i r q) (one (is (runIn y q)))
+  followersE i y r = each (upTo (I .runs i)) λ q. only (I .follows i r q) (one (is (runVariable y q)))
 
   unfoldable pub clauseE : ℕ → ℕ → ℕ → ℕ → Clause
-  clauseE i x y r = not′ (runIn x r) ∷ (followersE i y r ++ only (I .leaves i r) (one (is (goneIn (I .runs i) y))))
+  clauseE i x y r = not′ (runVariable x r) ∷ (followersE i y r ++ only (I .leaves i r) (one (is (goneVariable (I .runs i) y))))
 
   -- E: each run so; "then gone implies gone"
   unfoldable pub clausesE : ℕ → ℕ → ℕ → List Clause
-  clausesE i x y = map (clauseE i x y) (upTo (I .runs i)) ++ one (not′ (goneIn (I .runs i) x) ∷ one (is (goneIn (I .runs i) y)))
+  clausesE i x y = map (clauseE i x y) (upTo (I .runs i)) ++ one (not′ (goneVariable (I .runs i) x) ∷ one (is (goneVariable (I .runs i) y)))
 
   -- F: the runs of an interval that serve call c
   unfoldable pub serversF : ℕ → ℕ → ℕ → List ℤ
-  serversF i c x = each (upTo (I .runs i)) λ r. only (I .serves i c r) (one (is (runIn x r)))
+  serversF i c x = each (upTo (I .runs i)) λ r. only (I .serves i c r) (one (is (runVariable x r)))
 
   -- G: "a run implies the claim of each of its segments, in path order"
   unfoldable pub claimsG : ℕ → ℕ → ℕ → List Clause
-  claimsG i x r = map (λ s. not′ (runIn x r) ∷ one (is (claimIn (I .runs i) x s))) (I .path i r)
+  claimsG i x r = map (λ s. not′ (runVariable x r) ∷ one (is (claimVariable (I .runs i) x s))) (I .path i r)
 
   unfoldable pub clausesG : ℕ → ℕ → List Clause
   clausesG i x = each (upTo (I .runs i)) λ r. claimsG i x r
@@ -117,7 +117,7 @@ module _ (I : Instance) where
   -- H: "by node, then ordered pair of segments of one TTD there: claim of the first implies border or claim of the second"
   unfoldable pub clausesH : ℕ → ℕ → List Clause
   clausesH i x = each (upTo (I .nodes)) λ n. each (upTo (I .segments)) λ s. each (upTo (I .segments)) λ u.
-      only (I .meet n s u) (one (not′ (claimIn (I .runs i) x s) ∷ is (borderVar n) ∷ one (is (claimIn (I .runs i) x u))))
+      only (I .meet n s u) (one (not′ (claimVariable (I .runs i) x s) ∷ is (borderVar n) ∷ one (is (claimVariable (I .runs i) x u))))
 
   -- ---- the families
 

@@ -26,7 +26,7 @@ use Rattle.listing.proofs.keep.Reads as keep-reads
 use Rattle.listing.proofs.last_of.Reads as last-of-reads
 use Rattle.listing.proofs.pushed.Reads as pushed-reads
 use Rattle.listing.proofs.uses.Reads as uses-reads
-use Rattle.network.proofs.track.wide.Reads as wide-reads
+use Rattle.frames.proofs.bytes.wide.Reads as wide-reads
 use Rattle.listing.proofs.+extend.{statement}
 use Rattle.listing.proofs.+extend.Tie.{close}
 

@@ -6,7 +6,7 @@ use mathlib.Core.Path.{sym, ap, _∙_}
 use Rattle.spec.specs.Lists.{accepted}
 use Rattle.spec.specs.Library.{sizesOf, measureBook}
 use Rattle.run_tables.proofs.Instances.{passed, went-on, stopped}
-use Rattle.gentupag.specs.Answers.{sizesIn}
+use Rattle.gentupag.specs.Answers.{sizesAnswer}
 use Rattle.gentupag.proofs.sizes.measure_book.Statement.{statement}
 use Rattle.gentupag.proofs.sizes.measure_book.Tie as tie
 
@@ -20,14 +20,14 @@ unfolding measureBook
 returns c =
     let k = c .before .before in
     let r = k .before .before .before in
-    c .refused-sizes .ensures ∙ ap sizesIn (sym (stopped _ _ (r .read-book .ensures) (λ I. accepted (sizesOf I)) (k .answer .given .1)))
+    c .refused-sizes .ensures ∙ ap sizesAnswer (sym (stopped _ _ (r .read-book .ensures) (λ I. accepted (sizesOf I)) (k .answer .given .1)))
 
 returns-2 : tie.Need-returns-2
 unfolding measureBook
 returns-2 c =
     let e = c .before in
     let r = e .before .before .before in
-    c .measure-for .ensures ∙ ap sizesIn (went-on _ _ (r .read-book .ensures) (e .enum-told .given .1) (λ I. accepted (sizesOf I)))
+    c .measure-for .ensures ∙ ap sizesAnswer (went-on _ _ (r .read-book .ensures) (e .enum-told .given .1) (λ I. accepted (sizesOf I)))
 
 pub measure-book-spec : {M : Type 1} → statement M
 measure-book-spec =

@@ -29,8 +29,17 @@ returns c =
     let words = walk-words (s .args .b) p (w .walk-formula .ensures) in
     let bytes = c .plan-length .ensures in
     λ i. record {
-      number = 0; detail = 0; intervals = s .args .b .intervals; nodes = nodes i; «free_nodes» = free i; segments = segments i;
-      trains = trains i; variables = variables i; clauses = clauses i; words = words i; «plan_bytes» = bytes i;
+      number = 0;
+      detail = 0;
+      intervals = s .args .b .intervals;
+      nodes = nodes i;
+      «free_nodes» = free i;
+      segments = segments i;
+      trains = trains i;
+      variables = variables i;
+      clauses = clauses i;
+      words = words i;
+      «plan_bytes» = bytes i;
     }
 
 pub measure-by-spec : {M : Type 1} → statement M

@@ -10,7 +10,7 @@ use Rattle.spec.specs.Formula.{firstVar}
 use Rattle.spec.specs.Held.{held}
 use Rattle.spec.specs.Library.{meaningOf}
 use Rattle.run_tables.proofs.Small.{nodes-is, trains-is, first-none}
-use Rattle.gentupag.specs.Answers.{variableIn}
+use Rattle.gentupag.specs.Answers.{variableAnswer}
 use Rattle.gentupag.proofs.Standing.{answered, none-at, none-behind, border-at}
 use Rattle.gentupag.proofs.variables.variable_by.Statement.{statement}
 use Rattle.gentupag.proofs.variables.variable_by.Tie as tie
@@ -66,7 +66,7 @@ loop-again c =
 returns-3 : tie.Need-returns-3 Inv-loop μ-loop
 returns-3 c =
     let a = c .before .before .before .before in
-    c .in-train .ensures ∙ ap (λ (k : ℕ). variableIn (accepted (meaningOf (I (start a)) k))) (some a)
+    c .in-train .ensures ∙ ap (λ (k : ℕ). variableAnswer (accepted (meaningOf (I (start a)) k))) (some a)
 
 returns-4 : tie.Need-returns-4 Inv-loop μ-loop
 returns-4 c =

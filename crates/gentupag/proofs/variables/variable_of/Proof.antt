@@ -6,7 +6,7 @@ use mathlib.Core.Path.{sym, ap, _∙_}
 use Rattle.spec.specs.Lists.{Verdict, accepted}
 use Rattle.spec.specs.Instance.{Instance}
 use Rattle.spec.specs.Library.{Meaning, meaningOf, askVariable}
-use Rattle.gentupag.specs.Answers.{variableIn}
+use Rattle.gentupag.specs.Answers.{variableAnswer}
 use Rattle.run_tables.proofs.Instances.{passed, went-on, stopped}
 use Rattle.gentupag.proofs.variables.variable_of.Statement.{statement}
 use Rattle.gentupag.proofs.variables.variable_of.Tie as tie
@@ -24,13 +24,13 @@ returns : tie.Need-returns
 unfolding askVariable
 returns c =
     let r = c .before .before .before .before in
-    ap variableIn (sym (stopped _ _ (r .read-book .ensures) (onward r) (c .before .answer .given .1)))
+    ap variableAnswer (sym (stopped _ _ (r .read-book .ensures) (onward r) (c .before .answer .given .1)))
 
 returns-2 : tie.Need-returns-2
 unfolding askVariable
 returns-2 c =
     let r = c .before .before .before .before in
-    c .variable-for .ensures ∙ ap variableIn (went-on _ _ (r .read-book .ensures) (c .before .enum-told .given .1) (onward r))
+    c .variable-for .ensures ∙ ap variableAnswer (went-on _ _ (r .read-book .ensures) (c .before .enum-told .given .1) (onward r))
 
 pub variable-of-spec : {M : Type 1} → statement M
 variable-of-spec =

@@ -6,7 +6,7 @@ use Prim.Native.Nat.{ℕ, _+_, _-_, _≤_}
 use Rattle.spec.specs.Lists.{Bytes}
 use Rattle.spec.specs.Assignment.{assigned}
 use Rattle.run_tables.specs.Tables.{leastFrom}
-use Rattle.run_tables.proofs.Least.{least-here, least-next, least-end}
+use Rattle.laws.proofs.Least.{least-here, least-next, least-end}
 use Rattle.plan_coding.proofs.decoding.first_run.Statement.{statement}
 use Rattle.plan_coding.proofs.decoding.first_run.Tie as tie
 

@@ -4,7 +4,7 @@ use native.Mathlib.Omega.{arith}
 use mathlib.Core.Path.{_≡_, sym, _∙_}
 use Prim.Native.Nat.{_-_, _≤_}
 use Rattle.run_tables.specs.Tables.{leastFrom}
-use Rattle.run_tables.proofs.Least.{least-here, least-next, least-end}
+use Rattle.laws.proofs.Least.{least-here, least-next, least-end}
 use Rattle.run_tables.proofs.Chains.{followsAt, firstAt}
 use Rattle.run_tables.proofs.tables.first_follower.Statement.{statement}
 use Rattle.run_tables.proofs.tables.first_follower.Tie as tie

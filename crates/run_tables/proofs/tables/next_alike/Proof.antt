@@ -5,7 +5,7 @@ use mathlib.Core.Path.{_≡_, refl, sym, _∙_}
 use Prim.Native.Nat.{ℕ, _-_, _≤_}
 use denote.Ref.{now}
 use Rattle.run_tables.specs.Tables.{leastFrom}
-use Rattle.run_tables.proofs.Least.{least-here, least-next, least-end}
+use Rattle.laws.proofs.Least.{least-here, least-next, least-end}
 use Rattle.run_tables.proofs.Chains.{alikeAt, nextAt}
 use Rattle.run_tables.proofs.tables.next_alike.Statement.{statement}
 use Rattle.run_tables.proofs.tables.next_alike.Tie as tie

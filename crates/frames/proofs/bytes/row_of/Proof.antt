@@ -1,4 +1,4 @@
--- `scans::row_of` meets its contract. The loop's invariant: the array is the bytes from `from` up to i, with zeros behind them.
+-- `bytes::row_of` meets its contract. The loop's invariant: the array is the bytes from `from` up to i, with zeros behind them.
 -- Assumes nothing.
 use borrow.Author.Needs.{needs}
 use native.Mathlib.Omega.{arith}
@@ -11,8 +11,8 @@ use lib.Seq.{take-suc, take-all, getD-drop, length-take-le}
 use Rattle.spec.specs.Lists.{one}
 use Rattle.spec.specs.Held.{padded}
 use Rattle.laws.proofs.Arrays.{padded-next}
-use Rattle.network.proofs.scans.row_of.Statement.{statement}
-use Rattle.network.proofs.scans.row_of.Tie as tie
+use Rattle.frames.proofs.bytes.row_of.Statement.{statement}
+use Rattle.frames.proofs.bytes.row_of.Tie as tie
 
 abbrev Inv-loop : tie.InvT-loop
 Inv-loop p from row₀ i₀ row i = (from ≤ i) × (i ≤ length p) × (row ≡ padded 8 0 (take (i - from) (drop from p)))

@@ -1,4 +1,4 @@
--- `places::goal` meets its contract. The loop's invariant: the train's goal is the last of its calls from i on, or else `last`.
+-- `calls::goal` meets its contract. The loop's invariant: the train's goal is the last of its calls from i on, or else `last`.
 -- Assumes nothing.
 use borrow.Author.Needs.{needs}
 use borrow.Author.Tests.{eq-eqb, ne-eqb}
@@ -12,10 +12,10 @@ use lib.Dec.{eqb}
 use Rattle.spec.specs.Lists.{pick, lastOr}
 use Rattle.spec.specs.Book.{Call, callsOf, goalOf, noCall}
 use Rattle.spec.specs.Held.{held, zeroCall}
 use Rattle.network.proofs.Walks.{length-of-map}
-use Rattle.run_tables.proofs.Rests.{last-taken, last-left, last-end}
-use Rattle.run_tables.proofs.places.goal.Statement.{statement}
-use Rattle.run_tables.proofs.places.goal.Tie as tie
+use Rattle.network.proofs.Rests.{last-taken, last-left, last-end}
+use Rattle.network.proofs.calls.goal.Statement.{statement}
+use Rattle.network.proofs.calls.goal.Tie as tie
 
 abbrev Inv-loop : tie.InvT-loop
 Inv-loop train b n last₀ i₀ last i = goalOf (held b) train ≡ lastOr last (pick (λ c. eqb (c .train) train) (slice i n (b .calls)))

@@ -1,4 +1,4 @@
--- `scans::calls_of` meets its contract. The loop's invariant: the train's calls are `found` and those from i on, and `found` is at
+-- `calls::calls_of` meets its contract. The loop's invariant: the train's calls are `found` and those from i on, and `found` is at
 -- most i. Assumes nothing.
 use borrow.Author.Needs.{needs}
 use borrow.Author.Tests.{eq-eqb, ne-eqb}
@@ -14,8 +14,8 @@ use Rattle.spec.specs.Book.{callsOf}
 use Rattle.spec.specs.Held.{held, zeroCall}
 use Rattle.network.proofs.Walks.{length-of-map}
 use Rattle.network.proofs.Rests.{picked-one, picked-none, picked-end}
-use Rattle.network.proofs.scans.calls_of.Statement.{statement}
-use Rattle.network.proofs.scans.calls_of.Tie as tie
+use Rattle.network.proofs.calls.calls_of.Statement.{statement}
+use Rattle.network.proofs.calls.calls_of.Tie as tie
 
 abbrev Inv-loop : tie.InvT-loop
 Inv-loop train b n found₀ i₀ found i =

@@ -6,8 +6,8 @@ use mathlib.Core.Bool.{Bool, true, false}
 use Prim.Native.Nat.{ℕ, zero, suc, _+_, _-_, _≤_, _<_}
 use native.Mathlib.Omega.{arith}
 use lib.Dec.{T}
 use Rattle.laws.proofs.Tests.{from-true, from-false, le-or-lt}
-use Rattle.run_tables.specs.Tables.{leastFrom}
+use Rattle.spec.specs.Lists.{leastFrom}
 
 -- the rest of a search in case of this test, from a on
 abbrev searched : (ℕ → Bool) → ℕ → ℕ → Bool → ℕ

@@ -1,4 +1,4 @@
--- `scans::all_below` meets its contract. The loop's invariant: the answer for what stands from `from` on is the answer for what
+-- `bytes::all_below` meets its contract. The loop's invariant: the answer for what stands from `from` on is the answer for what
 -- stands from i on. Assumes nothing.
 use borrow.Author.Needs.{needs}
 use borrow.Author.Tests.{lt-ltb, le-ltb}
@@ -9,9 +9,9 @@ use Prim.Native.Nat.{ℕ, _+_, _-_}
 use lib.ListN.{length, drop}
 use lib.Dec.{ltb}
 use Rattle.spec.specs.Lists.{all}
-use Rattle.network.proofs.Rests.{all-drop-next, all-drop-end}
-use Rattle.network.proofs.scans.all_below.Statement.{statement}
-use Rattle.network.proofs.scans.all_below.Tie as tie
+use Rattle.frames.proofs.Drops.{all-drop-next, all-drop-end}
+use Rattle.frames.proofs.bytes.all_below.Statement.{statement}
+use Rattle.frames.proofs.bytes.all_below.Tie as tie
 
 abbrev Inv-loop : tie.InvT-loop
 Inv-loop p from limit i₀ i = all (λ d. ltb d limit) (drop from p) ≡ all (λ d. ltb d limit) (drop i p)

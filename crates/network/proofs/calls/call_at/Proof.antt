@@ -1,4 +1,4 @@
--- `tables::call_at` meets its contract. The loop's invariant: the call is the one with number `left` among the train's calls from
+-- `calls::call_at` meets its contract. The loop's invariant: the call is the one with number `left` among the train's calls from
 -- i on. Assumes nothing.
 use borrow.Author.Needs.{needs}
 use borrow.Author.Tests.{eq-eqb, ne-eqb}
@@ -15,9 +15,9 @@ use Rattle.spec.specs.Lists.{pick, only}
 use Rattle.spec.specs.Book.{Call, callsOf, noCall}
 use Rattle.spec.specs.Instance.{callAt}
 use Rattle.spec.specs.Held.{held, zeroCall}
 use Rattle.network.proofs.Walks.{length-of-map, slice-next, slice-end}
-use Rattle.run_tables.proofs.tables.call_at.Statement.{statement}
-use Rattle.run_tables.proofs.tables.call_at.Tie as tie
+use Rattle.network.proofs.calls.call_at.Statement.{statement}
+use Rattle.network.proofs.calls.call_at.Tie as tie
 
 -- the element with number k among those from i up to n that pass a test
 module _ {ℓ} {A : Type ℓ} (f : A → Bool) (xs : List A) (n i : ℕ) (z : A) where
