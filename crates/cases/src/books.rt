@@ -1,17 +1,21 @@
 // What a book says: its counts, and the runs of its trains.
 use frames::bytes::wide;
 use libc::STDOUT_FILENO;
-use model::Book;
+use listing::ENTRY_BYTES;
+use listing::TABLE_BYTES;
+use model::Counts;
+use model::MAX_RUNS;
+use model::MAX_TRAINS;
 use reader::reading::Answer;
 use reader::reading::read_book;
-use run_tables::tables::ALL_BYTES;
-use run_tables::tables::ALL_RUNS;
-use run_tables::tables::chain_trains;
-use run_tables::tables::fill_runs;
+use tables::chains::ALL_CHAINS;
+use tables::chains::chain_trains;
+use tables::preparing::prepare_runs;
 ghost use mathlib.Core.Path.{_≡_};
 ghost use Prim.Native.Nat.{_<_};
 ghost use lib.ListN.{length};
-ghost use Rattle.run_tables.specs.Tables.{Passed};
+ghost use Rattle.listing.specs.Listed.{tableBytes};
+ghost use Rattle.tables.specs.Tables.{allChains};
 
 // A number in decimal, and a byte behind it.
 fn print_number(n: usize, end: u8) {
@@ -52,17 +56,16 @@ fn print_path(path: &[u8], n: usize) {
     }
 }
 
-// The run whose entry in each table is number `at`: its directed segments, the first run that follows it,
-// and the next run that starts where it does.
-fn print_run(at: usize, rows: &[u8], sizes: &[u8], firsts: &[usize], nexts: &[usize])
-    requires { ⌜ (at < 2048) × (length (now rows) ≡ 32768) × (length (now sizes) ≡ 2048)
-        × (length (now firsts) ≡ 2048) × (length (now nexts) ≡ 2048) ⌝ }
+// The run whose entry in the tables of all trains is number `at`: its directed segments, the first run
+// that follows it, and the next run that starts where it does.
+fn print_run(at: usize, runs: &[u8], chains: &[usize])
+    requires { ⌜ (at < 2048) × (length (now runs) ≡ tableBytes) × (length (now chains) ≡ allChains) ⌝ }
 {
-    let row = at * 16;
-    print_path(&rows[row..row + 16], wide(sizes[at]));
+    let entry = at * ENTRY_BYTES;
+    print_path(&runs[entry + 1..entry + ENTRY_BYTES], wide(runs[entry]));
     io::write_all(STDOUT_FILENO, b"| ");
-    print_number(firsts[at], b' ');
-    print_number(nexts[at], b'\n');
+    print_number(chains[2 * at], b' ');
+    print_number(chains[2 * at + 1], b'\n');
 }
 
 fn print_head(train: usize, n: usize) {
@@ -74,57 +77,41 @@ fn print_head(train: usize, n: usize) {
 }
 
 // A train of n runs.
-fn print_train(train: usize, n: usize, rows: &[u8], sizes: &[u8], firsts: &[usize], nexts: &[usize])
-    requires { ⌜ (train < 8) × (length (now rows) ≡ 32768) × (length (now sizes) ≡ 2048)
-        × (length (now firsts) ≡ 2048) × (length (now nexts) ≡ 2048) ⌝ }
+fn print_train(train: usize, n: usize, runs: &[u8], chains: &[usize])
+    requires { ⌜ (train < 8) × (length (now runs) ≡ tableBytes) × (length (now chains) ≡ allChains) ⌝ }
 {
     print_head(train, n);
     let mut run = 0;
-    while run < 256 && run < n {
-        print_run(train * 256 + run, rows, sizes, firsts, nexts);
+    while run < MAX_RUNS && run < n {
+        print_run(train * MAX_RUNS + run, runs, chains);
         run += 1;
     }
 }
 
 // The first n trains.
-fn print_trains(
-    n: usize,
-    counts: [usize; 8],
-    rows: &[u8],
-    sizes: &[u8],
-    firsts: &[usize],
-    nexts: &[usize],
-)
-    requires { ⌜ (length (now rows) ≡ 32768) × (length (now sizes) ≡ 2048)
-        × (length (now firsts) ≡ 2048) × (length (now nexts) ≡ 2048) ⌝ }
+fn print_trains(n: usize, counts: Counts, runs: &[u8], chains: &[usize])
+    requires { ⌜ (length (now runs) ≡ tableBytes) × (length (now chains) ≡ allChains) ⌝ }
 {
     let mut i = 0;
-    while i < 8 && i < n {
-        print_train(i, counts[i], rows, sizes, firsts, nexts);
+    while i < MAX_TRAINS && i < n {
+        print_train(i, counts[i], runs, chains);
         i += 1;
     }
 }
 
-// The trains of a book that passed, by the tables that are filled for it.
-fn print_book(b: Book)
-    requires { ⌜ Passed b ⌝ }
-{
-    let mut rows = [0u8; ALL_BYTES];
-    let mut sizes = [0u8; ALL_RUNS];
-    let mut firsts = [0usize; ALL_RUNS];
-    let mut nexts = [0usize; ALL_RUNS];
-    let counts = fill_runs(b, &mut rows, &mut sizes);
-    chain_trains(b, counts, &rows, &sizes, &mut firsts, &mut nexts);
-    print_trains(b.train_count, counts, &rows, &sizes, &firsts, &nexts);
-}
-
 // The run list of each train of a book, or its refusal.
 pub fn print_runs(s: &[u8]) {
-    let r = read_book(s);
-    let answer = r.answer;
-    let book = r.book;
+    let mut runs = [0u8; TABLE_BYTES];
+    let mut chains = [0usize; ALL_CHAINS];
+    let read = prepare_runs(s, &mut runs);
+    let b = read.book;
+    let counts = read.counts;
+    let answer = read.answer;
     match answer {
-        Answer::Accepted => print_book(book),
+        Answer::Accepted => {
+            chain_trains(b, counts, &runs, &mut chains);
+            print_trains(b.train_count, counts, &runs, &chains);
+        }
         Answer::Refused(number, detail) => print_refusal(number, detail),
     }
 }

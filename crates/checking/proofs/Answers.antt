@@ -19,6 +19,8 @@ use Rattle.demands.proofs.Extra.{extra-length}
 use Rattle.reader.specs.declared.reading.Answer.{Answer}
 use Rattle.reader.specs.declared.reading.Answer.the-variants as judged
 use Rattle.reader.specs.BookAnswers.{answerOf}
+use Rattle.plan_rules.specs.Admitted.{admitPlan}
+use Rattle.plan_rules.proofs.Admitted.{after-refused, after-goes}
 use Rattle.checking.specs.declared.OutputAnswer.{OutputAnswer}
 use Rattle.checking.specs.declared.OutputAnswer.the-variants.{Wrote, Refused}
 use Rattle.checking.specs.OutputAnswers.{outputAnswer}
@@ -75,12 +77,8 @@ left-same old e h = (h .0 ∙ ap outputAnswer e, h .1 ∙ ap (λ (v : Verdict By
 -- ---- the two checks
 
 -- a plan that is accepted fits
-accepted-of : (v : Verdict (Unit {0})) → judged.Accepted ≡ answerOf v → v ≡ accepted tt
-accepted-of (accepted u) e = refl
-accepted-of (refused k c) e = not-both e
-
-pub plan-fits : (I : Instance) (s : Bytes) → judged.Accepted ≡ answerOf (judgePlan I s) → T (planFits I s)
-plan-fits I s e = plan-iff I s .0 (accepted-of (judgePlan I s) e) .0
+pub plan-fits : (I : Instance) (s : Bytes) → judgePlan I s ≡ accepted tt → T (planFits I s)
+plan-fits I s e = plan-iff I s .0 e .0
 
 -- how long their results are
 pub length-decode : (I : Instance) (s : Bytes) → length (decode I s) ≡ planLength I
@@ -108,19 +106,18 @@ module _ (I : Instance) (s old : Bytes) where
   unfolding decodedFor
   decoded-accepted h e f g = left-accepted (planLength I) (decode I s) old (judgeAssignment I s) h e f g
 
-  -- of a plan
+-- of a plan: the output is the assignment that it is written as
+module _ (I : Instance) (s old : Bytes) where
   abbrev pub Encoded : OutputAnswer → Bytes → Type 0
   Encoded answer new = Left (encodedFor I s (length old)) old answer new
 
-  pub encoded-short : length old < variables I → Encoded (Refused 12 0) old
+  pub encoded-refused : {n d : ℕ} → judged.Refused n d ≡ answerOf (admitPlan I s (variables I) (length old)) → Encoded (Refused n d) old
   unfolding encodedFor
-  encoded-short h = left-short (variables I) (encode I (planOf I s)) old (judgePlan I s) h
+  encoded-refused e = left-stopped old (after-refused I s (variables I) (length old) (λ p. accepted (encode I p)) e)
 
-  pub encoded-refused : {n d : ℕ} → variables I ≤ length old → judged.Refused n d ≡ answerOf (judgePlan I s) → Encoded (Refused n d) old
-  unfolding encodedFor
-  encoded-refused h e = left-refused (variables I) (encode I (planOf I s)) old (judgePlan I s) h e
-
-  pub encoded-accepted : {n : ℕ} {new : Bytes} → variables I ≤ length old → judged.Accepted ≡ answerOf (judgePlan I s)
+  pub encoded-accepted : {n : ℕ} {new : Bytes} → judged.Accepted ≡ answerOf (admitPlan I s (variables I) (length old))
       → n ≡ length (encode I (planOf I s)) → new ≡ overwrite old (encode I (planOf I s)) → Encoded (Wrote n) new
-  unfolding encodedFor
-  encoded-accepted h e f g = left-accepted (variables I) (encode I (planOf I s)) old (judgePlan I s) h e f g
+  unfolding encodedFor written
+  encoded-accepted e f g =
+      let goes = after-goes I s (variables I) (length old) e (λ p. accepted (encode I p)) in
+      left-same old (sym goes) (ap {B = OutputAnswer} Wrote f, g)

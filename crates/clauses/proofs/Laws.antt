@@ -15,20 +15,20 @@ use Rattle.spec.specs.Formula.{is, not′}
 use Rattle.spec.specs.Assignment.{assigned}
 use Rattle.demands.proofs.Meaning.{affirmed, denied′}
 use Rattle.clauses.specs.declared.Walk.{Walk}
-use Rattle.clauses.specs.Walked.{more, literal, closed, word, walked, stored, Walks}
+use Rattle.clauses.specs.Walked.{more, literal, closed, word, walked, stored, Walks, literalRoom}
 
 -- ---- one word
 
 -- a literal as the machine reads it back from its bits
-pub is-read : (v : ℕ) → v < 1000000000 → toZ w32 (ofZ w32 (is v)) ≡ is v
+pub is-read : (v : ℕ) → v < literalRoom → toZ w32 (ofZ w32 (is v)) ≡ is v
 is-read v h = toZ-pos w32 (omega arith)
 
-pub not-read : (v : ℕ) → v < 1000000000 → toZ w32 (ofZ w32 (not′ v)) ≡ not′ v
+pub not-read : (v : ℕ) → v < literalRoom → toZ w32 (ofZ w32 (not′ v)) ≡ not′ v
 not-read v h = toZ-neg w32 v (omega arith)
 
 module _ (values : Bytes) (w : Walk) (out : List ℤ) where
   -- a literal that affirms, from what its parts became; what is stored is read back from the bits of l
-  pub affirms : (v words : ℕ) (holds : Bool) (l : ℤ) (out′ : List ℤ) → v < 1000000000 → words ≡ more (w .words) 1
+  pub affirms : (v words : ℕ) (holds : Bool) (l : ℤ) (out′ : List ℤ) → v < literalRoom → words ≡ more (w .words) 1
       → holds ≡ (w .holds || assigned values v) → l ≡ is v → out′ ≡ set out (w .words) (toZ w32 (ofZ w32 l))
       → Walks values (one (is v)) w out (record { words = words; clauses = w .clauses; holds = holds; wrong = w .wrong }) out′
   unfolding walked stored word literal
@@ -38,7 +38,7 @@ module _ (values : Bytes) (w : Walk) (out : List ℤ) where
   }
 
   -- one that denies
-  pub denies : (v words : ℕ) (holds : Bool) (l : ℤ) (out′ : List ℤ) → v < 1000000000 → words ≡ more (w .words) 1
+  pub denies : (v words : ℕ) (holds : Bool) (l : ℤ) (out′ : List ℤ) → v < literalRoom → words ≡ more (w .words) 1
       → holds ≡ (w .holds || not (assigned values v)) → l ≡ not′ v → out′ ≡ set out (w .words) (toZ w32 (ofZ w32 l))
       → Walks values (one (not′ v)) w out (record { words = words; clauses = w .clauses; holds = holds; wrong = w .wrong }) out′
   unfolding walked stored word literal

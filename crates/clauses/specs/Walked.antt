@@ -12,6 +12,14 @@ use Rattle.spec.specs.Formula.{Clause, wordsOf}
 use Rattle.spec.specs.Assignment.{isTrue, assigned, firstFalse}
 use Rattle.clauses.specs.declared.Walk.{Walk}
 
+-- variables are numbered below this, so that each literal is an i32
+abbrev pub literalRoom : ℕ
+literalRoom = 1000000000
+
+-- at most so many variables are paired with each other; a train's are 257
+abbrev pub pairedMost : ℕ
+pairedMost = 1000000
+
 -- the counters stop at 2^60; no formula is as long
 abbrev pub most : ℕ
 most = 1152921504606846976

@@ -14,7 +14,7 @@ ghost use Rattle.spec.specs.Lists.{upTo, range, each, only, one};
 ghost use Rattle.spec.specs.Formula.{is, not′, wordsOf};
 ghost use Rattle.spec.specs.Assignment.{assigned};
 ghost use Rattle.clauses.specs.Walked as walked;
-ghost use Rattle.clauses.specs.Walked.{Walks, most};
+ghost use Rattle.clauses.specs.Walked.{Walks, literalRoom, pairedMost, most};
 
 // Where the counters stop; no formula is as long.
 pub const MOST: usize = 1152921504606846976;
@@ -66,7 +66,7 @@ fn store(out: &mut [i32], at: usize, word: i32)
 
 // The literal of a variable, counted from 0, that affirms it.
 fn positive(v: usize) -> i32
-    requires { ⌜ v < 1000000000 ⌝ }
+    requires { ⌜ v < literalRoom ⌝ }
     ensures { λ r. ⌜ r ≡ is v ⌝ }
 {
     (v + 1) as i32
@@ -74,7 +74,7 @@ fn positive(v: usize) -> i32
 
 // The literal that denies it.
 fn negative(v: usize) -> i32
-    requires { ⌜ v < 1000000000 ⌝ }
+    requires { ⌜ v < literalRoom ⌝ }
     ensures { λ r. ⌜ r ≡ not′ v ⌝ }
 {
     -((v + 1) as i32)
@@ -82,7 +82,7 @@ fn negative(v: usize) -> i32
 
 // Passes the literal that affirms a variable.
 pub fn affirm(w: Walk, v: usize, values: &[u8], out: &mut [i32]) -> Walk
-    requires { ⌜ v < 1000000000 ⌝ }
+    requires { ⌜ v < literalRoom ⌝ }
     ensures { λ r. ⌜ Walks (now (values .entry)) (one (is v)) w (now (out .entry)) r (now (out .exit)) ⌝ }
 {
     store(out, w.words, positive(v));
@@ -94,7 +94,7 @@ pub fn affirm(w: Walk, v: usize, values: &[u8], out: &mut [i32]) -> Walk
 
 // Passes the literal that denies a variable.
 pub fn deny(w: Walk, v: usize, values: &[u8], out: &mut [i32]) -> Walk
-    requires { ⌜ v < 1000000000 ⌝ }
+    requires { ⌜ v < literalRoom ⌝ }
     ensures { λ r. ⌜ Walks (now (values .entry)) (one (not′ v)) w (now (out .entry)) r (now (out .exit)) ⌝ }
 {
     store(out, w.words, negative(v));
@@ -133,7 +133,7 @@ pub fn close(w: Walk, values: &[u8], out: &mut [i32]) -> Walk
 
 // The clause that denies a variable.
 pub fn unit_not(w: Walk, v: usize, values: &[u8], out: &mut [i32]) -> Walk
-    requires { ⌜ v < 1000000000 ⌝ }
+    requires { ⌜ v < literalRoom ⌝ }
     ensures { λ r. ⌜ Walks (now (values .entry)) (wordsOf (one (one (not′ v)))) w (now (out .entry)) r (now (out .exit)) ⌝ }
 {
     let a = deny(w, v, values, out);
@@ -142,7 +142,7 @@ pub fn unit_not(w: Walk, v: usize, values: &[u8], out: &mut [i32]) -> Walk
 
 // The clause that affirms a variable.
 fn unit_is(w: Walk, v: usize, values: &[u8], out: &mut [i32]) -> Walk
-    requires { ⌜ v < 1000000000 ⌝ }
+    requires { ⌜ v < literalRoom ⌝ }
     ensures { λ r. ⌜ Walks (now (values .entry)) (wordsOf (one (one (is v)))) w (now (out .entry)) r (now (out .exit)) ⌝ }
 {
     let a = affirm(w, v, values, out);
@@ -151,7 +151,7 @@ fn unit_is(w: Walk, v: usize, values: &[u8], out: &mut [i32]) -> Walk
 
 // The clause of two variables: the first implies the second.
 pub fn implies(w: Walk, u: usize, v: usize, values: &[u8], out: &mut [i32]) -> Walk
-    requires { ⌜ (u < 1000000000) × (v < 1000000000) ⌝ }
+    requires { ⌜ (u < literalRoom) × (v < literalRoom) ⌝ }
     ensures { λ r. ⌜ Walks (now (values .entry)) (wordsOf (one (not′ u ∷ one (is v)))) w (now (out .entry)) r (now (out .exit)) ⌝ }
 {
     let a = deny(w, u, values, out);
@@ -161,7 +161,7 @@ pub fn implies(w: Walk, u: usize, v: usize, values: &[u8], out: &mut [i32]) -> W
 
 // The clause of two variables: not both.
 pub fn not_both(w: Walk, u: usize, v: usize, values: &[u8], out: &mut [i32]) -> Walk
-    requires { ⌜ (u < 1000000000) × (v < 1000000000) ⌝ }
+    requires { ⌜ (u < literalRoom) × (v < literalRoom) ⌝ }
     ensures { λ r. ⌜ Walks (now (values .entry)) (wordsOf (one (not′ u ∷ one (not′ v)))) w (now (out .entry)) r (now (out .exit)) ⌝ }
 {
     let a = deny(w, u, values, out);
@@ -171,7 +171,7 @@ pub fn not_both(w: Walk, u: usize, v: usize, values: &[u8], out: &mut [i32]) -> 
 
 // The clause of three variables: the first implies the second or the third.
 pub fn implies_either(w: Walk, u: usize, v: usize, x: usize, values: &[u8], out: &mut [i32]) -> Walk
-    requires { ⌜ (u < 1000000000) × (v < 1000000000) × (x < 1000000000) ⌝ }
+    requires { ⌜ (u < literalRoom) × (v < literalRoom) × (x < literalRoom) ⌝ }
     ensures { λ r. ⌜ Walks (now (values .entry)) (wordsOf (one (not′ u ∷ is v ∷ one (is x)))) w (now (out .entry)) r (now (out .exit)) ⌝ }
 {
     let a = deny(w, u, values, out);
@@ -182,7 +182,7 @@ pub fn implies_either(w: Walk, u: usize, v: usize, x: usize, values: &[u8], out:
 
 // Passes the literal that affirms a variable, where the test holds.
 pub fn affirm_if(w: Walk, test: bool, v: usize, values: &[u8], out: &mut [i32]) -> Walk
-    requires { ⌜ v < 1000000000 ⌝ }
+    requires { ⌜ v < literalRoom ⌝ }
     ensures { λ r. ⌜ Walks (now (values .entry)) (only test (one (is v))) w (now (out .entry)) r (now (out .exit)) ⌝ }
 {
     if test {
@@ -193,7 +193,7 @@ pub fn affirm_if(w: Walk, test: bool, v: usize, values: &[u8], out: &mut [i32]) 
 
 // The clause that denies a variable, where the test holds.
 pub fn unit_not_if(w: Walk, test: bool, v: usize, values: &[u8], out: &mut [i32]) -> Walk
-    requires { ⌜ v < 1000000000 ⌝ }
+    requires { ⌜ v < literalRoom ⌝ }
     ensures { λ r. ⌜ Walks (now (values .entry)) (wordsOf (only test (one (one (not′ v))))) w (now (out .entry)) r (now (out .exit)) ⌝ }
 {
     if test {
@@ -204,7 +204,7 @@ pub fn unit_not_if(w: Walk, test: bool, v: usize, values: &[u8], out: &mut [i32]
 
 // The clause that affirms a variable, where the test holds.
 pub fn unit_is_if(w: Walk, test: bool, v: usize, values: &[u8], out: &mut [i32]) -> Walk
-    requires { ⌜ v < 1000000000 ⌝ }
+    requires { ⌜ v < literalRoom ⌝ }
     ensures { λ r. ⌜ Walks (now (values .entry)) (wordsOf (only test (one (one (is v))))) w (now (out .entry)) r (now (out .exit)) ⌝ }
 {
     if test {
@@ -215,7 +215,7 @@ pub fn unit_is_if(w: Walk, test: bool, v: usize, values: &[u8], out: &mut [i32])
 
 // The clauses that deny n variables in a row.
 pub fn deny_all(w: Walk, from: usize, n: usize, values: &[u8], out: &mut [i32]) -> Walk
-    requires { ⌜ from + n < 1000000000 ⌝ }
+    requires { ⌜ from + n < literalRoom ⌝ }
     ensures { λ r. ⌜ Walks (now (values .entry)) (wordsOf (map (λ k. one (not′ (from + k))) (upTo n))) w (now (out .entry)) r (now (out .exit)) ⌝ }
 {
     let mut next = w;
@@ -229,7 +229,7 @@ pub fn deny_all(w: Walk, from: usize, n: usize, values: &[u8], out: &mut [i32]) 
 
 // The clause that affirms one of n variables in a row.
 pub fn some_of(w: Walk, from: usize, n: usize, values: &[u8], out: &mut [i32]) -> Walk
-    requires { ⌜ from + n < 1000000000 ⌝ }
+    requires { ⌜ from + n < literalRoom ⌝ }
     ensures { λ r. ⌜ Walks (now (values .entry)) (wordsOf (one (map (λ k. is (from + k)) (upTo n)))) w (now (out .entry)) r (now (out .exit)) ⌝ }
 {
     let mut next = w;
@@ -243,7 +243,7 @@ pub fn some_of(w: Walk, from: usize, n: usize, values: &[u8], out: &mut [i32]) -
 
 // Clauses of two literals that hold, k of them, at once: nothing is stored.
 fn skip_pairs(w: Walk, k: usize) -> Walk
-    requires { ⌜ k ≤ 1000000 ⌝ }
+    requires { ⌜ k ≤ pairedMost ⌝ }
     ensures { λ r. ⌜ r ≡ walked.skipped k w ⌝ }
 {
     if k == 0 {
@@ -259,7 +259,7 @@ fn skip_pairs(w: Walk, k: usize) -> Walk
 
 // The clauses "not both" of the variable at m in a row and each behind it up to n.
 fn each_pair(w: Walk, from: usize, m: usize, n: usize, values: &[u8], out: &mut [i32]) -> Walk
-    requires { ⌜ (from + n < 1000000000) × (m < n) ⌝ }
+    requires { ⌜ (from + n < literalRoom) × (m < n) ⌝ }
     ensures { λ r. ⌜ Walks (now (values .entry)) (wordsOf (map (λ k. not′ (from + m) ∷ one (not′ (from + k))) (range (m + 1) n))) w (now (out .entry)) r (now (out .exit)) ⌝ }
 {
     let mut next = w;
@@ -273,7 +273,7 @@ fn each_pair(w: Walk, from: usize, m: usize, n: usize, values: &[u8], out: &mut 
 
 // Stores the words of the same clauses from `at` on, in an output that has room for them.
 fn store_pairs(out: &mut [i32], at: usize, from: usize, m: usize, n: usize)
-    requires { ⌜ (from + n < 1000000000) × (m < n) × (at + 3 * (n - m - 1) ≤ length (now out)) × (at + 3 * (n - m - 1) ≤ most) ⌝ }
+    requires { ⌜ (from + n < literalRoom) × (m < n) × (at + 3 * (n - m - 1) ≤ length (now out)) × (at + 3 * (n - m - 1) ≤ most) ⌝ }
     ensures { λ _. ⌜ now (out .exit) ≡ walked.stored at (wordsOf (map (λ k. not′ (from + m) ∷ one (not′ (from + k))) (range (m + 1) n))) (now (out .entry)) ⌝ }
 {
     let first = negative(from + m);
@@ -292,7 +292,7 @@ fn store_pairs(out: &mut [i32], at: usize, from: usize, m: usize, n: usize)
 // The same clauses; where the variable at m is not 1 they all hold, and are counted at once, and
 // stored, if at all, without a test of each.
 fn pairs_of(w: Walk, from: usize, m: usize, n: usize, values: &[u8], out: &mut [i32]) -> Walk
-    requires { ⌜ (from + n < 1000000000) × (m < n) × (n ≤ 1000000) ⌝ }
+    requires { ⌜ (from + n < literalRoom) × (m < n) × (n ≤ pairedMost) ⌝ }
     ensures { λ r. ⌜ Walks (now (values .entry)) (wordsOf (map (λ k. not′ (from + m) ∷ one (not′ (from + k))) (range (m + 1) n))) w (now (out .entry)) r (now (out .exit)) ⌝ }
 {
     if value(values, from + m) {
@@ -312,7 +312,7 @@ fn pairs_of(w: Walk, from: usize, m: usize, n: usize, values: &[u8], out: &mut [
 
 // The clauses "not both" of each two of n variables in a row.
 pub fn no_two(w: Walk, from: usize, n: usize, values: &[u8], out: &mut [i32]) -> Walk
-    requires { ⌜ (from + n < 1000000000) × (n ≤ 1000000) ⌝ }
+    requires { ⌜ (from + n < literalRoom) × (n ≤ pairedMost) ⌝ }
     ensures { λ r. ⌜ Walks (now (values .entry)) (wordsOf (each (upTo n) λ m. map (λ k. not′ (from + m) ∷ one (not′ (from + k))) (range (m + 1) n))) w (now (out .entry)) r (now (out .exit)) ⌝ }
 {
     let mut next = w;

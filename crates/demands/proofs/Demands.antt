@@ -20,7 +20,7 @@ use Rattle.spec.specs.Plan.{Plan, IsPlan, ofRun, planFits, planOf, planLength, 
 use Rattle.spec.specs.Formula.{formula, variables, claimVar, wordsOf}
 use Rattle.spec.specs.Assignment.{satisfies, assigned, assignmentFits, decode, claims, encode}
 use Rattle.spec.specs.Refutation.{ProofStep, Lent, fileOf, InFields, GoodSteps, clausesFit}
-use Rattle.spec.specs.Entry.{overwrite, written, formulaWritten, writeFormula, formulaOutput, decodedFor, encodedFor, planOutput, assignmentOutput, checkAssignment, checkPlan, checkRefutation, refutedFor, formulaFits, wordsAfter}
+use Rattle.spec.specs.Entry.{overwrite, written, formulaWritten, writeFormula, formulaOutput, decodedFor, encodedFor, afterPlan, planOutput, assignmentOutput, checkAssignment, checkPlan, checkRefutation, refutedFor, formulaFits, wordsAfter}
 pub use Rattle.demands.specs.Claims.{IsRefutation, LongEnough, Holds}
 use Rattle.demands.proofs.Encoding.{shape, assigned-claim}
 use Rattle.demands.proofs.Extra.{no-condition}
@@ -250,7 +250,7 @@ plan-output book s old = (
 -- the assignment that a plan is written as
 pub assignment-output : (book plan old : Bytes)
     → Holds (checkPlan book plan (length old)) (λ assignment. assignment) old (assignmentOutput book plan old)
-unfolding assignmentOutput overwrite written assignmentFits checkPlan encodedFor
+unfolding assignmentOutput overwrite written assignmentFits checkPlan encodedFor afterPlan
 assignment-output book s old = (
   (λ assignment e.
       let r = read-of book _ assignment e in

@@ -17,7 +17,7 @@ use Rattle.spec.specs.Plan.{Plan, planFits, planOf, planLength, rule1, rule2, r
 use Rattle.spec.specs.Formula.{Clause, formula, variables, wordsOf}
 use Rattle.spec.specs.Assignment.{satisfies, holds, firstFalse, assigned, assignmentFits, decode, encode}
 use Rattle.spec.specs.Refutation.{Lent, checkFile}
-use Rattle.spec.specs.Entry.{demand, findNone, readInstance, Written, formulaWritten, writeFormula, judgeAssignment, judgePlan, decodedFor, checkAssignment, encodedFor, checkPlan, checkRefutation, refutedFor, formulaFits, writtenFor}
+use Rattle.spec.specs.Entry.{demand, findNone, readInstance, Written, formulaWritten, writeFormula, judgeAssignment, judgePlan, decodedFor, checkAssignment, encodedFor, afterPlan, checkPlan, checkRefutation, refutedFor, formulaFits, writtenFor}
 use Rattle.demands.proofs.Faults.{passes, first-none, clear-first}
 
 -- ---- the parts of a check
@@ -138,7 +138,7 @@ module _ (book : Bytes) (b : Book) (read : readBook book ≡ accepted b) where
 
   pub check-plan : (s : Bytes) (n : ℕ) (assignment : Bytes) → (checkPlan book s n ≡ accepted assignment)
       ↔ ((variables (instanceOf b) ≤ n) × (judgePlan (instanceOf b) s ≡ accepted tt) × (encode (instanceOf b) (planOf (instanceOf b) s) ≡ assignment))
-  unfolding checkPlan encodedFor
+  unfolding checkPlan encodedFor afterPlan
   check-plan s n assignment =
       let e : checkPlan book s n ≡ _ = then-goes _ read-instance in
       let k = row-iff (leb (variables (instanceOf b)) n) (judgePlan (instanceOf b) s) (encode (instanceOf b) (planOf (instanceOf b) s)) assignment in (

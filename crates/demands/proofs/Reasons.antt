@@ -21,7 +21,7 @@ use Rattle.spec.specs.Plan.{planFits, planOf, planLength, ruleFaults, brokenRul
 use Rattle.spec.specs.Formula.{Clause, formula, variables, wordsOf}
 use Rattle.spec.specs.Assignment.{holds, firstFalse, assigned, assignmentFits}
 use Rattle.spec.specs.Refutation.{Lent, clauseAt, stepFaults, stepDetail, checkSteps, checkFile, isBad}
-use Rattle.spec.specs.Entry.{demand, findNone, readInstance, writeFormula, formulaText, judgeAssignment, judgePlan, decodedFor, checkAssignment, encodedFor, checkPlan, checkRefutation, refutedFor, formulaFits, writtenFor}
+use Rattle.spec.specs.Entry.{demand, findNone, readInstance, writeFormula, formulaText, judgeAssignment, judgePlan, decodedFor, checkAssignment, encodedFor, afterPlan, checkPlan, checkRefutation, refutedFor, formulaFits, writtenFor}
 pub use Rattle.demands.specs.Reasons.{Refusal, ofBook, ofRoom, ofInput, LeastFalse, AssignmentFault, assignmentUnfit, clauseFalse, PlanFault, planUnfit, ruleBroken, StepsTo, firstStep, nextStep, RefutationFault, stepFault, noEnding, bytesAfter, Within}
 use Rattle.demands.proofs.Faults.{passes, FirstHolds, first-none, first-some}
 use Rattle.demands.proofs.Reading.{refusal-has-reason}
@@ -175,7 +175,7 @@ plan-fault {d = d} I s e =
 -- Refused only by the book, by 12 where the assignment is longer than the slice, or for what is wrong with the plan.
 pub plan-refusal : (book plan : Bytes) (n k d : ℕ) → checkPlan book plan n ≡ refused k d
     → Refusal book (λ I. n < variables I) (λ I. PlanFault I plan) k d
-unfolding checkPlan encodedFor
+unfolding checkPlan encodedFor afterPlan
 plan-refusal book s n k d e =
     in-order book _ _ (λ I. leb (variables I) n) _ (λ I. short-iff (variables I) n)
     (λ I r. plan-fault I s (judged-refused (judgePlan I s) _ r)) e

@@ -20,7 +20,7 @@ use Rattle.spec.specs.Plan.{planFits, planOf, planLength, ruleFaults, brokenRul
 use Rattle.spec.specs.Formula.{Clause, formula, variables, wordsOf}
 use Rattle.spec.specs.Assignment.{holds, satisfies, firstFalse, assigned, assignmentFits}
 use Rattle.spec.specs.Refutation.{Lent, clauseAt, stepFaults, stepDetail, checkSteps, checkFile}
-use Rattle.spec.specs.Entry.{demand, findNone, readInstance, writeFormula, judgeAssignment, judgePlan, decodedFor, checkAssignment, encodedFor, checkPlan, checkRefutation, refutedFor, formulaFits, writtenFor}
+use Rattle.spec.specs.Entry.{demand, findNone, readInstance, writeFormula, judgeAssignment, judgePlan, decodedFor, checkAssignment, encodedFor, afterPlan, checkPlan, checkRefutation, refutedFor, formulaFits, writtenFor}
 use Rattle.demands.proofs.Faults.{passes, clear-first, holds-first}
 use Rattle.demands.proofs.Refuting.{stepAt, added}
 use Rattle.demands.proofs.Entries.{demand-iff, then-goes, no-false, read-instance}
@@ -116,7 +116,7 @@ plan-judged I s k d (ruleBroken h f) =
 -- Refused exactly by the book, by 12 where the assignment is longer than the slice, or for what is wrong with the plan.
 pub plan-refused : (book plan : Bytes) (n k d : ℕ)
     → (checkPlan book plan n ≡ refused k d) ↔ Refusal book (λ I. n < variables I) (λ I. PlanFault I plan) k d
-unfolding checkPlan encodedFor
+unfolding checkPlan encodedFor afterPlan
 plan-refused book s n k d = (
   reasons.plan-refusal book s n k d,
   (λ r. in-order book _ _ _ _ (λ I. short-iff (variables I) n) (λ I k d f. stops _ (plan-judged I s k d f)) r),

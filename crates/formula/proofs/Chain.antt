@@ -1,7 +1,7 @@
 -- A chain of the numbers that pass a test: what a loop over all numbers passes, a loop along the chain passes. Assumes nothing.
 use mathlib.Core.Path.{_≡_, refl, sym, ap, _∙_}
 use mathlib.Core.Bool.{Bool, true, false}
-use Prim.Native.Nat.{ℕ, zero, suc, _+_, _-_, _≤_, _<_}
+use Prim.Native.Nat.{ℕ, zero, suc, _+_, _*_, _-_, _≤_, _<_}
 use native.Mathlib.Omega.{arith}
 use mathlib.Core.List.{List, _++_}
 use lib.ListN.{getD}
@@ -11,8 +11,8 @@ use Rattle.spec.specs.Book.{Book}
 use Rattle.spec.specs.Instance.{instanceOf}
 use Rattle.clauses.proofs.Laws.{only-false}
 use Rattle.clauses.proofs.Turns.{upTo-range, range-next}
-use Rattle.run_tables.specs.Tables.{leastFrom}
-use Rattle.run_tables.specs.Ready.{ChainsHeld}
+use Rattle.tables.specs.Tables.{leastFrom}
+use Rattle.tables.specs.Ready.{ChainsHeld}
 use Rattle.laws.proofs.Least.{least-from, least-holds}
 use Rattle.formula.specs.Chained.{Chained}
 
@@ -40,7 +40,11 @@ module _ {ℓ} {A : Type ℓ} (f : ℕ → Bool) (g : ℕ → List A) where
 
 -- ---- along the chain
 
-module _ {f : ℕ → Bool} {n first : ℕ} {nexts : List ℕ} (c : Chained f n first nexts) where
+-- the next behind a number
+abbrev nextOf : List ℕ → ℕ → ℕ
+nextOf chains q = getD chains (2 * q + 1) 0
+
+module _ {f : ℕ → Bool} {n first : ℕ} {chains : List ℕ} (c : Chained f n first chains) where
   pub first-below : first ≤ n
   first-below = omega (arith, c .least, least-from f 0 n)
 
@@ -56,21 +60,21 @@ module _ {f : ℕ → Bool} {n first : ℕ} {nexts : List ℕ} (c : Chained f n 
 
   -- behind a number that passes
   module _ (q : ℕ) (h : q < n) (t : T (f q)) where
-    pub next-below : (q < getD nexts q 0) × (getD nexts q 0 ≤ n)
+    pub next-below : (q < nextOf chains q) × (nextOf chains q ≤ n)
     next-below = let b = least-from f (q + 1) (n - (q + 1)) in let e = c .next q h t in (omega arith, omega arith)
 
-    pub next-passes : getD nexts q 0 < n → T (f (getD nexts q 0))
+    pub next-passes : nextOf chains q < n → T (f (nextOf chains q))
     next-passes m =
         let e = c .next q h t in
         rw e (least-holds f (q + 1) (n - (q + 1)) (omega arith))
 
     -- the rows behind it are those from the next on
-    pub next-rows {ℓ} : {A : Type ℓ} (g : ℕ → List A) → rows f g (q + 1) n ≡ rows f g (getD nexts q 0) n
+    pub next-rows {ℓ} : {A : Type ℓ} (g : ℕ → List A) → rows f g (q + 1) n ≡ rows f g (nextOf chains q) n
     next-rows g = skip f g (n - (q + 1)) (q + 1) n (omega arith) ∙ ap (λ (a : ℕ). rows f g a n) (sym (c .next q h t))
 
 -- ---- a train's runs
 
 -- the runs that follow a run are chained
-pub follows-chained : {b : Book} {i : ℕ} {firsts nexts : List ℕ} → ChainsHeld b i firsts nexts → {n : ℕ} → n ≡ instanceOf b .runs i
-    → (r : ℕ) → r < instanceOf b .runs i → Chained (instanceOf b .follows i r) n (getD firsts r 0) nexts
+pub follows-chained : {b : Book} {i : ℕ} {chains : List ℕ} → ChainsHeld b i chains → {n : ℕ} → n ≡ instanceOf b .runs i
+    → (r : ℕ) → r < instanceOf b .runs i → Chained (instanceOf b .follows i r) n (getD chains (2 * r) 0) chains
 follows-chained h e r m = rw e (record { least = h .first r m; next = λ q k t. h .next r q m k t })

@@ -1,17 +1,17 @@
 -- The clauses of family H, read off the bytes that say which segments meet at which node, three bytes a clause. Assumes nothing.
 use mathlib.Core.Path.{_≡_, ap, ap₂, _∙_}
 use Prim.Native.Nat.{ℕ, _+_, _≤_, _<_}
-use native.Mathlib.Nat.{add-assoc}
+use native.Mathlib.Nat.{add-assoc, le-refl}
 use mathlib.Core.List.{List, [], _∷_, _++_}
-use lib.ListN.{length, getD, take}
-use lib.Seq.{slice}
+use lib.ListN.{length, getD}
+use lib.Seq.{slice, take-length}
 use lib.IntN.{ℤ}
 use Rattle.spec.specs.Lists.{Bytes, each, one}
 use Rattle.spec.specs.Instance.{Instance}
 use Rattle.spec.specs.Formula.{Clause, is, not′, borderVar, wordsOf, clausesH}
 use Rattle.demands.proofs.Words.{words-append}
-use Rattle.sections.specs.Meets.{meetBytes}
-use Rattle.sections.proofs.Triples.{bytes-next, bytes-end, triples, triples-next, triples-end, triples-meet}
+use Rattle.tables.specs.Meets.{meetBytes}
+use Rattle.tables.proofs.Triples.{bytes-next, bytes-end, triples, triples-next, triples-end, triples-meet}
 
 -- the clause of two segments that meet at a node; the claims lie from x on
 abbrev pub meeting : ℕ → ℕ → ℕ → ℕ → Clause
@@ -27,26 +27,28 @@ module _ (x : ℕ) where
 
   -- ---- clause by clause
 
-  abbrev pub behind : Bytes → ℕ → ℕ → List ℤ
-  behind meets end at = wordsOf (clausesOf (slice at end meets))
+  -- what stands from a byte on
+  abbrev pub behind : Bytes → ℕ → List ℤ
+  behind meets at = wordsOf (clausesOf (slice at (length meets) meets))
 
-  pub behind-next : (meets : Bytes) (end at : ℕ) → at + 2 < end → end ≤ length meets
-      → behind meets end at
-      ≡ wordsOf (one (meeting x (getD meets at 0) (getD meets (at + 1) 0) (getD meets (at + 2) 0))) ++ behind meets end (at + 3)
-  behind-next meets end at h fits =
-      ap (λ (l : Bytes). wordsOf (clausesOf l)) (bytes-next meets end at h fits)
+  pub behind-next : (meets : Bytes) (at : ℕ) → at + 2 < length meets
+      → behind meets at
+      ≡ wordsOf (one (meeting x (getD meets at 0) (getD meets (at + 1) 0) (getD meets (at + 2) 0))) ++ behind meets (at + 3)
+  behind-next meets at h =
+      ap (λ (l : Bytes). wordsOf (clausesOf l)) (bytes-next meets (length meets) at h (le-refl (length meets)))
       ∙ ap wordsOf (triples-next (meeting x) _ _ _ _)
-      ∙ words-append (one (meeting x _ _ _)) (clausesOf (slice (at + 3) end meets))
+      ∙ words-append (one (meeting x _ _ _)) (clausesOf (slice (at + 3) (length meets) meets))
 
-  pub behind-end : (meets : Bytes) (end at : ℕ) → end ≤ at + 2 → behind meets end at ≡ []
+  pub behind-end : (meets : Bytes) (at : ℕ) → length meets ≤ at + 2 → behind meets at ≡ []
   unfolding wordsOf each
-  behind-end meets end at h = ap wordsOf (triples-end (meeting x) (slice at end meets) (bytes-end meets end at h))
+  behind-end meets at h =
+      ap wordsOf (triples-end (meeting x) (slice at (length meets) meets) (bytes-end meets (length meets) at h))
 
--- all bytes are the rows of family H
-pub behind-all : (I : Instance) (i x n : ℕ) (meets : Bytes) (end : ℕ) → n ≡ I .runs i → take end meets ≡ meetBytes I
-    → behind (x + (n + 1)) meets end 0 ≡ wordsOf (clausesH I i x)
+-- all bytes are the clauses of family H
+pub behind-all : (I : Instance) (i x n : ℕ) (meets : Bytes) → n ≡ I .runs i → meets ≡ meetBytes I
+    → behind (x + (n + 1)) meets 0 ≡ wordsOf (clausesH I i x)
 unfolding clausesH borderVar
-behind-all I i x n meets end e f =
-    ap₂ (λ (y : ℕ) (bytes : Bytes). wordsOf (clausesOf (x + (y + 1)) bytes)) e f
+behind-all I i x n meets e f =
+    ap₂ (λ (y : ℕ) (bytes : Bytes). wordsOf (clausesOf (x + (y + 1)) bytes)) e (take-length meets ∙ f)
     ∙ ap wordsOf (triples-meet (meeting (x + (I .runs i + 1))) I)
     ∙ simp add-assoc

@@ -11,7 +11,7 @@ use Rattle.spec.specs.Formula.{Clause, not′, width, base, claimVar, clausesB,
 use Rattle.laws.proofs.Parts.{each-mem-same, each-same, map-same}
 use Rattle.clauses.proofs.Turns.{upTo-range, range-next, range-end}
 use Rattle.formula.specs.declared.walk.Family.the-variants.{B, C, D, E, G, H}
-use Rattle.formula.specs.Families.{trainRows, familyRows, callRuns, callRows, pairsBehind}
+use Rattle.formula.specs.Families.{trainClauses, familyClauses, callRuns, callClauses, pairsBehind}
 
 module _ (I : Instance) where
   -- the next interval's first variable
@@ -26,16 +26,16 @@ module _ (I : Instance) where
   from-start : (f : ℕ → List Clause) (n : ℕ) → each (range 0 n) f ≡ each (upTo n) f
   from-start f n = ap (λ (ks : List ℕ). each ks f) (sym (upTo-range n))
 
-  pub shape-b : familyRows I B ≡ familyB I
-  unfolding familyRows trainRows familyB
+  pub shape-b : familyClauses I B ≡ familyB I
+  unfolding familyClauses trainClauses familyB
   shape-b = each-same _ _ (I .trains) (λ i _. from-start (λ t. clausesB (I .runs i) (base I i t)) (I .departure i))
 
-  pub shape-c : familyRows I C ≡ familyC I
-  unfolding familyRows trainRows familyC
+  pub shape-c : familyClauses I C ≡ familyC I
+  unfolding familyClauses trainClauses familyC
   shape-c = refl
 
-  pub shape-d : familyRows I D ≡ familyD I
-  unfolding familyRows trainRows familyD each
+  pub shape-d : familyClauses I D ≡ familyD I
+  unfolding familyClauses trainClauses familyD each
   shape-d = each-same _ _ (I .trains) (λ i _. only-one (λ t. clausesD I i (base I i t)) (I .departure i))
     where
       only-one : (f : ℕ → List Clause) (d : ℕ) → each (range d (d + 1)) f ≡ f d
@@ -43,21 +43,21 @@ module _ (I : Instance) where
           ap (λ (ks : List ℕ). each ks f) (range-next d (d + 1) (omega arith) ∙ ap (λ (ks : List ℕ). d ∷ ks) (range-end (d + 1) (d + 1) (le-refl (d + 1))))
           ∙ append-nil (f d)
 
-  pub shape-e : familyRows I E ≡ familyE I
-  unfolding familyRows trainRows familyE
+  pub shape-e : familyClauses I E ≡ familyE I
+  unfolding familyClauses trainClauses familyE
   shape-e = each-same _ _ (I .trains) (λ i _.
       each-mem-same _ _ (range (I .departure i) (I .intervals - 1)) (λ t _. ap (clausesE I i (base I i t)) (sym (base-next i t))))
 
-  pub shape-f : (each (upTo (I .trains)) λ i. each (upTo (I .calls i)) λ c. callRows I i c) ≡ familyF I
-  unfolding familyF callRows callRuns
+  pub shape-f : (each (upTo (I .trains)) λ i. each (upTo (I .calls i)) λ c. callClauses I i c) ≡ familyF I
+  unfolding familyF callClauses callRuns
   shape-f = refl
 
-  pub shape-g : familyRows I G ≡ familyG I
-  unfolding familyRows trainRows familyG
+  pub shape-g : familyClauses I G ≡ familyG I
+  unfolding familyClauses trainClauses familyG
   shape-g = each-same _ _ (I .trains) (λ i _. from-start (λ t. clausesG I i (base I i t)) (I .intervals))
 
-  pub shape-h : familyRows I H ≡ familyH I
-  unfolding familyRows trainRows familyH
+  pub shape-h : familyClauses I H ≡ familyH I
+  unfolding familyClauses trainClauses familyH
   shape-h = each-same _ _ (I .trains) (λ i _. from-start (λ t. clausesH I i (base I i t)) (I .intervals))
 
   pub shape-i : (each (upTo (I .intervals)) λ t. each (upTo (I .trains)) λ i. pairsBehind I t i) ≡ familyI I

@@ -17,8 +17,8 @@ use Rattle.clauses.specs.Walked.{most}
 use Rattle.demands.proofs.Words.{words-append}
 use Rattle.formula.specs.declared.walk.Family.{Family}
 use Rattle.formula.specs.declared.walk.Family.the-variants.{B, C, D, E, G, H}
-use Rattle.formula.specs.Families.{fromBy, toBy, rowsOf, trainRows, familyRows, callRuns, callRows, pairsBehind}
-use Rattle.run_tables.proofs.Small.{Few}
+use Rattle.formula.specs.Families.{fromBy, toBy, blockClauses, trainClauses, familyClauses, callRuns, callClauses, pairsBehind}
+use Rattle.tables.proofs.Small.{Few}
 use Rattle.formula.proofs.Shapes.{shape-b, shape-c, shape-d, shape-e, shape-f, shape-g, shape-h, shape-i}
 
 -- how many words clauses have
@@ -185,7 +185,7 @@ module _ (I : Instance) (few : Few I) where
         let c = not′ (x + (n + 1 + s)) ∷ is (borderVar I k) ∷ one (is (x + (n + 1 + u))) in
         omega (arith, size-only (I .meet k s u) (one c), size-one c))))
 
-    rows-small : (f : Family) → size (rowsOf I f i x) ≤ 1572864
+    rows-small : (f : Family) → size (blockClauses I f i x) ≤ 1572864
     rows-small B = omega (arith, clausesB-small)
     rows-small C = omega (arith, clausesC-small)
     rows-small D = omega (arith, clausesD-small)
@@ -202,16 +202,16 @@ module _ (I : Instance) (few : Few I) where
   to-small G i l = few .intervals
   to-small H i l = few .intervals
 
-  family-small : (f : Family) → size (familyRows I f) ≤ 824633720832
-  unfolding familyRows trainRows
+  family-small : (f : Family) → size (familyClauses I f) ≤ 824633720832
+  unfolding familyClauses trainClauses
   family-small f = size-each (upTo (I .trains)) _ 8 (65536 * 1572864) (up _ _ (few .trains)) (λ i m.
       let l = inside _ _ m in
       size-each (range (fromBy f (I .departure i)) (toBy f (I .departure i) (I .intervals))) _ 65536 1572864 (below _ _ _ (to-small f i l))
       (λ t _. rows-small i (base I i t) l f))
 
   -- F and I
-  sizeF : size (each (upTo (I .trains)) λ i. each (upTo (I .calls i)) λ c. callRows I i c) ≤ 8 * (4 * (65536 * 256 + 1))
-  unfolding callRows callRuns serversF
+  sizeF : size (each (upTo (I .trains)) λ i. each (upTo (I .calls i)) λ c. callClauses I i c) ≤ 8 * (4 * (65536 * 256 + 1))
+  unfolding callClauses callRuns serversF
   sizeF = size-each (upTo (I .trains)) _ 8 (4 * (65536 * 256 + 1)) (up _ _ (few .trains)) (λ i m.
       let l = inside _ _ m in
       size-each (upTo (I .calls i)) _ 4 (65536 * 256 + 1) (up _ _ (few .calls i l)) (λ c _.
@@ -240,7 +240,7 @@ module _ (I : Instance) (few : Few I) where
       same : {cs ds : List Clause} {m : ℕ} → cs ≡ ds → size cs ≤ m → Sized ds m
       same {m = m} e h = record { most′ = subst (λ (xs : List Clause). size xs ≤ m) e h }
 
-      by : {cs : List Clause} (f : Family) → familyRows I f ≡ cs → Sized cs 824633720832
+      by : {cs : List Clause} (f : Family) → familyClauses I f ≡ cs → Sized cs 824633720832
       by f e = same e (family-small f)
 
       nothing : Sized [] 0

@@ -1,6 +1,6 @@
 -- What a walk over the whole formula of a book that passed says: its totals, and the least clause that does not hold. Assumes nothing.
 use mathlib.Core.Path.{_≡_, ap, _∙_, subst}
-use Prim.Native.Nat.{ℕ, _≤_}
+use Prim.Native.Nat.{_≤_}
 use mathlib.Core.List.{List, _++_}
 use lib.ListN.{length}
 use lib.IntN.{ℤ}
@@ -17,8 +17,8 @@ use Rattle.clauses.specs.declared.Walk.{Walk}
 use Rattle.clauses.specs.Walked.{start, totals, Walks, most}
 use Rattle.clauses.proofs.Laws.{walks-length}
 use Rattle.clauses.proofs.Totals.{totals-walked}
-use Rattle.run_tables.specs.Tables.{Passed}
-use Rattle.run_tables.proofs.Small.{passed-few}
+use Rattle.tables.specs.Tables.{Passed}
+use Rattle.tables.proofs.Small.{passed-few}
 use Rattle.formula.proofs.Size.{formula-small}
 
 -- an output without room leaves nothing behind

@@ -1,5 +1,5 @@
 -- The parts of the families that the code's loops pass: those that go by train and interval in one table, from which interval to
--- which, and the rows of one interval; the calls of F and the pairs of I. That these parts make up the families of the
+-- which, and the clauses of one interval; the calls of F and the pairs of I. That these parts make up the families of the
 -- specification is a lemma. Assumes nothing.
 use mathlib.Core.Bool.{not}
 use Prim.Native.Nat.{ℕ, _+_, _-_}
@@ -28,21 +28,21 @@ toBy E d T = T - 1
 toBy G d T = T
 toBy H d T = T
 
--- the rows of an interval whose first variable is x
-abbrev pub rowsOf : Instance → Family → ℕ → ℕ → List Clause
-rowsOf I B i x = clausesB (I .runs i) x
-rowsOf I C i x = clausesC (I .runs i) x
-rowsOf I D i x = clausesD I i x
-rowsOf I E i x = clausesE I i x (x + width I i)
-rowsOf I G i x = clausesG I i x
-rowsOf I H i x = clausesH I i x
+-- the clauses of an interval whose first variable is x
+abbrev pub blockClauses : Instance → Family → ℕ → ℕ → List Clause
+blockClauses I B i x = clausesB (I .runs i) x
+blockClauses I C i x = clausesC (I .runs i) x
+blockClauses I D i x = clausesD I i x
+blockClauses I E i x = clausesE I i x (x + width I i)
+blockClauses I G i x = clausesG I i x
+blockClauses I H i x = clausesH I i x
 
--- the rows of a train
-unfoldable pub trainRows : Instance → Family → ℕ → List Clause
-trainRows I f i = each (range (fromBy f (I .departure i)) (toBy f (I .departure i) (I .intervals))) λ t. rowsOf I f i (base I i t)
+-- the clauses of a train
+unfoldable pub trainClauses : Instance → Family → ℕ → List Clause
+trainClauses I f i = each (range (fromBy f (I .departure i)) (toBy f (I .departure i) (I .intervals))) λ t. blockClauses I f i (base I i t)
 
-unfoldable pub familyRows : Instance → Family → List Clause
-familyRows I f = each (upTo (I .trains)) λ i. trainRows I f i
+unfoldable pub familyClauses : Instance → Family → List Clause
+familyClauses I f = each (upTo (I .trains)) λ i. trainClauses I f i
 
 -- ---- F and I
 
@@ -51,8 +51,8 @@ unfoldable pub callRuns : Instance → ℕ → ℕ → List ℤ
 callRuns I i c = each (range (I .departure i) (I .intervals)) λ t. only (inWindow I i c (t + 1)) (serversF I i c (base I i t))
 
 -- the clause of a call
-unfoldable pub callRows : Instance → ℕ → ℕ → List Clause
-callRows I i c = only (not (servedAtDeparture I i c)) (one (callRuns I i c))
+unfoldable pub callClauses : Instance → ℕ → ℕ → List Clause
+callClauses I i c = only (not (servedAtDeparture I i c)) (one (callRuns I i c))
 
 -- a train and each behind it, in an interval
 unfoldable pub pairsBehind : Instance → ℕ → ℕ → List Clause

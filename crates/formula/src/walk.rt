@@ -1,43 +1,42 @@
 // The formula of a book: one walk over its families, in their order, that measures, writes and judges
 // (`clauses::Walk`). Families B, C, D, E, G and H go by train and interval through the same two
 // loops. Assumes nothing.
+use crate::families::clauses_b;
+use crate::families::clauses_c;
+use crate::families::clauses_d;
+use crate::families::clauses_e;
+use crate::families::clauses_g;
+use crate::families::clauses_h;
+use crate::families::clauses_i;
 use crate::families::family_a;
-use crate::families::rows_b;
-use crate::families::rows_c;
-use crate::families::rows_d;
-use crate::families::rows_e;
-use crate::families::rows_g;
-use crate::families::rows_h;
-use crate::families::rows_i;
 use crate::families::servers;
 use clauses::Walk;
 use clauses::begin;
 use clauses::close;
-use layout::numbering::base_from;
+use layout::blocks::Block;
+use layout::blocks::block_at;
+use layout::blocks::train_block;
 use layout::numbering::first_claim;
-use layout::numbering::first_variable;
-use layout::numbering::next_interval;
 use listing::TRAIN_BYTES;
 use model::Book;
 use model::Call;
-use model::MAX_RUNS;
+use model::Counts;
 use network::calls::call_at;
 use network::calls::calls_of;
-use network::track::length_in_segments;
-use run_tables::places::in_window;
-use run_tables::places::served_at_departure;
+use tables::chains::TRAIN_CHAINS;
+use tables::places::in_window;
+use tables::places::served_at_departure;
 ghost use mathlib.Core.Path.{_≡_};
 ghost use mathlib.Core.List.{_++_};
-ghost use Prim.Native.Nat.{_≤_, _<_};
+ghost use Prim.Native.Nat.{_<_};
 ghost use Rattle.spec.specs.Lists.{upTo, each};
-ghost use Rattle.spec.specs.Instance.{instanceOf, callAt, trainLength};
+ghost use Rattle.spec.specs.Instance.{instanceOf, callAt};
 ghost use Rattle.spec.specs.Formula.{familyB, familyC, familyD, familyE, familyF, familyG, familyH, familyI, formula, wordsOf};
 ghost use Rattle.spec.specs.Held.{held};
 ghost use Rattle.clauses.specs.Walked.{Walks, start};
-ghost use Rattle.run_tables.specs.Tables.{Passed};
-ghost use Rattle.run_tables.specs.Ready.{Counted, RunsHeld, ChainsHeld, RunsReady, ChainsReady};
-ghost use Rattle.sections.specs.Meets.{MeetsReady};
-ghost use Rattle.formula.specs.Families.{fromBy, toBy, rowsOf, trainRows, familyRows, callRuns, callRows, pairsBehind};
+ghost use Rattle.tables.specs.Ready.{Counted, RunsHeld, ChainsHeld, RunsReady, ChainsReady, MeetsReady};
+ghost use Rattle.layout.specs.Blocks.{BlockHeld};
+ghost use Rattle.formula.specs.Families.{fromBy, toBy, blockClauses, trainClauses, familyClauses, callRuns, callClauses, pairsBehind};
 ghost use Rattle.formula.specs.Ready.{TrainReady};
 
 // The families that go by train and interval.
@@ -50,7 +49,7 @@ pub enum Family {
     H,
 }
 
-// The first interval of the family's rows, for a train that departs in interval d.
+// The first interval of the family's clauses, for a train that departs in interval d.
 fn first_interval(family: Family, d: usize) -> usize
     ensures { λ r. ⌜ r ≡ fromBy family d ⌝ }
 {
@@ -64,7 +63,7 @@ fn first_interval(family: Family, d: usize) -> usize
     }
 }
 
-// The interval behind the last of the family's rows, of `all` intervals. E's rows are those of the
+// The interval behind the last of the family's clauses, of `all` intervals. E's clauses are those of the
 // interval before.
 fn end_interval(family: Family, d: usize, all: usize) -> usize
     requires { ⌜ (d < all) × (all < 65536) ⌝ }
@@ -80,99 +79,54 @@ fn end_interval(family: Family, d: usize, all: usize) -> usize
     }
 }
 
-// The rows of a family in one interval of a train, whose first variable is `base`.
-fn interval_rows(
+// The clauses of a family in one interval of a train: of a block.
+fn interval_clauses(
     family: Family,
     b: Book,
-    train: usize,
-    n: usize,
-    l: usize,
+    t: Block,
     w: Walk,
-    base: usize,
-    rows: &[u8],
-    sizes: &[u8],
-    firsts: &[usize],
-    nexts: &[usize],
+    runs: &[u8],
+    chains: &[usize],
     meets: &[u8],
-    end: usize,
     values: &[u8],
     out: &mut [i32],
 ) -> Walk
-    requires { ⌜ Passed b × (train < b .«train_count») × (n ≡ instanceOf (held b) .runs train) × (base < 900000000)
-        × (l ≡ trainLength (held b) train) × (l ≤ 8) × RunsHeld (held b) train (now rows) (now sizes)
-        × ChainsHeld (held b) train (now firsts) (now nexts) × MeetsReady b (now meets) end ⌝ }
-    ensures { λ r. ⌜ Walks (now (values .entry)) (wordsOf (rowsOf (instanceOf (held b)) family train base)) w (now (out .entry)) r (now (out .exit)) ⌝ }
+    requires { ⌜ BlockHeld b t × RunsHeld (held b) (t .train) (now runs) × ChainsHeld (held b) (t .train) (now chains) × MeetsReady b (now meets) ⌝ }
+    ensures { λ r. ⌜ Walks (now (values .entry)) (wordsOf (blockClauses (instanceOf (held b)) family (t .train) (t .base))) w (now (out .entry)) r (now (out .exit)) ⌝ }
 {
-    let after = next_interval(base, n, b.segment_count);
     match family {
-        Family::B => rows_b(w, base, n, values, out),
-        Family::C => rows_c(w, base, n, values, out),
-        Family::D => rows_d(b, train, w, base, n, l, rows, values, out),
-        Family::E => rows_e(
-            b,
-            train,
-            w,
-            base,
-            after,
-            n,
-            l,
-            rows,
-            sizes,
-            firsts,
-            nexts,
-            values,
-            out,
-        ),
-        Family::G => rows_g(b, train, w, base, n, rows, sizes, values, out),
-        Family::H => rows_h(b, train, w, base, n, meets, end, values, out),
+        Family::B => clauses_b(w, t.base, t.runs, values, out),
+        Family::C => clauses_c(w, t.base, t.runs, values, out),
+        Family::D => clauses_d(b, t, w, runs, values, out),
+        Family::E => clauses_e(b, t, w, runs, chains, values, out),
+        Family::G => clauses_g(b, t, w, runs, values, out),
+        Family::H => clauses_h(b, t, w, meets, values, out),
     }
 }
 
-// The rows of a family for one train: its intervals in order.
-fn train_rows(
+// The clauses of a family for one train, from the block of its first interval on: its intervals in order.
+fn train_clauses(
     family: Family,
     b: Book,
-    train: usize,
-    n: usize,
-    first: usize,
+    first: Block,
     w: Walk,
-    rows: &[u8],
-    sizes: &[u8],
-    firsts: &[usize],
-    nexts: &[usize],
+    runs: &[u8],
+    chains: &[usize],
     meets: &[u8],
-    end: usize,
     values: &[u8],
     out: &mut [i32],
 ) -> Walk
-    requires { ⌜ TrainReady b train n first (now rows) (now sizes) × ChainsHeld (held b) train (now firsts) (now nexts)
-        × MeetsReady b (now meets) end ⌝ }
-    ensures { λ r. ⌜ Walks (now (values .entry)) (wordsOf (trainRows (instanceOf (held b)) family train)) w (now (out .entry)) r (now (out .exit)) ⌝ }
+    requires { ⌜ TrainReady b first (now runs) × ChainsHeld (held b) (first .train) (now chains) × MeetsReady b (now meets) ⌝ }
+    ensures { λ r. ⌜ Walks (now (values .entry)) (wordsOf (trainClauses (instanceOf (held b)) family (first .train))) w (now (out .entry)) r (now (out .exit)) ⌝ }
 {
-    let t = b.trains[train];
-    let l = length_in_segments(b, t);
-    let d = t.departure;
+    let train = first.train;
+    let d = b.trains[train].departure;
     let to = end_interval(family, d, b.intervals);
     let mut next = w;
     let mut interval = first_interval(family, d);
     while interval < to {
-        next = interval_rows(
-            family,
-            b,
-            train,
-            n,
-            l,
-            next,
-            base_from(first, n, b.segment_count, interval),
-            rows,
-            sizes,
-            firsts,
-            nexts,
-            meets,
-            end,
-            values,
-            out,
-        );
+        let t = block_at(b, first, interval);
+        next = interval_clauses(family, b, t, next, runs, chains, meets, values, out);
         interval += 1;
     }
     next
@@ -182,39 +136,31 @@ fn train_rows(
 fn by_train(
     family: Family,
     b: Book,
-    runs: [usize; 8],
+    counts: Counts,
     w: Walk,
-    rows: &[u8],
-    sizes: &[u8],
-    firsts: &[usize],
-    nexts: &[usize],
+    runs: &[u8],
+    chains: &[usize],
     meets: &[u8],
-    end: usize,
     values: &[u8],
     out: &mut [i32],
 ) -> Walk
-    requires { ⌜ RunsReady b runs (now rows) (now sizes) × ChainsReady b (now firsts) (now nexts) × MeetsReady b (now meets) end ⌝ }
-    ensures { λ r. ⌜ Walks (now (values .entry)) (wordsOf (familyRows (instanceOf (held b)) family)) w (now (out .entry)) r (now (out .exit)) ⌝ }
+    requires { ⌜ RunsReady b counts (now runs) × ChainsReady b (now chains) × MeetsReady b (now meets) ⌝ }
+    ensures { λ r. ⌜ Walks (now (values .entry)) (wordsOf (familyClauses (instanceOf (held b)) family)) w (now (out .entry)) r (now (out .exit)) ⌝ }
 {
     let trains = b.train_count;
     let mut next = w;
     let mut i = 0;
     while i < trains {
-        let row = i * TRAIN_BYTES;
-        let at = i * MAX_RUNS;
-        next = train_rows(
+        let part = i * TRAIN_BYTES;
+        let at = i * TRAIN_CHAINS;
+        next = train_clauses(
             family,
             b,
-            i,
-            runs[i],
-            first_variable(b, runs, i),
+            train_block(b, counts, i),
             next,
-            &rows[row..row + TRAIN_BYTES],
-            &sizes[at..at + MAX_RUNS],
-            &firsts[at..at + MAX_RUNS],
-            &nexts[at..at + MAX_RUNS],
+            &runs[part..part + TRAIN_BYTES],
+            &chains[at..at + TRAIN_CHAINS],
             meets,
-            end,
             values,
             out,
         );
@@ -226,40 +172,25 @@ fn by_train(
 // F: the literals of a call's clause: by time, the runs whose end serves it.
 fn call_runs(
     b: Book,
-    train: usize,
+    first: Block,
     number: usize,
     c: Call,
-    n: usize,
-    first: usize,
     w: Walk,
-    rows: &[u8],
-    sizes: &[u8],
+    runs: &[u8],
     values: &[u8],
     out: &mut [i32],
 ) -> Walk
-    requires { ⌜ TrainReady b train n first (now rows) (now sizes) × (c ≡ callAt (held b) train number) ⌝ }
-    ensures { λ r. ⌜ Walks (now (values .entry)) (callRuns (instanceOf (held b)) train number) w (now (out .entry)) r (now (out .exit)) ⌝ }
+    requires { ⌜ TrainReady b first (now runs) × (c ≡ callAt (held b) (first .train) number) ⌝ }
+    ensures { λ r. ⌜ Walks (now (values .entry)) (callRuns (instanceOf (held b)) (first .train) number) w (now (out .entry)) r (now (out .exit)) ⌝ }
 {
-    let t = b.trains[train];
-    let l = length_in_segments(b, t);
+    let train = first.train;
+    let intervals = b.intervals;
     let mut next = w;
-    let mut interval = t.departure;
-    while interval < b.intervals {
+    let mut interval = b.trains[train].departure;
+    while interval < intervals {
         if in_window(c, interval + 1) {
-            next = servers(
-                b,
-                train,
-                number,
-                c,
-                next,
-                base_from(first, n, b.segment_count, interval),
-                n,
-                l,
-                rows,
-                sizes,
-                values,
-                out,
-            );
+            let t = block_at(b, first, interval);
+            next = servers(b, t, number, c, next, runs, values, out);
         }
         interval += 1;
     }
@@ -269,79 +200,55 @@ fn call_runs(
 // F: the clause of a call, or none where the train's given place serves it at its departure.
 fn call_clause(
     b: Book,
-    train: usize,
+    first: Block,
     number: usize,
-    n: usize,
-    first: usize,
     w: Walk,
-    rows: &[u8],
-    sizes: &[u8],
+    runs: &[u8],
     values: &[u8],
     out: &mut [i32],
 ) -> Walk
-    requires { ⌜ TrainReady b train n first (now rows) (now sizes) ⌝ }
-    ensures { λ r. ⌜ Walks (now (values .entry)) (wordsOf (callRows (instanceOf (held b)) train number)) w (now (out .entry)) r (now (out .exit)) ⌝ }
+    requires { ⌜ TrainReady b first (now runs) ⌝ }
+    ensures { λ r. ⌜ Walks (now (values .entry)) (wordsOf (callClauses (instanceOf (held b)) (first .train) number)) w (now (out .entry)) r (now (out .exit)) ⌝ }
 {
+    let train = first.train;
     let c = call_at(b, train, number);
     if served_at_departure(b, c, b.trains[train]) {
         return w;
     }
-    let all = call_runs(b, train, number, c, n, first, w, rows, sizes, values, out);
+    let all = call_runs(b, first, number, c, w, runs, values, out);
     close(all, values, out)
 }
 
 // F: the calls of a train, in file order.
-fn train_calls(
-    b: Book,
-    train: usize,
-    n: usize,
-    first: usize,
-    w: Walk,
-    rows: &[u8],
-    sizes: &[u8],
-    values: &[u8],
-    out: &mut [i32],
-) -> Walk
-    requires { ⌜ TrainReady b train n first (now rows) (now sizes) ⌝ }
-    ensures { λ r. ⌜ Walks (now (values .entry)) (wordsOf (each (upTo (instanceOf (held b) .calls train)) λ c. callRows (instanceOf (held b)) train c)) w (now (out .entry)) r (now (out .exit)) ⌝ }
+fn train_calls(b: Book, first: Block, w: Walk, runs: &[u8], values: &[u8], out: &mut [i32]) -> Walk
+    requires { ⌜ TrainReady b first (now runs) ⌝ }
+    ensures { λ r. ⌜ Walks (now (values .entry)) (wordsOf (each (upTo (instanceOf (held b) .calls (first .train))) λ c. callClauses (instanceOf (held b)) (first .train) c)) w (now (out .entry)) r (now (out .exit)) ⌝ }
 {
-    let calls = calls_of(b, train);
+    let calls = calls_of(b, first.train);
     let mut next = w;
     let mut number = 0;
     while number < calls {
-        next = call_clause(b, train, number, n, first, next, rows, sizes, values, out);
+        next = call_clause(b, first, number, next, runs, values, out);
         number += 1;
     }
     next
 }
 
 // F: the calls of every train.
-fn family_f(
-    b: Book,
-    runs: [usize; 8],
-    w: Walk,
-    rows: &[u8],
-    sizes: &[u8],
-    values: &[u8],
-    out: &mut [i32],
-) -> Walk
-    requires { ⌜ RunsReady b runs (now rows) (now sizes) ⌝ }
+fn family_f(b: Book, counts: Counts, w: Walk, runs: &[u8], values: &[u8], out: &mut [i32]) -> Walk
+    requires { ⌜ RunsReady b counts (now runs) ⌝ }
     ensures { λ r. ⌜ Walks (now (values .entry)) (wordsOf (familyF (instanceOf (held b)))) w (now (out .entry)) r (now (out .exit)) ⌝ }
 {
     let trains = b.train_count;
     let mut next = w;
     let mut i = 0;
     while i < trains {
-        let row = i * TRAIN_BYTES;
-        let at = i * MAX_RUNS;
+        let part = i * TRAIN_BYTES;
         next = train_calls(
             b,
-            i,
-            runs[i],
-            first_variable(b, runs, i),
+            train_block(b, counts, i),
             next,
-            &rows[row..row + TRAIN_BYTES],
-            &sizes[at..at + MAX_RUNS],
+            &runs[part..part + TRAIN_BYTES],
             values,
             out,
         );
@@ -353,25 +260,25 @@ fn family_f(
 // I: a train and each behind it, in an interval.
 fn pairs_behind(
     b: Book,
-    runs: [usize; 8],
+    counts: Counts,
     interval: usize,
     train: usize,
     w: Walk,
     values: &[u8],
     out: &mut [i32],
 ) -> Walk
-    requires { ⌜ Counted b runs × (train < b .«train_count») × (interval < b .intervals) ⌝ }
+    requires { ⌜ Counted b counts × (train < b .«train_count») × (interval < b .intervals) ⌝ }
     ensures { λ r. ⌜ Walks (now (values .entry)) (wordsOf (pairsBehind (instanceOf (held b)) interval train)) w (now (out .entry)) r (now (out .exit)) ⌝ }
 {
-    let lower = first_claim(b, runs, train, interval);
+    let lower = first_claim(b, counts, train, interval);
     let trains = b.train_count;
     let mut next = w;
     let mut j = train + 1;
     while j < trains {
-        next = rows_i(
+        next = clauses_i(
             next,
             lower,
-            first_claim(b, runs, j, interval),
+            first_claim(b, counts, j, interval),
             b.segment_count,
             values,
             out,
@@ -384,35 +291,35 @@ fn pairs_behind(
 // I: the pairs of trains in an interval.
 fn interval_pairs(
     b: Book,
-    runs: [usize; 8],
+    counts: Counts,
     interval: usize,
     w: Walk,
     values: &[u8],
     out: &mut [i32],
 ) -> Walk
-    requires { ⌜ Counted b runs × (interval < b .intervals) ⌝ }
+    requires { ⌜ Counted b counts × (interval < b .intervals) ⌝ }
     ensures { λ r. ⌜ Walks (now (values .entry)) (wordsOf (each (upTo (instanceOf (held b) .trains)) λ i. pairsBehind (instanceOf (held b)) interval i)) w (now (out .entry)) r (now (out .exit)) ⌝ }
 {
     let trains = b.train_count;
     let mut next = w;
     let mut i = 0;
     while i < trains {
-        next = pairs_behind(b, runs, interval, i, next, values, out);
+        next = pairs_behind(b, counts, interval, i, next, values, out);
         i += 1;
     }
     next
 }
 
 // I: in every interval.
-fn family_i(b: Book, runs: [usize; 8], w: Walk, values: &[u8], out: &mut [i32]) -> Walk
-    requires { ⌜ Counted b runs ⌝ }
+fn family_i(b: Book, counts: Counts, w: Walk, values: &[u8], out: &mut [i32]) -> Walk
+    requires { ⌜ Counted b counts ⌝ }
     ensures { λ r. ⌜ Walks (now (values .entry)) (wordsOf (familyI (instanceOf (held b)))) w (now (out .entry)) r (now (out .exit)) ⌝ }
 {
     let intervals = b.intervals;
     let mut next = w;
     let mut t = 0;
     while t < intervals {
-        next = interval_pairs(b, runs, t, next, values, out);
+        next = interval_pairs(b, counts, t, next, values, out);
         t += 1;
     }
     next
@@ -421,200 +328,74 @@ fn family_i(b: Book, runs: [usize; 8], w: Walk, values: &[u8], out: &mut [i32]) 
 // B, C and D: where a train is before its departure, from it on, and at it.
 fn families_b_to_d(
     b: Book,
-    runs: [usize; 8],
+    counts: Counts,
     w: Walk,
-    rows: &[u8],
-    sizes: &[u8],
-    firsts: &[usize],
-    nexts: &[usize],
+    runs: &[u8],
+    chains: &[usize],
     meets: &[u8],
-    end: usize,
     values: &[u8],
     out: &mut [i32],
 ) -> Walk
-    requires { ⌜ RunsReady b runs (now rows) (now sizes) × ChainsReady b (now firsts) (now nexts) × MeetsReady b (now meets) end ⌝ }
+    requires { ⌜ RunsReady b counts (now runs) × ChainsReady b (now chains) × MeetsReady b (now meets) ⌝ }
     ensures { λ r. ⌜ Walks (now (values .entry)) (wordsOf (familyB (instanceOf (held b)) ++ (familyC (instanceOf (held b)) ++ familyD (instanceOf (held b))))) w (now (out .entry)) r (now (out .exit)) ⌝ }
 {
-    let wb = by_train(
-        Family::B,
-        b,
-        runs,
-        w,
-        rows,
-        sizes,
-        firsts,
-        nexts,
-        meets,
-        end,
-        values,
-        out,
-    );
-    let wc = by_train(
-        Family::C,
-        b,
-        runs,
-        wb,
-        rows,
-        sizes,
-        firsts,
-        nexts,
-        meets,
-        end,
-        values,
-        out,
-    );
-    by_train(
-        Family::D,
-        b,
-        runs,
-        wc,
-        rows,
-        sizes,
-        firsts,
-        nexts,
-        meets,
-        end,
-        values,
-        out,
-    )
+    let wb = by_train(Family::B, b, counts, w, runs, chains, meets, values, out);
+    let wc = by_train(Family::C, b, counts, wb, runs, chains, meets, values, out);
+    by_train(Family::D, b, counts, wc, runs, chains, meets, values, out)
 }
 
 // E and F: how a train goes on from interval to interval, and its calls.
 fn families_e_and_f(
     b: Book,
-    runs: [usize; 8],
+    counts: Counts,
     w: Walk,
-    rows: &[u8],
-    sizes: &[u8],
-    firsts: &[usize],
-    nexts: &[usize],
+    runs: &[u8],
+    chains: &[usize],
     meets: &[u8],
-    end: usize,
     values: &[u8],
     out: &mut [i32],
 ) -> Walk
-    requires { ⌜ RunsReady b runs (now rows) (now sizes) × ChainsReady b (now firsts) (now nexts) × MeetsReady b (now meets) end ⌝ }
+    requires { ⌜ RunsReady b counts (now runs) × ChainsReady b (now chains) × MeetsReady b (now meets) ⌝ }
     ensures { λ r. ⌜ Walks (now (values .entry)) (wordsOf (familyE (instanceOf (held b)) ++ familyF (instanceOf (held b)))) w (now (out .entry)) r (now (out .exit)) ⌝ }
 {
-    let we = by_train(
-        Family::E,
-        b,
-        runs,
-        w,
-        rows,
-        sizes,
-        firsts,
-        nexts,
-        meets,
-        end,
-        values,
-        out,
-    );
-    family_f(b, runs, we, rows, sizes, values, out)
+    let we = by_train(Family::E, b, counts, w, runs, chains, meets, values, out);
+    family_f(b, counts, we, runs, values, out)
 }
 
 // G, H and I: the claims.
 fn families_g_to_i(
     b: Book,
-    runs: [usize; 8],
+    counts: Counts,
     w: Walk,
-    rows: &[u8],
-    sizes: &[u8],
-    firsts: &[usize],
-    nexts: &[usize],
+    runs: &[u8],
+    chains: &[usize],
     meets: &[u8],
-    end: usize,
     values: &[u8],
     out: &mut [i32],
 ) -> Walk
-    requires { ⌜ RunsReady b runs (now rows) (now sizes) × ChainsReady b (now firsts) (now nexts) × MeetsReady b (now meets) end ⌝ }
+    requires { ⌜ RunsReady b counts (now runs) × ChainsReady b (now chains) × MeetsReady b (now meets) ⌝ }
     ensures { λ r. ⌜ Walks (now (values .entry)) (wordsOf (familyG (instanceOf (held b)) ++ (familyH (instanceOf (held b)) ++ familyI (instanceOf (held b))))) w (now (out .entry)) r (now (out .exit)) ⌝ }
 {
-    let wg = by_train(
-        Family::G,
-        b,
-        runs,
-        w,
-        rows,
-        sizes,
-        firsts,
-        nexts,
-        meets,
-        end,
-        values,
-        out,
-    );
-    let wh = by_train(
-        Family::H,
-        b,
-        runs,
-        wg,
-        rows,
-        sizes,
-        firsts,
-        nexts,
-        meets,
-        end,
-        values,
-        out,
-    );
-    family_i(b, runs, wh, values, out)
+    let wg = by_train(Family::G, b, counts, w, runs, chains, meets, values, out);
+    let wh = by_train(Family::H, b, counts, wg, runs, chains, meets, values, out);
+    family_i(b, counts, wh, values, out)
 }
 
 // The whole formula: what the walk passed, and the output.
 pub fn walk_formula(
     b: Book,
-    runs: [usize; 8],
-    rows: &[u8],
-    sizes: &[u8],
-    firsts: &[usize],
-    nexts: &[usize],
+    counts: Counts,
+    runs: &[u8],
+    chains: &[usize],
     meets: &[u8],
-    end: usize,
     values: &[u8],
     out: &mut [i32],
 ) -> Walk
-    requires { ⌜ RunsReady b runs (now rows) (now sizes) × ChainsReady b (now firsts) (now nexts) × MeetsReady b (now meets) end ⌝ }
+    requires { ⌜ RunsReady b counts (now runs) × ChainsReady b (now chains) × MeetsReady b (now meets) ⌝ }
     ensures { λ r. ⌜ Walks (now (values .entry)) (wordsOf (formula (instanceOf (held b)))) start (now (out .entry)) r (now (out .exit)) ⌝ }
 {
     let wa = family_a(b, begin(), values, out);
-    let wd = families_b_to_d(
-        b,
-        runs,
-        wa,
-        rows,
-        sizes,
-        firsts,
-        nexts,
-        meets,
-        end,
-        values,
-        out,
-    );
-    let wf = families_e_and_f(
-        b,
-        runs,
-        wd,
-        rows,
-        sizes,
-        firsts,
-        nexts,
-        meets,
-        end,
-        values,
-        out,
-    );
-    families_g_to_i(
-        b,
-        runs,
-        wf,
-        rows,
-        sizes,
-        firsts,
-        nexts,
-        meets,
-        end,
-        values,
-        out,
-    )
+    let wd = families_b_to_d(b, counts, wa, runs, chains, meets, values, out);
+    let wf = families_e_and_f(b, counts, wd, runs, chains, meets, values, out);
+    families_g_to_i(b, counts, wf, runs, chains, meets, values, out)
 }

@@ -19,10 +19,10 @@ use Rattle.spec.specs.Entry.{demand, overwrite, written}
 use Rattle.spec.specs.Library.{bordersFit, labelledFor}
 use Rattle.laws.proofs.Tests.{and-iff, eqb-iff, from-true}
 use Rattle.laws.proofs.Parts.{length-upTo}
-use Rattle.run_tables.specs.Placed.{bordersOf}
-use Rattle.run_tables.specs.Tables.{Passed}
-use Rattle.run_tables.proofs.Small.{nodes-is, segments-is}
-use Rattle.sections.proofs.Ready.{take-sets}
+use Rattle.tables.specs.Placed.{bordersOf}
+use Rattle.tables.specs.Tables.{Passed}
+use Rattle.tables.proofs.Small.{nodes-is, segments-is}
+use Rattle.tables.proofs.MeetTables.{take-sets}
 use Rattle.layout.proofs.Places.{all-bits}
 use Rattle.sections.proofs.Same.{plan-labelled}
 use Rattle.gentupag.specs.declared.answers.Output.{Output}

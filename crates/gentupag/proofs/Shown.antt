@@ -19,9 +19,9 @@ use Rattle.reader.specs.declared.reading.Answer.the-variants.{Accepted, Refused
 use Rattle.reader.specs.declared.reading.BookRead.{BookRead}
 use Rattle.reader.specs.BookAnswers.{bookReadOf}
 use Rattle.reader.proofs.Accepted.{accepted-by, refused-by}
-use Rattle.run_tables.specs.Placed.{placeAt, runHeld}
-use Rattle.run_tables.specs.Tables.{Passed}
-use Rattle.run_tables.specs.Ready.{RunsHeld}
+use Rattle.tables.specs.Placed.{placeAt, sizeAt, startAt, runHeld}
+use Rattle.tables.specs.Tables.{Passed}
+use Rattle.tables.specs.Ready.{RunsHeld}
 use Rattle.gentupag.specs.declared.answers.Run.{Run}
 use Rattle.gentupag.specs.Answers.{runAnswer}
 
@@ -73,16 +73,16 @@ module _ (b : BookStruct) (p : Passed b) (i r : ℕ) where
     pub asked-gone : {answer : Run} → n ≤ r → answer ≡ runAnswer (accepted (noRun n)) → answer ≡ asked
     asked-gone h a = a ∙ ap (λ (x : RunAsked). runAnswer (accepted x)) (sym (gone (held b) i r inside e h))
 
-    -- by the train's tables
-    pub asked-found : {rows sizes : Bytes} {place size : ℕ} {path : List ℕ} → RunsHeld (held b) i rows sizes → r < n
-        → place ≡ trainLength (held b) i → size ≡ getD sizes r 0 → path ≡ padded 16 0 (placeAt rows (16 * r) size)
+    -- by the train's table
+    pub asked-found : {runs : Bytes} {place size : ℕ} {path : List ℕ} → RunsHeld (held b) i runs → r < n
+        → place ≡ trainLength (held b) i → size ≡ sizeAt runs r → path ≡ padded 16 0 (placeAt runs (startAt r) size)
         → record { number = 0; detail = 0; missing = 0; runs = n; place = place; length = size; path = path } ≡ asked
     unfolding runHeld
-    asked-found {rows} {path = path} k h ep es er =
+    asked-found {runs} {path = path} k h ep es er =
         let l : r < instanceOf (held b) .runs i = omega arith in
         let run = runAt (runLists (held b)) i r in
         let whole : path ≡ padded 16 0 run =
-        er ∙ ap (λ (m : ℕ). padded 16 0 (placeAt rows (16 * r) m)) es ∙ ap (padded 16 0) (k .run r l) in
+        er ∙ ap (λ (m : ℕ). padded 16 0 (placeAt runs (startAt r) m)) es ∙ ap (padded 16 0) (k .run r l) in
         rw (ep, es ∙ k .size r l, whole) (ap (λ (x : RunAsked). runAnswer (accepted x)) (sym (found (held b) i r inside e h)))
 
 -- ---- of a book's bytes

@@ -1,13 +1,13 @@
 // The sections of a book's segments under a set of borders. Assumes nothing.
 use crate::answers::Output;
 use frames::bytes::all_below;
+use listing::TABLE_BYTES;
 use model::Book;
 use model::MAX_SEGMENTS;
 use reader::reading::Answer;
-use reader::reading::read_book;
 use sections::labels::label_sections;
-use sections::meets::MEET_BYTES;
-use sections::meets::list_meets;
+use tables::meets::MEET_BYTES;
+use tables::preparing::prepare;
 ghost use mathlib.Core.Path.{_≡_};
 ghost use Prim.Native.Nat.{ℕ, _≤_, _<_};
 ghost use lib.ListN.{length, getD, take};
@@ -16,7 +16,8 @@ ghost use Rattle.spec.specs.Instance.{instanceOf};
 ghost use Rattle.spec.specs.Held.{held};
 ghost use Rattle.spec.specs.Entry.{overwrite, written};
 ghost use Rattle.spec.specs.Library.{bordersFit, labelledFor, labelSections, labelsOutput};
-ghost use Rattle.run_tables.specs.Tables.{Passed};
+ghost use Rattle.tables.specs.Tables.{Passed};
+ghost use Rattle.tables.specs.Ready.{MeetsReady};
 ghost use Rattle.gentupag.specs.Answers.{outputOf};
 
 // A refusal: nothing is written.
@@ -50,9 +51,9 @@ fn write_labels(labels: &[usize], n: usize, out: &mut [u8])
     }
 }
 
-// 12, then 15, then the labels, of a book that passed.
-fn label_for(b: Book, borders: &[u8], out: &mut [u8]) -> Output
-    requires { ⌜ Passed b ⌝ }
+// 12, then 15, then the labels, of a book that passed, by what meets.
+fn label_for(b: Book, meets: &[u8], borders: &[u8], out: &mut [u8]) -> Output
+    requires { ⌜ Passed b × MeetsReady b (now meets) ⌝ }
     ensures { λ r. ⌜ (r ≡ outputOf (labelledFor (instanceOf (held b)) (now (borders .entry)) (length (now (out .entry)))))
         × (now (out .exit) ≡ overwrite (now (out .entry)) (written (labelledFor (instanceOf (held b)) (now (borders .entry)) (length (now (out .entry)))))) ⌝ }
 {
@@ -63,10 +64,8 @@ fn label_for(b: Book, borders: &[u8], out: &mut [u8]) -> Output
     if !borders_fit(b, borders) {
         return refuse(15, 0);
     }
-    let mut meets = [0u8; MEET_BYTES];
     let mut labels = [0usize; MAX_SEGMENTS];
-    let end = list_meets(b, &mut meets);
-    label_sections(b, &meets, end, borders, &mut labels);
+    label_sections(b, meets, borders, &mut labels);
     write_labels(&labels, n, out);
     Output {
         number: 0,
@@ -80,11 +79,15 @@ pub fn label_book(book: &[u8], borders: &[u8], out: &mut [u8]) -> Output
     ensures { λ r. ⌜ (r ≡ outputOf (labelSections (now (book .entry)) (now (borders .entry)) (length (now (out .entry)))))
         × (now (out .exit) ≡ labelsOutput (now (book .entry)) (now (borders .entry)) (now (out .entry))) ⌝ }
 {
-    let r = read_book(book);
-    let answer = r.answer;
-    let b = r.book;
+    let mut runs = [0u8; TABLE_BYTES];
+    let mut meets = [0u8; MEET_BYTES];
+    let p = prepare(book, &mut runs, &mut meets);
+    let end = p.meets;
+    let read = p.read;
+    let b = read.book;
+    let answer = read.answer;
     match answer {
         Answer::Refused(number, detail) => refuse(number, detail),
-        Answer::Accepted => label_for(b, borders, out),
+        Answer::Accepted => label_for(b, &meets[..end], borders, out),
     }
 }

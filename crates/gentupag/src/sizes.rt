@@ -3,17 +3,15 @@ use crate::answers::Sizes;
 use formula::walk::walk_formula;
 use layout::moves::plan_length;
 use layout::numbering::variable_count;
+use listing::TABLE_BYTES;
 use model::Book;
+use model::Counts;
 use network::track::denies_border;
 use network::track::forces_border;
 use reader::reading::Answer;
-use reader::reading::read_book;
-use run_tables::tables::ALL_BYTES;
-use run_tables::tables::ALL_RUNS;
-use run_tables::tables::chain_trains;
-use run_tables::tables::fill_runs;
-use sections::meets::MEET_BYTES;
-use sections::meets::list_meets;
+use tables::chains::ALL_CHAINS;
+use tables::meets::MEET_BYTES;
+use tables::preparing::prepare_chains;
 ghost use mathlib.Core.Path.{_≡_};
 ghost use mathlib.Core.Bool.{not, _&&_};
 ghost use lib.ListN.{length};
@@ -22,9 +20,8 @@ ghost use Rattle.spec.specs.Book.{deniesBorder, forcesBorder};
 ghost use Rattle.spec.specs.Instance.{instanceOf};
 ghost use Rattle.spec.specs.Held.{held};
 ghost use Rattle.spec.specs.Library.{freeNodesOf, sizesOf, measureBook};
-ghost use Rattle.run_tables.specs.Tables.{Passed};
-ghost use Rattle.run_tables.specs.Ready.{RunsReady, ChainsReady};
-ghost use Rattle.sections.specs.Meets.{MeetsReady};
+ghost use Rattle.tables.specs.Tables.{Passed};
+ghost use Rattle.tables.specs.Ready.{RunsReady, ChainsReady, MeetsReady};
 ghost use Rattle.gentupag.specs.Answers.{sizesAnswer};
 
 // Whether a node of this kind may have a border or none.
@@ -52,33 +49,13 @@ fn count_free(b: Book) -> usize
 }
 
 // The sizes, by the tables of a book.
-fn measure_by(
-    b: Book,
-    runs: [usize; 8],
-    rows: &[u8],
-    sizes: &[u8],
-    firsts: &[usize],
-    nexts: &[usize],
-    meets: &[u8],
-    end: usize,
-) -> Sizes
-    requires { ⌜ RunsReady b runs (now rows) (now sizes) × ChainsReady b (now firsts) (now nexts) × MeetsReady b (now meets) end ⌝ }
+fn measure_by(b: Book, counts: Counts, runs: &[u8], chains: &[usize], meets: &[u8]) -> Sizes
+    requires { ⌜ RunsReady b counts (now runs) × ChainsReady b (now chains) × MeetsReady b (now meets) ⌝ }
     ensures { λ r. ⌜ r ≡ sizesAnswer (accepted (sizesOf (instanceOf (held b)))) ⌝ }
 {
-    let none = &rows[0..0];
+    let none = &runs[0..0];
     let mut nowhere = [0i32; 1];
-    let w = walk_formula(
-        b,
-        runs,
-        rows,
-        sizes,
-        firsts,
-        nexts,
-        meets,
-        end,
-        none,
-        &mut nowhere[0..0],
-    );
+    let w = walk_formula(b, counts, runs, chains, meets, none, &mut nowhere[0..0]);
     Sizes {
         number: 0,
         detail: 0,
@@ -87,27 +64,11 @@ fn measure_by(
         free_nodes: count_free(b),
         segments: b.segment_count,
         trains: b.train_count,
-        variables: variable_count(b, runs),
+        variables: variable_count(b, counts),
         clauses: w.clauses,
         words: w.words,
         plan_bytes: plan_length(b),
     }
-}
-
-// The sizes of a book that passed: its tables are filled, then the formula is measured.
-fn measure_for(b: Book) -> Sizes
-    requires { ⌜ Passed b ⌝ }
-    ensures { λ r. ⌜ r ≡ sizesAnswer (accepted (sizesOf (instanceOf (held b)))) ⌝ }
-{
-    let mut rows = [0u8; ALL_BYTES];
-    let mut sizes = [0u8; ALL_RUNS];
-    let mut firsts = [0usize; ALL_RUNS];
-    let mut nexts = [0usize; ALL_RUNS];
-    let mut meets = [0u8; MEET_BYTES];
-    let runs = fill_runs(b, &mut rows, &mut sizes);
-    chain_trains(b, runs, &rows, &sizes, &mut firsts, &mut nexts);
-    let end = list_meets(b, &mut meets);
-    measure_by(b, runs, &rows, &sizes, &firsts, &nexts, &meets, end)
 }
 
 // The sizes beside a refusal.
@@ -133,11 +94,17 @@ fn refused_sizes(number: usize, detail: usize) -> Sizes
 pub fn measure_book(book: &[u8]) -> Sizes
     ensures { λ r. ⌜ r ≡ sizesAnswer (measureBook (now (book .entry))) ⌝ }
 {
-    let r = read_book(book);
-    let answer = r.answer;
-    let b = r.book;
+    let mut runs = [0u8; TABLE_BYTES];
+    let mut chains = [0usize; ALL_CHAINS];
+    let mut meets = [0u8; MEET_BYTES];
+    let p = prepare_chains(book, &mut runs, &mut chains, &mut meets);
+    let end = p.meets;
+    let read = p.read;
+    let b = read.book;
+    let counts = read.counts;
+    let answer = read.answer;
     match answer {
         Answer::Refused(number, detail) => refused_sizes(number, detail),
-        Answer::Accepted => measure_for(b),
+        Answer::Accepted => measure_by(b, counts, &runs, &chains, &meets[..end]),
     }
 }

@@ -11,12 +11,11 @@ use layout::numbering::claims_from;
 use layout::numbering::first_variable;
 use layout::numbering::gone_variable;
 use layout::numbering::next_interval;
+use listing::TABLE_BYTES;
 use model::Book;
+use model::Counts;
 use reader::reading::Answer;
-use reader::reading::read_book;
-use run_tables::tables::ALL_BYTES;
-use run_tables::tables::ALL_RUNS;
-use run_tables::tables::fill_runs;
+use tables::preparing::prepare_runs;
 ghost use mathlib.Core.Path.{_≡_};
 ghost use Prim.Native.Nat.{suc, _+_, _≤_, _<_};
 ghost use Rattle.spec.specs.Lists.{accepted};
@@ -24,8 +23,7 @@ ghost use Rattle.spec.specs.Instance.{instanceOf};
 ghost use Rattle.spec.specs.Formula.{width, firstVar, base};
 ghost use Rattle.spec.specs.Held.{held};
 ghost use Rattle.spec.specs.Library.{meaningOf, askVariable};
-ghost use Rattle.run_tables.specs.Tables.{Passed};
-ghost use Rattle.run_tables.specs.Ready.{Counted};
+ghost use Rattle.tables.specs.Ready.{Counted};
 ghost use Rattle.gentupag.specs.Answers.{variableAnswer};
 
 // The answer for a variable of some kind.
@@ -46,17 +44,17 @@ fn stands_for(kind: usize, train: usize, interval: usize, item: usize) -> Variab
 // variable: a run, gone, or the claim of a segment.
 fn in_interval(
     b: Book,
-    runs: [usize; 8],
+    counts: Counts,
     train: usize,
     interval: usize,
     first: usize,
     at: usize,
 ) -> Variable
-    requires { ⌜ Counted b runs × (train < b .«train_count») × (interval < b .intervals)
+    requires { ⌜ Counted b counts × (train < b .«train_count») × (interval < b .intervals)
         × (first ≡ base (instanceOf (held b)) train interval) × (first ≤ at) × (at < first + width (instanceOf (held b)) train) ⌝ }
     ensures { λ r. ⌜ r ≡ variableAnswer (accepted (meaningOf (instanceOf (held b)) (suc at))) ⌝ }
 {
-    let n = runs[train];
+    let n = counts[train];
     let gone = gone_variable(first, n);
     if at < gone {
         return stands_for(IS_RUN, train, interval, at - first);
@@ -69,23 +67,23 @@ fn in_interval(
 
 // What the variable `at` of a train stands for. The train has as many variables in each interval as lie
 // before its second one.
-fn in_train(b: Book, runs: [usize; 8], train: usize, at: usize) -> Variable
-    requires { ⌜ Counted b runs × (train < b .«train_count») × (firstVar (instanceOf (held b)) train ≤ at)
+fn in_train(b: Book, counts: Counts, train: usize, at: usize) -> Variable
+    requires { ⌜ Counted b counts × (train < b .«train_count») × (firstVar (instanceOf (held b)) train ≤ at)
         × (at < firstVar (instanceOf (held b)) (train + 1)) ⌝ }
     ensures { λ r. ⌜ r ≡ variableAnswer (accepted (meaningOf (instanceOf (held b)) (suc at))) ⌝ }
 {
-    let n = runs[train];
+    let n = counts[train];
     let segments = b.segment_count;
-    let first = first_variable(b, runs, train);
+    let first = first_variable(b, counts, train);
     let interval = (at - first) / next_interval(0, n, segments);
     let start = base_from(first, n, segments, interval);
-    in_interval(b, runs, train, interval, start, at)
+    in_interval(b, counts, train, interval, start, at)
 }
 
 // What variable v stands for, of a book whose runs were counted. The borders come first, then the
 // trains: v belongs to the first train whose variables end behind it.
-fn variable_by(b: Book, runs: [usize; 8], v: usize) -> Variable
-    requires { ⌜ Counted b runs ⌝ }
+fn variable_by(b: Book, counts: Counts, v: usize) -> Variable
+    requires { ⌜ Counted b counts ⌝ }
     ensures { λ r. ⌜ r ≡ variableAnswer (accepted (meaningOf (instanceOf (held b)) v)) ⌝ }
 {
     if v == 0 {
@@ -98,32 +96,23 @@ fn variable_by(b: Book, runs: [usize; 8], v: usize) -> Variable
     let trains = b.train_count;
     let mut train = 0;
     while train < trains {
-        if at < first_variable(b, runs, train + 1) {
-            return in_train(b, runs, train, at);
+        if at < first_variable(b, counts, train + 1) {
+            return in_train(b, counts, train, at);
         }
         train += 1;
     }
     stands_for(NO_VARIABLE, 0, 0, 0)
 }
 
-// The same, with the runs counted first.
-fn variable_for(b: Book, v: usize) -> Variable
-    requires { ⌜ Passed b ⌝ }
-    ensures { λ r. ⌜ r ≡ variableAnswer (accepted (meaningOf (instanceOf (held b)) v)) ⌝ }
-{
-    let mut rows = [0u8; ALL_BYTES];
-    let mut sizes = [0u8; ALL_RUNS];
-    let runs = fill_runs(b, &mut rows, &mut sizes);
-    variable_by(b, runs, v)
-}
-
 // What variable v of the book that the bytes hold stands for, v counted from 1.
 pub fn variable_of(book: &[u8], v: usize) -> Variable
     ensures { λ r. ⌜ r ≡ variableAnswer (askVariable (now (book .entry)) v) ⌝ }
 {
-    let r = read_book(book);
-    let answer = r.answer;
-    let b = r.book;
+    let mut runs = [0u8; TABLE_BYTES];
+    let read = prepare_runs(book, &mut runs);
+    let b = read.book;
+    let counts = read.counts;
+    let answer = read.answer;
     match answer {
         Answer::Refused(number, detail) => Variable {
             number,
@@ -133,6 +122,6 @@ pub fn variable_of(book: &[u8], v: usize) -> Variable
             interval: 0,
             item: 0,
         },
-        Answer::Accepted => variable_for(b, v),
+        Answer::Accepted => variable_by(b, counts, v),
     }
 }

@@ -16,8 +16,8 @@ use Rattle.spec.specs.Held.{held}
 use Rattle.laws.proofs.Tests.{bool-ext, ltb-iff, leb-iff}
 use Rattle.laws.proofs.Rows.{all-map}
 use Rattle.laws.proofs.Parts.{singles}
-use Rattle.run_tables.specs.Tables.{Passed}
-use Rattle.run_tables.proofs.Small.{nodes-is, intervals-is}
+use Rattle.tables.specs.Tables.{Passed}
+use Rattle.tables.proofs.Small.{nodes-is, intervals-is}
 
 -- a train's moves are one behind another, behind those of the trains before it
 module _ (I : Instance) where

@@ -1,3 +1,4 @@
-// Where things lie: the formula's variables, and a plan's moves.
+// Where things lie: the formula's variables, their blocks, and a plan's moves.
+pub mod blocks;
 pub mod moves;
 pub mod numbering;

@@ -3,6 +3,7 @@
 use frames::bytes::all_below;
 use frames::pair;
 use model::Book;
+use model::Counts;
 ghost use mathlib.Core.Path.{_≡_};
 ghost use Prim.Native.Nat.{_≤_, _<_};
 ghost use lib.ListN.{length};
@@ -11,8 +12,8 @@ ghost use Rattle.spec.specs.Lists.{all, upTo};
 ghost use Rattle.spec.specs.Instance.{instanceOf};
 ghost use Rattle.spec.specs.Plan.{isGone, ifRun, isMove, moveOf, moveAt, planOf, planLength, planFits};
 ghost use Rattle.spec.specs.Held.{held};
-ghost use Rattle.run_tables.specs.Tables.{Passed};
-ghost use Rattle.run_tables.specs.Ready.{Counted};
+ghost use Rattle.tables.specs.Tables.{Passed};
+ghost use Rattle.tables.specs.Ready.{Counted};
 ghost use Rattle.layout.specs.Moves.{heldMove};
 
 // The numbers that stand for absent and gone in a plan's bytes; all others are runs.
@@ -107,15 +108,15 @@ fn train_fits(b: Book, plan: &[u8], train: usize, n: usize) -> bool
 }
 
 // Whether every train's moves are its own.
-fn moves_fit(b: Book, runs: [usize; 8], plan: &[u8]) -> bool
-    requires { ⌜ Counted b runs × (length (now plan) ≡ planLength (instanceOf (held b))) ⌝ }
+fn moves_fit(b: Book, counts: Counts, plan: &[u8]) -> bool
+    requires { ⌜ Counted b counts × (length (now plan) ≡ planLength (instanceOf (held b))) ⌝ }
     ensures { λ r. ⌜ r ≡ all (λ i. all (λ t. isMove (instanceOf (held b)) i (planOf (instanceOf (held b)) (now (plan .entry)) .move i t))
         (upTo (instanceOf (held b) .intervals))) (upTo (instanceOf (held b) .trains)) ⌝ }
 {
     let trains = b.train_count;
     let mut i = 0;
     while i < trains {
-        if !train_fits(b, plan, i, runs[i]) {
+        if !train_fits(b, plan, i, counts[i]) {
             return false;
         }
         i += 1;
@@ -124,13 +125,13 @@ fn moves_fit(b: Book, runs: [usize; 8], plan: &[u8]) -> bool
 }
 
 // 15: whether the bytes are a plan's.
-pub fn plan_fits(b: Book, runs: [usize; 8], plan: &[u8]) -> bool
-    requires { ⌜ Counted b runs ⌝ }
+pub fn plan_fits(b: Book, counts: Counts, plan: &[u8]) -> bool
+    requires { ⌜ Counted b counts ⌝ }
     ensures { λ r. ⌜ r ≡ planFits (instanceOf (held b)) (now (plan .entry)) ⌝ }
 {
     let nodes = b.node_count;
     if plan.len() != plan_length(b) {
         return false;
     }
-    all_below(&plan[0..nodes], 0, 2) && moves_fit(b, runs, plan)
+    all_below(&plan[0..nodes], 0, 2) && moves_fit(b, counts, plan)
 }

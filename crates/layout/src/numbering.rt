@@ -3,12 +3,14 @@
 // a train with n runs, run r is at base + r, gone at base + n, and the claims lie from base + n + 1 on.
 // Assumes nothing.
 use model::Book;
+use model::Counts;
 ghost use mathlib.Core.Path.{_≡_};
 ghost use Prim.Native.Nat.{_+_, _*_, _^_, _≤_, _<_};
 ghost use Rattle.spec.specs.Instance.{instanceOf};
 ghost use Rattle.spec.specs.Formula.{firstVar, base, claimVar, variables};
 ghost use Rattle.spec.specs.Held.{held};
-ghost use Rattle.run_tables.specs.Ready.{Counted};
+ghost use Rattle.tables.specs.Ready.{Counted};
+ghost use Rattle.layout.specs.Blocks.{firstMost, baseMost, blockRoom};
 
 // Gone's variable in the interval whose first variable is `base`, of a train with n runs.
 pub fn gone_variable(base: usize, n: usize) -> usize
@@ -45,51 +47,51 @@ fn width(n: usize, segments: usize) -> usize
 
 // The first variable of an interval of a train with n runs, whose own first variable is `first`.
 pub fn base_from(first: usize, n: usize, segments: usize, interval: usize) -> usize
-    requires { ⌜ (first ≤ 168296544) × (n ≤ 256) × (segments ≤ 64) × (interval ≤ 65536) ⌝ }
-    ensures { λ r. ⌜ (r ≡ first + interval * (n + 1 + segments)) × (r < 800000000) ⌝ }
+    requires { ⌜ (first ≤ firstMost) × (n ≤ 256) × (segments ≤ 64) × (interval ≤ 65536) ⌝ }
+    ensures { λ r. ⌜ (r ≡ first + interval * (n + 1 + segments)) × (r ≤ baseMost) ⌝ }
 {
     first + interval * width(n, segments)
 }
 
 // The first variable of a train: those of the borders and of the trains before come before it.
-pub fn first_variable(b: Book, runs: [usize; 8], train: usize) -> usize
-    requires { ⌜ Counted b runs × (train ≤ b .«train_count») ⌝ }
+pub fn first_variable(b: Book, counts: Counts, train: usize) -> usize
+    requires { ⌜ Counted b counts × (train ≤ b .«train_count») ⌝ }
     ensures { λ r. ⌜ r ≡ firstVar (instanceOf (held b)) train ⌝ }
 {
     let mut first = b.node_count;
     let mut j = 0;
     while j < train {
-        first = base_from(first, runs[j], b.segment_count, b.intervals);
+        first = base_from(first, counts[j], b.segment_count, b.intervals);
         j += 1;
     }
     first
 }
 
 // How many variables the formula has: those before a train behind the last.
-pub fn variable_count(b: Book, runs: [usize; 8]) -> usize
-    requires { ⌜ Counted b runs ⌝ }
+pub fn variable_count(b: Book, counts: Counts) -> usize
+    requires { ⌜ Counted b counts ⌝ }
     ensures { λ r. ⌜ r ≡ variables (instanceOf (held b)) ⌝ }
 {
-    first_variable(b, runs, b.train_count)
+    first_variable(b, counts, b.train_count)
 }
 
 // The first variable of a train's interval.
-fn base_of(b: Book, runs: [usize; 8], train: usize, interval: usize) -> usize
-    requires { ⌜ Counted b runs × (train < b .«train_count») × (interval < b .intervals) ⌝ }
-    ensures { λ r. ⌜ (r ≡ base (instanceOf (held b)) train interval) × (r < 800000000) ⌝ }
+fn base_of(b: Book, counts: Counts, train: usize, interval: usize) -> usize
+    requires { ⌜ Counted b counts × (train < b .«train_count») × (interval < b .intervals) ⌝ }
+    ensures { λ r. ⌜ (r ≡ base (instanceOf (held b)) train interval) × (r ≤ baseMost) ⌝ }
 {
     base_from(
-        first_variable(b, runs, train),
-        runs[train],
+        first_variable(b, counts, train),
+        counts[train],
         b.segment_count,
         interval,
     )
 }
 
 // The first of a train's claims in an interval.
-pub fn first_claim(b: Book, runs: [usize; 8], train: usize, interval: usize) -> usize
-    requires { ⌜ Counted b runs × (train < b .«train_count») × (interval < b .intervals) ⌝ }
-    ensures { λ r. ⌜ (r ≡ claimVar (instanceOf (held b)) train interval 0) × (r < 900000000) ⌝ }
+pub fn first_claim(b: Book, counts: Counts, train: usize, interval: usize) -> usize
+    requires { ⌜ Counted b counts × (train < b .«train_count») × (interval < b .intervals) ⌝ }
+    ensures { λ r. ⌜ (r ≡ claimVar (instanceOf (held b)) train interval 0) × (r < blockRoom) ⌝ }
 {
-    claims_from(base_of(b, runs, train, interval), runs[train])
+    claims_from(base_of(b, counts, train, interval), counts[train])
 }

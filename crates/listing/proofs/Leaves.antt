@@ -1,4 +1,4 @@
--- What grows by one: a run of stores by a store, the path that a struct holds by a directed segment, and the tables of runs by a
+-- What grows by one: a run of stores by a store, the path that a struct holds by a directed segment, and a table of runs by a
 -- run, where there is room. Assumes nothing.
 use Rattle.laws.proofs.Arrays.{padded-next}
 use mathlib.Core.Path.{_≡_, refl, sym, ap, ap₂, _∙_}
@@ -13,7 +13,7 @@ use Rattle.spec.specs.Lists.{Bytes, one, each, lastOr, upTo}
 use Rattle.spec.specs.Held.{padded}
 use Rattle.listing.specs.declared.Path.{Path}
 use Rattle.laws.proofs.Parts.{Part, upTo-suc, length-upTo}
-use Rattle.listing.specs.Listed.{packedPath, keptOf, rowsAfter, sizesAfter}
+use Rattle.listing.specs.Listed.{packedPath, entryAt, entryOf, keptOf, runsAfter}
 
 -- ---- a run of stores
 
@@ -86,7 +86,7 @@ path-next p ds d e l =
     let stored : set (p .at) (p .n) d ≡ padded 16 0 (ds ++ one d) = rw (row, size) (padded-next 16 (length ds) 0 d ds refl (omega arith)) in
     ap₂ (λ (a : List ℕ) (k : ℕ). record { at = a; n = k }) stored sized
 
--- ---- the tables of runs
+-- ---- a table of runs
 
 -- one run behind the first `count`, where there is room for it, and where there is none
 module _ (count : ℕ) (ds : List ℕ) (old : Bytes) where
@@ -96,25 +96,17 @@ module _ (count : ℕ) (ds : List ℕ) (old : Bytes) where
       let e : 256 - count ≡ suc (255 - count) = omega arith in
       ap (λ (n : ℕ). take n (one ds)) e ∙ ap (λ (r : List (List ℕ)). ds ∷ r) (take-nil (255 - count))
 
-  pub rows-kept : count < 256 → rowsAfter count (one ds) old ≡ sets old (count * 16) (padded 16 0 ds)
-  unfolding rowsAfter each
-  rows-kept l =
-      ap (λ (r : List (List ℕ)). sets old (count * 16) (each r (padded 16 0))) (kept-one l)
-      ∙ ap (sets old (count * 16)) (append-nil (padded 16 0 ds))
-
-  pub sizes-kept : count < 256 → sizesAfter count (one ds) old ≡ set old count (length ds)
-  unfolding sizesAfter
-  sizes-kept l = ap (λ (r : List (List ℕ)). sets old count (map length r)) (kept-one l)
+  pub runs-kept : count < 256 → runsAfter count (one ds) old ≡ sets old (entryAt count) (entryOf ds)
+  unfolding runsAfter each
+  runs-kept l =
+      ap (λ (r : List (List ℕ)). sets old (entryAt count) (each r entryOf)) (kept-one l)
+      ∙ ap (sets old (entryAt count)) (append-nil (entryOf ds))
 
 module _ (count : ℕ) (runs : List (List ℕ)) (old : Bytes) (full : 256 ≤ count) where
   kept-none : keptOf count runs ≡ []
   unfolding keptOf
   kept-none = let e : 256 - count ≡ 0 = omega arith in ap (λ (n : ℕ). take n runs) e
 
-  pub rows-full : rowsAfter count runs old ≡ old
-  unfolding rowsAfter each
-  rows-full = ap (λ (r : List (List ℕ)). sets old (count * 16) (each r (padded 16 0))) kept-none
-
-  pub sizes-full : sizesAfter count runs old ≡ old
-  unfolding sizesAfter
-  sizes-full = ap (λ (r : List (List ℕ)). sets old count (map length r)) kept-none
+  pub runs-full : runsAfter count runs old ≡ old
+  unfolding runsAfter each
+  runs-full = ap (λ (r : List (List ℕ)). sets old (entryAt count) (each r entryOf)) kept-none

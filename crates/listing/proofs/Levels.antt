@@ -1,10 +1,10 @@
 -- Paths by their length: extending in two steps is extending at once, so the paths of a further length are the places, each extended
--- by what is missing; the places are read back from the rows. Assumes nothing.
+-- by what is missing; the places are read back from the table. Assumes nothing.
 use mathlib.Core.Path.{_≡_, refl, sym, ap, ap₂, _∙_, subst}
 use mathlib.Core.Logic.{_↔_}
 use mathlib.Core.Bool.{Bool, true, false, _&&_}
 use Prim.Native.Nat.{ℕ, zero, suc, _+_, _*_, _-_, _≤_, _<_}
-use native.Mathlib.Nat.{zero-add, suc-add}
+use native.Mathlib.Nat.{add-zero, zero-add, suc-add}
 use native.Mathlib.Omega.{arith}
 use mathlib.Core.List.{List, [], _∷_, _++_, map, append-nil, append-assoc}
 use lib.ListN.{length, getD, replicate, length-append, length-map}
@@ -16,13 +16,14 @@ use Rattle.spec.specs.Held.{padded}
 use Rattle.spec.specs.Runs.{runsOf, pathsOf}
 use Rattle.laws.proofs.Tests.{and-iff, eqb-iff, ltb-iff, leb-iff, all-iff, all-at, all-upTo}
 use Rattle.laws.proofs.Rows.{all-one, all-each, all-map}
-use Rattle.laws.proofs.Parts.{Part, part-here, part-behind, part-in, each-append, each-mem-same, length-upTo, map-at, map-same}
+use Rattle.laws.proofs.Parts.{Part, part-here, part-behind, part-in, part-at, each-append, each-mem-same, length-upTo, map-at, map-same}
 use Rattle.listing.specs.Listed.{successorsBy, SuccessorsHeld, Covered, extendBy, pathsBy}
-use Rattle.listing.specs.Listed.{runIn, placesIn, PlacesCovered, longerBy, furtherBy, rowsAfter, countAfter}
+use Rattle.listing.specs.Listed.{placeIn, placesIn, PlacesCovered, longerBy, furtherBy}
+use Rattle.listing.specs.Listed.{trainBytes, entryAt, entryOf, runsAfter, countAfter}
 use Rattle.listing.proofs.Leaves.{last-append, part-sets, part-slice}
 use Rattle.listing.proofs.Lists.{short, unless, unless-all, onward, each-nothing, each-next, each-short, extend-short}
-use Rattle.listing.proofs.Lists.{kept-first, length-padded, length-rows, Listed}
-use Rattle.listing.proofs.Successors.{paths-same, successors-below, run-short, run-stays}
+use Rattle.listing.proofs.Lists.{kept-first, length-entry, length-entries, Listed}
+use Rattle.listing.proofs.Successors.{paths-same, successors-below, place-short, place-stays}
 
 -- ---- rows of rows
 
@@ -127,13 +128,13 @@ module _ {b : Book} {table fans : Bytes} (h : SuccessorsHeld b table fans) where
       (λ d k. extend-fits (l - 1) l (one d) (omega arith) (omega arith)))
 
   -- places that fit may be followed from their last segments on
-  pub places-covered : (rows : Bytes) (l n : ℕ) → T (all (fits b l) (placesIn rows l n)) → (r : ℕ) → r < n
-      → Covered table fans (lastOr 0 (runIn rows l r))
+  pub places-covered : (kept : Bytes) (l n : ℕ) → T (all (fits b l) (placesIn kept l n)) → (r : ℕ) → r < n
+      → Covered table fans (lastOr 0 (placeIn kept l r))
   unfolding placesIn
-  places-covered rows l n k r m = record {
+  places-covered kept l n k r m = record {
     book = b;
     held = h;
-    below = fits-iff b l (runIn rows l r) .0 (all-upTo (λ r. fits b l (runIn rows l r)) n .0 (rw all-map at k) r m) .1;
+    below = fits-iff b l (placeIn kept l r) .0 (all-upTo (λ r. fits b l (placeIn kept l r)) n .0 (rw all-map at k) r m) .1;
   }
 
 -- what such paths pass
@@ -148,75 +149,86 @@ module _ (b : Book) (n : ℕ) (paths : List (List ℕ)) (h : T (all (fits b n) p
   fits-short k = each-fits short (λ p e _. leb-iff (length p) 16 .1 (omega arith))
 
 -- the first runs stay where further ones are listed behind them, and so may be followed still
-module _ {n : ℕ} {rows₀ sizes₀ : Bytes} {runs : List (List ℕ)} {found : ℕ} {rows sizes : Bytes}
-    (more : Listed n rows₀ sizes₀ runs found rows sizes) (l : ℕ) (fit : l ≤ 16) where
-  pub listed-stays : (r : ℕ) → r < n → runIn rows l r ≡ runIn rows₀ l r
-  listed-stays r h = ap (λ (rows : Bytes). runIn rows l r) (more .filled) ∙ run-stays n runs rows₀ l r fit h
+module _ {n : ℕ} {kept₀ : Bytes} {runs : List (List ℕ)} {found : ℕ} {kept : Bytes}
+    (more : Listed n kept₀ runs found kept) (l : ℕ) (fit : l ≤ 16) where
+  pub listed-stays : (r : ℕ) → r < n → placeIn kept l r ≡ placeIn kept₀ l r
+  listed-stays r h = ap (λ (kept : Bytes). placeIn kept l r) (more .filled) ∙ place-stays n runs kept₀ l r fit h
 
-  pub places-stay : placesIn rows l n ≡ placesIn rows₀ l n
+  pub places-stay : placesIn kept l n ≡ placesIn kept₀ l n
   unfolding placesIn
-  places-stay = map-same (runIn rows l) (runIn rows₀ l) n listed-stays
+  places-stay = map-same (placeIn kept l) (placeIn kept₀ l) n listed-stays
 
-  pub covered-stay : {table fans : Bytes} → PlacesCovered table fans rows₀ l n → PlacesCovered table fans rows l n
+  pub covered-stay : {table fans : Bytes} → PlacesCovered table fans kept₀ l n → PlacesCovered table fans kept l n
   covered-stay c few r h = rw (listed-stays r h) (c few r h)
 
 -- the paths that extend places
-module _ (table fans rows : Bytes) (l : ℕ) where
+module _ (table fans kept : Bytes) (l : ℕ) where
   -- by j segments, the place with a number
   abbrev pub from : ℕ → ℕ → List (List ℕ)
-  from j r = extendBy table fans j (runIn rows l r)
+  from j r = extendBy table fans j (placeIn kept l r)
 
-  pub longer-from : (n j : ℕ) → longerBy table fans (placesIn rows l n) j ≡ each (upTo n) (from j)
+  pub longer-from : (n j : ℕ) → longerBy table fans (placesIn kept l n) j ≡ each (upTo n) (from j)
   unfolding longerBy placesIn
-  longer-from n j = each-map (upTo n) (runIn rows l) (extendBy table fans j)
+  longer-from n j = each-map (upTo n) (placeIn kept l) (extendBy table fans j)
 
   pub from-short : (n j : ℕ) → l + j ≤ 16 → T (all short (each (upTo n) (from j)))
   from-short n j h =
-      each-short (from j) n (λ r _. extend-short table fans j (runIn rows l r) (omega (arith, run-short rows l r)))
+      each-short (from j) n (λ r _. extend-short table fans j (placeIn kept l r) (omega (arith, place-short kept l r)))
 
-  pub further-short : (n k : ℕ) → l + k ≤ 16 → T (all short (furtherBy table fans (placesIn rows l n) k))
+  pub further-short : (n k : ℕ) → l + k ≤ 16 → T (all short (furtherBy table fans (placesIn kept l n) k))
   unfolding furtherBy
   further-short n k h =
-      each-short (λ j. longerBy table fans (placesIn rows l n) (j + 1)) k
+      each-short (λ j. longerBy table fans (placesIn kept l n) (j + 1)) k
       (λ j m. rw (longer-from n (j + 1)) (from-short n (j + 1) (omega arith)))
 
 -- ---- what is kept is read back
 
--- the row of the run with a number
-pub part-row : (xs : List (List ℕ)) (r : ℕ) → T (all short xs) → r < length xs
-    → Part (each xs (padded 16 0)) (16 * r) (padded 16 0 (getD xs r []))
+-- the entry of the run with a number
+part-entry : (xs : List (List ℕ)) (r : ℕ) → T (all short xs) → r < length xs → Part (each xs entryOf) (entryAt r) (entryOf (getD xs r []))
 unfolding all each
-part-row [] r s h = let no′ : ⊥ = omega arith in absurd no′
-part-row (x ∷ xs) zero s h = part-here (padded 16 0 x) (each xs (padded 16 0))
-part-row (x ∷ xs) (suc r) s h =
+part-entry [] r s h = let no′ : ⊥ = omega arith in absurd no′
+part-entry (x ∷ xs) zero s h = part-here (entryOf x) (each xs entryOf)
+part-entry (x ∷ xs) (suc r) s h =
     let p = and-iff (short x) (all short xs) .0 s in
-    let e : length (padded 16 0 x) + 16 * r ≡ 16 * suc r = omega (arith, length-padded x (leb→le (length x) 16 (p .0))) in
-    rw e at (part-in (part-behind (padded 16 0 x) (each xs (padded 16 0))) (part-row xs r (p .1) (omega arith)))
+    let e : length (entryOf x) + entryAt r ≡ entryAt (suc r) = omega (arith, length-entry x (p .0)) in
+    rw e at (part-in (part-behind (entryOf x) (each xs entryOf)) (part-entry xs r (p .1) (omega arith)))
 
-module _ (n : ℕ) (runs : List (List ℕ)) (rows : Bytes) (room : length rows ≡ 4096) (few : n + length runs ≤ 256)
-    (fit : T (all short runs)) where
-  -- a run that was kept behind the first n is a part of the rows
-  pub part-kept : (r : ℕ) → r < length runs → Part (rowsAfter n runs rows) (16 * (n + r)) (getD runs r [])
-  unfolding rowsAfter padded
-  part-kept r h =
-      let run = getD runs r [] in
-      let stored = part-sets (each runs (padded 16 0)) rows (n * 16) (omega (arith, length-rows runs fit)) in
-      let here = part-in (part-in stored (part-row runs r fit h)) (part-here run (replicate (16 - length run) 0)) in
-      let e : n * 16 + 16 * r + 0 ≡ 16 * (n + r) = omega arith in
-      rw (kept-first n runs [] few) (rw e at here)
+module _ (n : ℕ) (runs : List (List ℕ)) (kept : Bytes) (room : length kept ≡ trainBytes) (few : n + length runs ≤ 256)
+    (fit : T (all short runs)) (r : ℕ) (h : r < length runs) where
+  abbrev run : List ℕ
+  run = getD runs r []
 
--- runs that were kept from the first row on are read back, where they are of one length
-pub read-back : (runs : List (List ℕ)) (rows : Bytes) (l : ℕ) → length rows ≡ 4096 → length runs ≤ 256 → T (all short runs)
-    → T (all (λ run. eqb (length run) l) runs) → placesIn (rowsAfter 0 runs rows) l (countAfter 0 runs) ≡ runs
-unfolding placesIn runIn countAfter
-read-back runs rows l room few fit long =
+  -- the entry of a run that was kept behind the first n is a part of the table
+  entry-kept : Part (runsAfter n runs kept) (entryAt (n + r)) (entryOf run)
+  unfolding runsAfter
+  entry-kept =
+      let stored = part-sets (each runs entryOf) kept (entryAt n) (omega (arith, length-entries runs fit)) in
+      let e : entryAt n + entryAt r ≡ entryAt (n + r) = omega arith in
+      rw (kept-first n runs [] few) (rw e at (part-in stored (part-entry runs r fit h)))
+
+  -- it tells how long the run is, and then the run
+  pub size-kept : getD (runsAfter n runs kept) (entryAt (n + r)) 0 ≡ length run
+  unfolding entryOf
+  size-kept = rw add-zero at (part-at entry-kept 0 0 (omega arith))
+
+  pub part-kept : Part (runsAfter n runs kept) (entryAt (n + r) + 1) run
+  unfolding entryOf padded
+  part-kept =
+      let behind = part-behind (one (length run)) (padded 16 0 run) in
+      rw add-zero at (part-in (part-in entry-kept behind) (part-here run (replicate (16 - length run) 0)))
+
+-- runs that were kept from the first entry on are read back, where they are of one length
+pub read-back : (runs : List (List ℕ)) (kept : Bytes) (l : ℕ) → length kept ≡ trainBytes → length runs ≤ 256 → T (all short runs)
+    → T (all (λ run. eqb (length run) l) runs) → placesIn (runsAfter 0 runs kept) l (countAfter 0 runs) ≡ runs
+unfolding placesIn placeIn countAfter
+read-back runs kept l room few fit long =
     let e : countAfter 0 runs ≡ length runs = omega arith in
-    let place : ℕ → List ℕ = runIn (rowsAfter 0 runs rows) l in
+    let place : ℕ → List ℕ = placeIn (runsAfter 0 runs kept) l in
     let m = length-map (upTo (length runs)) place ∙ length-upTo (length runs) in
     ap (λ (k : ℕ). map place (upTo k)) e
     ∙ ext-getD [] (map place (upTo (length runs))) runs m
     (λ r h.
     let k : r < length runs = omega arith in
     map-at place (length runs) r [] k
-    ∙ part-slice l (rw zero-add at (part-kept 0 runs rows room (omega arith) fit r k))
+    ∙ part-slice l (rw zero-add at (part-kept 0 runs kept room (omega arith) fit r k))
     (eqb-iff (length (getD runs r [])) l .0 (all-at (λ run. eqb (length run) l) runs r [] long k)))

@@ -1,4 +1,4 @@
--- Run lists in the lent tables: runs that are kept behind runs that were kept, a listing an element at a time, and how long listed
+-- Run lists in the lent table: runs that are kept behind runs that were kept, a listing an element at a time, and how long listed
 -- paths are. Assumes nothing.
 use mathlib.Core.Path.{_≡_, refl, sym, ap, ap₂, _∙_, subst}
 use mathlib.Core.Logic.{_⊎_, inl, inr, ⊎-elim}
@@ -21,8 +21,9 @@ use Rattle.laws.proofs.Tests.{and-iff, leb-iff, all-iff, all-upTo, le-or-lt}
 use Rattle.laws.proofs.Rows.{all-one, all-each}
 use Rattle.laws.proofs.Parts.{upTo-split, upTo-suc, each-append}
 use Rattle.listing.specs.declared.Path.{Path}
-use Rattle.listing.specs.Listed.{pathOf, packedPath, successorsBy, extendBy, keptOf, rowsAfter, sizesAfter, countAfter}
-use Rattle.listing.proofs.Leaves.{rows-full, sizes-full}
+use Rattle.listing.specs.Listed.{pathOf, packedPath, successorsBy, extendBy}
+use Rattle.listing.specs.Listed.{entryBytes, entryAt, entryOf, keptOf, runsAfter, countAfter}
+use Rattle.listing.proofs.Leaves.{runs-full}
 
 -- ---- stores in a row
 
@@ -56,26 +57,25 @@ pub length-padded : (run : List ℕ) → length run ≤ 16 → length (padded 16
 unfolding padded
 length-padded run h = omega (arith, length-append run (replicate (16 - length run) 0), length-replicate {A = ℕ} (16 - length run) 0)
 
-pub length-rows : (xs : List (List ℕ)) → T (all short xs) → length (each xs (padded 16 0)) ≡ length xs * 16
+pub length-entry : (run : List ℕ) → T (short run) → length (entryOf run) ≡ entryBytes
+unfolding entryOf
+length-entry run h = omega (arith, length-padded run (leb→le (length run) 16 h))
+
+pub length-entries : (xs : List (List ℕ)) → T (all short xs) → length (each xs entryOf) ≡ entryAt (length xs)
 unfolding all each
-length-rows [] h = refl
-length-rows (x ∷ xs) h =
+length-entries [] h = refl
+length-entries (x ∷ xs) h =
     let p = and-iff (short x) (all short xs) .0 h in
-    omega
-    (arith, length-append (padded 16 0 x) (each xs (padded 16 0)), length-padded x (leb→le (length x) 16 (p .0)), length-rows xs (p .1))
+    omega (arith, length-append (entryOf x) (each xs entryOf), length-entry x (p .0), length-entries xs (p .1))
 
 -- with no runs, nothing changes
 pub count-none : (n : ℕ) → n ≤ 257 → countAfter n [] ≡ n
 unfolding countAfter
 count-none n h = omega arith
 
-pub rows-none : (n : ℕ) (old : Bytes) → rowsAfter n [] old ≡ old
-unfolding rowsAfter keptOf each
-rows-none n old = rw (take-nil {A = List ℕ} (256 - n))
-
-pub sizes-none : (n : ℕ) (old : Bytes) → sizesAfter n [] old ≡ old
-unfolding sizesAfter keptOf
-sizes-none n old = rw (take-nil {A = List ℕ} (256 - n))
+pub runs-none : (n : ℕ) (old : Bytes) → runsAfter n [] old ≡ old
+unfolding runsAfter keptOf each
+runs-none n old = rw (take-nil {A = List ℕ} (256 - n))
 
 pub count-one : (n : ℕ) (run : List ℕ) → n ≤ 256 → n + 1 ≡ countAfter n (one run)
 unfolding countAfter
@@ -86,14 +86,10 @@ pub count-full : (xs : List (List ℕ)) → countAfter 257 xs ≡ 257
 unfolding countAfter
 count-full xs = omega arith
 
--- the tables keep their lengths
-pub length-rowsAfter : (n : ℕ) (xs : List (List ℕ)) (old : Bytes) → length (rowsAfter n xs old) ≡ length old
-unfolding rowsAfter
-length-rowsAfter n xs old = length-sets old (n * 16) (each (keptOf n xs) (padded 16 0))
-
-pub length-sizesAfter : (n : ℕ) (xs : List (List ℕ)) (old : Bytes) → length (sizesAfter n xs old) ≡ length old
-unfolding sizesAfter
-length-sizesAfter n xs old = length-sets old n (map length (keptOf n xs))
+-- the table keeps its length
+pub length-runsAfter : (n : ℕ) (xs : List (List ℕ)) (old : Bytes) → length (runsAfter n xs old) ≡ length old
+unfolding runsAfter
+length-runsAfter n xs old = length-sets old (entryAt n) (each (keptOf n xs) entryOf)
 
 pub countAfter-le : (n : ℕ) (xs : List (List ℕ)) → countAfter n xs ≤ 257
 unfolding countAfter
@@ -131,46 +127,33 @@ module _ (n : ℕ) (xs ys : List (List ℕ)) where
     unfolding keptOf
     kept-over = take-append-le (256 - n) xs ys (omega arith)
 
-  pub rows-more : (old : Bytes) → T (all short xs) → rowsAfter (countAfter n xs) ys (rowsAfter n xs old) ≡ rowsAfter n (xs ++ ys) old
-  unfolding rowsAfter
-  rows-more old s = ⊎-elim fit over (le-or-lt (n + length xs) 256)
+  pub runs-more : (old : Bytes) → T (all short xs) → runsAfter (countAfter n xs) ys (runsAfter n xs old) ≡ runsAfter n (xs ++ ys) old
+  unfolding runsAfter
+  runs-more old s = ⊎-elim fit over (le-or-lt (n + length xs) 256)
     where
-      fit : n + length xs ≤ 256 → rowsAfter (countAfter n xs) ys (rowsAfter n xs old) ≡ rowsAfter n (xs ++ ys) old
+      fit : n + length xs ≤ 256 → runsAfter (countAfter n xs) ys (runsAfter n xs old) ≡ runsAfter n (xs ++ ys) old
       fit h =
-          let e : (n + length xs) * 16 ≡ n * 16 + length (each xs (padded 16 0)) = omega (arith, length-rows xs s) in
-          rw (count-fits h, kept-first h, kept-both h, each-append xs (keptOf (n + length xs) ys) (padded 16 0), e)
-          (sym (sets-append old (n * 16) (each xs (padded 16 0)) (each (keptOf (n + length xs) ys) (padded 16 0))))
+          let e : entryAt (n + length xs) ≡ entryAt n + length (each xs entryOf) = omega (arith, length-entries xs s) in
+          rw (count-fits h, kept-first h, kept-both h, each-append xs (keptOf (n + length xs) ys) entryOf, e)
+          (sym (sets-append old (entryAt n) (each xs entryOf) (each (keptOf (n + length xs) ys) entryOf)))
 
-      over : 256 < n + length xs → rowsAfter (countAfter n xs) ys (rowsAfter n xs old) ≡ rowsAfter n (xs ++ ys) old
-      over h = rw (count-over h, kept-over h) (rows-full 257 ys (rowsAfter n xs old) (omega arith))
-
-  pub sizes-more : (old : Bytes) → sizesAfter (countAfter n xs) ys (sizesAfter n xs old) ≡ sizesAfter n (xs ++ ys) old
-  unfolding sizesAfter
-  sizes-more old = ⊎-elim fit over (le-or-lt (n + length xs) 256)
-    where
-      fit : n + length xs ≤ 256 → sizesAfter (countAfter n xs) ys (sizesAfter n xs old) ≡ sizesAfter n (xs ++ ys) old
-      fit h =
-          rw (count-fits h, kept-first h, kept-both h, map-append length xs (keptOf (n + length xs) ys))
-          (sym (sets-append old n (map length xs) (map length (keptOf (n + length xs) ys)) ∙ simp length-map))
-
-      over : 256 < n + length xs → sizesAfter (countAfter n xs) ys (sizesAfter n xs old) ≡ sizesAfter n (xs ++ ys) old
-      over h = rw (count-over h, kept-over h) (sizes-full 257 ys (sizesAfter n xs old) (omega arith))
+      over : 256 < n + length xs → runsAfter (countAfter n xs) ys (runsAfter n xs old) ≡ runsAfter n (xs ++ ys) old
+      over h = rw (count-over h, kept-over h) (runs-full 257 ys (runsAfter n xs old) (omega arith))
 
 -- ---- a listing under way
 
--- the tables and the count, when `runs` were listed behind the first `count`
-pub record Listed (count : ℕ) (rows₀ sizes₀ : Bytes) (runs : List (List ℕ)) (found : ℕ) (rows sizes : Bytes) : Type 0 where
+-- the table and the count, when `runs` were listed behind the first `count`
+pub record Listed (count : ℕ) (kept₀ : Bytes) (runs : List (List ℕ)) (found : ℕ) (kept : Bytes) : Type 0 where
   pub counted : found ≡ countAfter count runs
-  pub filled : rows ≡ rowsAfter count runs rows₀
-  pub sized : sizes ≡ sizesAfter count runs sizes₀
+  pub filled : kept ≡ runsAfter count runs kept₀
 
 -- nothing yet
-pub listed-none : (count : ℕ) (rows sizes : Bytes) → count ≤ 257 → Listed count rows sizes [] count rows sizes
-listed-none count rows sizes h =
-    record { counted = sym (count-none count h); filled = sym (rows-none count rows); sized = sym (sizes-none count sizes) }
+pub listed-none : (count : ℕ) (kept : Bytes) → count ≤ 257 → Listed count kept [] count kept
+listed-none count kept h =
+    record { counted = sym (count-none count h); filled = sym (runs-none count kept) }
 
-module _ {count : ℕ} {rows₀ sizes₀ : Bytes} {runs : List (List ℕ)} {found : ℕ} {rows sizes : Bytes}
-    (l : Listed count rows₀ sizes₀ runs found rows sizes) where
+module _ {count : ℕ} {kept₀ : Bytes} {runs : List (List ℕ)} {found : ℕ} {kept : Bytes}
+    (l : Listed count kept₀ runs found kept) where
   pub listed-le : found ≤ 257
   listed-le = omega (arith, l .counted, countAfter-le count runs)
 
@@ -178,40 +161,34 @@ module _ {count : ℕ} {rows₀ sizes₀ : Bytes} {runs : List (List ℕ)} {foun
   unfolding countAfter
   listed-from h = omega (arith, l .counted)
 
-  pub listed-rows : length rows ≡ length rows₀
-  listed-rows = ap length (l .filled) ∙ length-rowsAfter count runs rows₀
-
-  pub listed-sizes : length sizes ≡ length sizes₀
-  listed-sizes = ap length (l .sized) ∙ length-sizesAfter count runs sizes₀
+  pub listed-long : length kept ≡ length kept₀
+  listed-long = ap length (l .filled) ∙ length-runsAfter count runs kept₀
 
   -- more, behind them
-  pub listed-more : {more : List (List ℕ)} {found′ : ℕ} {rows′ sizes′ : Bytes} → T (all short runs)
-      → Listed found rows sizes more found′ rows′ sizes′ → Listed count rows₀ sizes₀ (runs ++ more) found′ rows′ sizes′
+  pub listed-more : {more : List (List ℕ)} {found′ : ℕ} {kept′ : Bytes} → T (all short runs)
+      → Listed found kept more found′ kept′ → Listed count kept₀ (runs ++ more) found′ kept′
   listed-more {more} s k = record {
     counted = k .counted ∙ ap (λ (n : ℕ). countAfter n more) (l .counted) ∙ count-more count runs more;
-    filled = k .filled ∙ ap₂ (λ (n : ℕ) (r : Bytes). rowsAfter n more r) (l .counted) (l .filled) ∙ rows-more count runs more rows₀ s;
-    sized = k .sized ∙ ap₂ (λ (n : ℕ) (r : Bytes). sizesAfter n more r) (l .counted) (l .sized) ∙ sizes-more count runs more sizes₀;
+    filled = k .filled ∙ ap₂ (λ (n : ℕ) (r : Bytes). runsAfter n more r) (l .counted) (l .filled) ∙ runs-more count runs more kept₀ s;
   }
 
   -- at 257, it is the same whatever is listed
-  pub listed-any : (more : List (List ℕ)) → 257 ≤ count → Listed count rows₀ sizes₀ more found rows sizes
+  pub listed-any : (more : List (List ℕ)) → 257 ≤ count → Listed count kept₀ more found kept
   unfolding countAfter
   listed-any more h = record {
     counted = omega (arith, l .counted);
-    filled = l .filled ∙ rows-full count runs rows₀ (omega arith) ∙ sym (rows-full count more rows₀ (omega arith));
-    sized = l .sized ∙ sizes-full count runs sizes₀ (omega arith) ∙ sym (sizes-full count more sizes₀ (omega arith));
+    filled = l .filled ∙ runs-full count runs kept₀ (omega arith) ∙ sym (runs-full count more kept₀ (omega arith));
   }
 
   -- at 257, whatever more there is adds nothing
-  pub listed-full : (more : List (List ℕ)) → T (all short runs) → 257 ≤ found → Listed count rows₀ sizes₀ (runs ++ more) found rows sizes
+  pub listed-full : (more : List (List ℕ)) → T (all short runs) → 257 ≤ found → Listed count kept₀ (runs ++ more) found kept
   listed-full more s h =
       let e : found ≡ 257 = omega (arith, listed-le) in
       listed-more s
-      (subst (λ (n : ℕ). Listed n rows sizes more n rows sizes) (sym e)
+      (subst (λ (n : ℕ). Listed n kept more n kept) (sym e)
       (record {
         counted = sym (count-full more);
-        filled = sym (rows-full 257 more rows (omega arith));
-        sized = sym (sizes-full 257 more sizes (omega arith));
+        filled = sym (runs-full 257 more kept (omega arith));
       }))
 
 -- ---- rows of runs, an element at a time
@@ -236,19 +213,19 @@ module _ (f : ℕ → List (List ℕ)) where
   pub each-short : (n : ℕ) → ((i : ℕ) → i < n → T (all short (f i))) → T (all short (each (upTo n) f))
   each-short n s = rw all-each (all-upTo (λ i. all short (f i)) n .1 s)
 
-  module _ {count : ℕ} {rows₀ sizes₀ : Bytes} {d found : ℕ} {rows sizes : Bytes}
-      (l : Listed count rows₀ sizes₀ (each (upTo d) f) found rows sizes) (s : T (all short (each (upTo d) f))) where
+  module _ {count : ℕ} {kept₀ : Bytes} {d found : ℕ} {kept : Bytes}
+      (l : Listed count kept₀ (each (upTo d) f) found kept) (s : T (all short (each (upTo d) f))) where
     -- the runs of one element more
-    pub listed-next : {found′ : ℕ} {rows′ sizes′ : Bytes} → Listed found rows sizes (f d) found′ rows′ sizes′
-        → Listed count rows₀ sizes₀ (each (upTo (d + 1)) f) found′ rows′ sizes′
+    pub listed-next : {found′ : ℕ} {kept′ : Bytes} → Listed found kept (f d) found′ kept′
+        → Listed count kept₀ (each (upTo (d + 1)) f) found′ kept′
     listed-next k = rw each-next (listed-more l s k)
 
     -- one element more that has none
-    pub listed-skip : f d ≡ [] → Listed count rows₀ sizes₀ (each (upTo (d + 1)) f) found rows sizes
-    listed-skip e = listed-next (rw e (listed-none found rows sizes (listed-le l)))
+    pub listed-skip : f d ≡ [] → Listed count kept₀ (each (upTo (d + 1)) f) found kept
+    listed-skip e = listed-next (rw e (listed-none found kept (listed-le l)))
 
-    -- all elements are through, or the tables are full
-    pub listed-end : (n : ℕ) → d ≤ n → (n ≤ d) ⊎ (257 ≤ found) → Listed count rows₀ sizes₀ (each (upTo n) f) found rows sizes
+    -- all elements are through, or the table is full
+    pub listed-end : (n : ℕ) → d ≤ n → (n ≤ d) ⊎ (257 ≤ found) → Listed count kept₀ (each (upTo n) f) found kept
     listed-end n h (inl k) = let e : n ≡ d = omega arith in rw e l
     listed-end n h (inr k) =
         ⊎-elim

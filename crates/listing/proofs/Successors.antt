@@ -21,7 +21,7 @@ use Rattle.spec.specs.Runs.{leadsTo, goesOn, extend, pathsOf, directed}
 use Rattle.laws.proofs.Tests.{and-iff, ltb-iff, all-at, all-upTo, le-or-lt}
 use Rattle.laws.proofs.Parts.{length-upTo, each-append, each-same, map-at}
 use Rattle.listing.specs.Listed.{successors, successorRows, fansOf, successorsBy, SuccessorsHeld, Covered, extendBy, pathsBy}
-use Rattle.listing.specs.Listed.{runIn, keptOf, rowsAfter}
+use Rattle.listing.specs.Listed.{entryAt, entryOf, placeIn, keptOf, runsAfter}
 use Rattle.listing.proofs.Leaves.{last-append, part-slice, part-sets}
 use Rattle.listing.proofs.Lists.{each-nothing, each-next, getD-sets-in, unless, onward, held-segments}
 
@@ -124,20 +124,20 @@ module _ {ℓ} {A : Type ℓ} where
   pub slice-sets-below : (l : List A) (i : ℕ) (vs : List A) (a n : ℕ) → n ≤ i → slice a n (sets l i vs) ≡ slice a n l
   slice-sets-below l i vs a n h = ap (drop a) (take-sets-le l i vs n h)
 
--- a run in the rows is no longer than it should be, and stays where further runs are kept behind it
-pub run-short : (rows : Bytes) (size r : ℕ) → length (runIn rows size r) ≤ size
-unfolding runIn
-run-short rows size r = rw (length-drop, length-take) (omega arith)
+-- a place in a table of runs is no longer than it should be, and stays where further runs are kept behind it
+pub place-short : (kept : Bytes) (l r : ℕ) → length (placeIn kept l r) ≤ l
+unfolding placeIn
+place-short kept l r = rw (length-drop, length-take) (omega arith)
 
-pub run-long : (rows : Bytes) (size r : ℕ) → 16 * r + size ≤ length rows → length (runIn rows size r) ≡ size
-unfolding runIn
-run-long rows size r h = length-part rows (16 * r) size h
+pub place-long : (kept : Bytes) (l r : ℕ) → entryAt r + 1 + l ≤ length kept → length (placeIn kept l r) ≡ l
+unfolding placeIn
+place-long kept l r h = length-part kept (entryAt r + 1) l h
 
-pub run-stays : (count : ℕ) (runs : List (List ℕ)) (rows : Bytes) (size r : ℕ) → size ≤ 16 → r < count
-    → runIn (rowsAfter count runs rows) size r ≡ runIn rows size r
-unfolding runIn rowsAfter
-run-stays count runs rows size r h k =
-    slice-sets-below rows (count * 16) (each (keptOf count runs) (padded 16 0)) (16 * r) (16 * r + size) (omega arith)
+pub place-stays : (count : ℕ) (runs : List (List ℕ)) (kept : Bytes) (l r : ℕ) → l ≤ 16 → r < count
+    → placeIn (runsAfter count runs kept) l r ≡ placeIn kept l r
+unfolding placeIn runsAfter
+place-stays count runs kept l r h k =
+    slice-sets-below kept (entryAt count) (each (keptOf count runs) entryOf) (entryAt r + 1) (entryAt r + 1 + l) (omega arith)
 
 -- ---- the tables
 

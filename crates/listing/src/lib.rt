@@ -1,13 +1,15 @@
 // Run lists. A train's runs are listed by rising number of segments and, within that, in dictionary
-// order, each path extended one segment at a time, every length by one recursion. They are kept in lent
-// tables, a row of 16 bytes and a length a run, so that a run is found by its number at once; at most
-// 256 are kept, and the listing stops at the 257th. A table that is filled once a book has the
-// successors of each directed segment. Assumes nothing.
+// order, each path extended one segment at a time, every length by one recursion. They are kept in a lent
+// table, an entry of 17 bytes a run, so that a run is found by its number at once; at most 256 are kept,
+// and the listing stops at the 257th. A table that is filled once a book has the successors of each
+// directed segment. Assumes nothing.
 use frames::bytes::wide;
 use model::Book;
+use model::Counts;
 use model::MAX_REACH;
 use model::MAX_RUNS;
 use model::MAX_SEGMENTS;
+use model::MAX_TRAINS;
 use model::Train;
 use network::track::end_node;
 use network::track::joined;
@@ -22,18 +24,24 @@ ghost use lib.Seq.{sets};
 ghost use lib.Dec.{T};
 ghost use Rattle.spec.specs.Lists.{one, has, lastOr};
 ghost use Rattle.spec.specs.Book as book;
-ghost use Rattle.spec.specs.Runs as runs;
-ghost use Rattle.spec.specs.Read.{reachFits};
+ghost use Rattle.spec.specs.Runs.{runsOf};
+ghost use Rattle.spec.specs.BookFile.{FitsFields};
+ghost use Rattle.spec.specs.Read.{reachFits, growing};
 ghost use Rattle.spec.specs.Held.{held, heldTrain, CountsFit, NumbersFit};
 ghost use Rattle.listing.specs.Listed.{pathOf, packedPath, successors, successorRows, fansOf, SuccessorsHeld, Covered};
-ghost use Rattle.listing.specs.Listed.{rowsAfter, sizesAfter, countAfter};
-ghost use Rattle.listing.specs.Listed.{extendBy, pathsBy, runIn, placesIn, PlacesCovered, longerBy, furtherBy};
+ghost use Rattle.listing.specs.Listed.{trainBytes, tableBytes, runsAfter, countAfter, runTable, runCounts};
+ghost use Rattle.listing.specs.Listed.{extendBy, pathsBy, placeIn, placesIn, PlacesCovered, longerBy, furtherBy};
 
-// A run has at most l + k segments: the bytes of its row.
-pub const RUN_BYTES: usize = 2 * MAX_REACH;
+// A run has at most l + k segments.
+const RUN_SEGMENTS: usize = 2 * MAX_REACH;
 
-// The bytes of a train's rows.
-pub const TRAIN_BYTES: usize = MAX_RUNS * RUN_BYTES;
+// The bytes of a run's entry: how many directed segments it has, then these, zeros behind.
+pub const ENTRY_BYTES: usize = 1 + RUN_SEGMENTS;
+
+// The bytes of a train's entries, and of all trains'.
+pub const TRAIN_BYTES: usize = MAX_RUNS * ENTRY_BYTES;
+
+pub const TABLE_BYTES: usize = MAX_TRAINS * TRAIN_BYTES;
 
 // A directed segment has at most as many successors as there are directed segments: the bytes of its row,
 // and of the table.
@@ -46,7 +54,7 @@ const STOP: usize = MAX_RUNS + 1;
 
 // A path by value: its first n directed segments, zeros behind.
 pub struct Path {
-    pub at: [u8; RUN_BYTES],
+    pub at: [u8; RUN_SEGMENTS],
     pub n: usize,
 }
 
@@ -124,35 +132,35 @@ fn pushed(path: Path, d: usize) -> Path
 }
 
 // Keeps a run behind the first `count`, where there is room for it.
-fn keep(rows: &mut [u8], sizes: &mut [u8], count: usize, path: Path)
-    requires { ⌜ (length (now rows) ≡ 4096) × (length (now sizes) ≡ 256) × (count ≤ 256) × (path ≡ packedPath (pathOf path)) × (path .n ≤ 16) ⌝ }
-    ensures { λ _. ⌜ (now (rows .exit) ≡ rowsAfter count (one (pathOf path)) (now (rows .entry)))
-        × (now (sizes .exit) ≡ sizesAfter count (one (pathOf path)) (now (sizes .entry))) ⌝ }
+fn keep(runs: &mut [u8], count: usize, path: Path)
+    requires { ⌜ (length (now runs) ≡ trainBytes) × (count ≤ 256) × (path ≡ packedPath (pathOf path)) × (path .n ≤ 16) ⌝ }
+    ensures { λ _. ⌜ now (runs .exit) ≡ runsAfter count (one (pathOf path)) (now (runs .entry)) ⌝ }
 {
     if count < MAX_RUNS {
-        let base = count * RUN_BYTES;
+        let base = count * ENTRY_BYTES;
+        runs[base] = (path.n % 256) as u8;
+        let first = base + 1;
         let mut i = 0;
-        while i < RUN_BYTES {
-            rows[base + i] = path.at[i];
+        while i < RUN_SEGMENTS {
+            runs[first + i] = path.at[i];
             i += 1;
         }
-        sizes[count] = (path.n % 256) as u8;
     }
 }
 
-// The run of `size` segments in the rows under a number, as a path by value.
-fn path_at(rows: &[u8], r: usize, size: usize) -> Path
-    requires { ⌜ (length (now rows) ≡ 4096) × (r < 256) × (size ≤ 16) ⌝ }
-    ensures { λ p. ⌜ p ≡ packedPath (runIn (now (rows .entry)) size r) ⌝ }
+// The first l segments of the run with a number, as a path by value.
+fn path_at(runs: &[u8], r: usize, l: usize) -> Path
+    requires { ⌜ (length (now runs) ≡ trainBytes) × (r < 256) × (l ≤ 16) ⌝ }
+    ensures { λ p. ⌜ p ≡ packedPath (placeIn (now (runs .entry)) l r) ⌝ }
 {
-    let base = RUN_BYTES * r;
-    let mut at = [0u8; RUN_BYTES];
+    let base = r * ENTRY_BYTES + 1;
+    let mut at = [0u8; RUN_SEGMENTS];
     let mut i = 0;
-    while i < size {
-        at[i] = rows[base + i];
+    while i < l {
+        at[i] = runs[base + i];
         i += 1;
     }
-    Path { at: at, n: size }
+    Path { at: at, n: l }
 }
 
 // Lists the paths that extend a path by `missing` segments, in dictionary order, behind the first
@@ -160,20 +168,18 @@ fn path_at(rows: &[u8], r: usize, size: usize) -> Path
 fn extend(
     table: &[u8],
     fans: &[u8],
-    rows: &mut [u8],
-    sizes: &mut [u8],
+    runs: &mut [u8],
     count: usize,
     path: Path,
     missing: usize,
 ) -> usize
-    requires { ⌜ Covered (now table) (now fans) (lastOr 0 (pathOf path)) × (length (now rows) ≡ 4096) × (length (now sizes) ≡ 256)
+    requires { ⌜ Covered (now table) (now fans) (lastOr 0 (pathOf path)) × (length (now runs) ≡ trainBytes)
         × (count ≤ 256) × (path ≡ packedPath (pathOf path)) × (1 ≤ path .n) × (path .n + missing ≤ 16) ⌝ }
     ensures { λ r. ⌜ (r ≡ countAfter count (extendBy (now (table .entry)) (now (fans .entry)) missing (pathOf path)))
-        × (now (rows .exit) ≡ rowsAfter count (extendBy (now (table .entry)) (now (fans .entry)) missing (pathOf path)) (now (rows .entry)))
-        × (now (sizes .exit) ≡ sizesAfter count (extendBy (now (table .entry)) (now (fans .entry)) missing (pathOf path)) (now (sizes .entry))) ⌝ }
+        × (now (runs .exit) ≡ runsAfter count (extendBy (now (table .entry)) (now (fans .entry)) missing (pathOf path)) (now (runs .entry))) ⌝ }
 {
     if missing == 0 {
-        keep(rows, sizes, count, path);
+        keep(runs, count, path);
         return count + 1;
     }
     let last = last_of(path);
@@ -184,15 +190,7 @@ fn extend(
     while i < fan && found < STOP {
         let d = wide(table[base + i]);
         if !uses(path, d / 2) {
-            found = extend(
-                table,
-                fans,
-                rows,
-                sizes,
-                found,
-                pushed(path, d),
-                missing - 1,
-            );
+            found = extend(table, fans, runs, found, pushed(path, d), missing - 1);
         }
         i += 1;
     }
@@ -200,61 +198,50 @@ fn extend(
 }
 
 // Lists the paths of `size` segments; answers how many there are, as far as 257.
-fn list_paths(
-    table: &[u8],
-    fans: &[u8],
-    directed: usize,
-    rows: &mut [u8],
-    sizes: &mut [u8],
-    size: usize,
-) -> usize
-    requires { ⌜ ((d : ℕ) → d < directed → Covered (now table) (now fans) d) × (length (now rows) ≡ 4096) × (length (now sizes) ≡ 256)
+fn list_paths(table: &[u8], fans: &[u8], directed: usize, runs: &mut [u8], size: usize) -> usize
+    requires { ⌜ ((d : ℕ) → d < directed → Covered (now table) (now fans) d) × (length (now runs) ≡ trainBytes)
         × (directed ≤ 128) × (1 ≤ size) × (size ≤ 16) ⌝ }
     ensures { λ r. ⌜ (r ≡ countAfter 0 (pathsBy (now (table .entry)) (now (fans .entry)) directed size))
-        × (now (rows .exit) ≡ rowsAfter 0 (pathsBy (now (table .entry)) (now (fans .entry)) directed size) (now (rows .entry)))
-        × (now (sizes .exit) ≡ sizesAfter 0 (pathsBy (now (table .entry)) (now (fans .entry)) directed size) (now (sizes .entry))) ⌝ }
+        × (now (runs .exit) ≡ runsAfter 0 (pathsBy (now (table .entry)) (now (fans .entry)) directed size) (now (runs .entry))) ⌝ }
 {
     let mut found = 0;
     let mut d = 0;
     while d < directed && found < STOP {
         let mut path = Path {
-            at: [0u8; RUN_BYTES],
+            at: [0u8; RUN_SEGMENTS],
             n: 1,
         };
         path.at[0] = d as u8;
-        found = extend(table, fans, rows, sizes, found, path, size - 1);
+        found = extend(table, fans, runs, found, path, size - 1);
         d += 1;
     }
     found
 }
 
-// Lists the paths that extend the places, the first runs in the rows, of l segments each, by `missing`
+// Lists the paths that extend the places, the first runs in the table, of l segments each, by `missing`
 // segments, behind the first `count`; answers how many runs there are then, as far as 257. The places
 // stand in dictionary order, so these paths do. What is written stands behind what is read.
 fn list_longer(
     table: &[u8],
     fans: &[u8],
-    rows: &mut [u8],
-    sizes: &mut [u8],
+    runs: &mut [u8],
     places: usize,
     count: usize,
     l: usize,
     missing: usize,
 ) -> usize
-    requires { ⌜ (length (now rows) ≡ 4096) × (length (now sizes) ≡ 256) × (places ≤ count) × (count ≤ 257) × (1 ≤ l)
-        × (l + missing ≤ 16) × PlacesCovered (now table) (now fans) (now rows) l places ⌝ }
+    requires { ⌜ (length (now runs) ≡ trainBytes) × (places ≤ count) × (count ≤ 257) × (1 ≤ l)
+        × (l + missing ≤ 16) × PlacesCovered (now table) (now fans) (now runs) l places ⌝ }
     ensures { λ r. ⌜ (r ≡ countAfter count
-        (longerBy (now (table .entry)) (now (fans .entry)) (placesIn (now (rows .entry)) l places) missing))
-        × (now (rows .exit) ≡ rowsAfter count
-        (longerBy (now (table .entry)) (now (fans .entry)) (placesIn (now (rows .entry)) l places) missing) (now (rows .entry)))
-        × (now (sizes .exit) ≡ sizesAfter count
-        (longerBy (now (table .entry)) (now (fans .entry)) (placesIn (now (rows .entry)) l places) missing) (now (sizes .entry))) ⌝ }
+        (longerBy (now (table .entry)) (now (fans .entry)) (placesIn (now (runs .entry)) l places) missing))
+        × (now (runs .exit) ≡ runsAfter count
+        (longerBy (now (table .entry)) (now (fans .entry)) (placesIn (now (runs .entry)) l places) missing) (now (runs .entry))) ⌝ }
 {
     let mut found = count;
     let mut place = 0;
     while place < places && found < STOP {
-        let path = path_at(rows, place, l);
-        found = extend(table, fans, rows, sizes, found, path, missing);
+        let path = path_at(runs, place, l);
+        found = extend(table, fans, runs, found, path, missing);
         place += 1;
     }
     found
@@ -266,26 +253,23 @@ fn list_longer(
 fn list_further(
     table: &[u8],
     fans: &[u8],
-    rows: &mut [u8],
-    sizes: &mut [u8],
+    runs: &mut [u8],
     places: usize,
     l: usize,
     k: usize,
 ) -> usize
-    requires { ⌜ (length (now rows) ≡ 4096) × (length (now sizes) ≡ 256) × (places ≤ 257) × (1 ≤ l) × (l + k ≤ 16)
-        × PlacesCovered (now table) (now fans) (now rows) l places ⌝ }
+    requires { ⌜ (length (now runs) ≡ trainBytes) × (places ≤ 257) × (1 ≤ l) × (l + k ≤ 16)
+        × PlacesCovered (now table) (now fans) (now runs) l places ⌝ }
     ensures { λ r. ⌜ (r ≡ countAfter places
-        (furtherBy (now (table .entry)) (now (fans .entry)) (placesIn (now (rows .entry)) l places) k))
-        × (now (rows .exit) ≡ rowsAfter places
-        (furtherBy (now (table .entry)) (now (fans .entry)) (placesIn (now (rows .entry)) l places) k) (now (rows .entry)))
-        × (now (sizes .exit) ≡ sizesAfter places
-        (furtherBy (now (table .entry)) (now (fans .entry)) (placesIn (now (rows .entry)) l places) k) (now (sizes .entry))) ⌝ }
+        (furtherBy (now (table .entry)) (now (fans .entry)) (placesIn (now (runs .entry)) l places) k))
+        × (now (runs .exit) ≡ runsAfter places
+        (furtherBy (now (table .entry)) (now (fans .entry)) (placesIn (now (runs .entry)) l places) k) (now (runs .entry))) ⌝ }
 {
     let mut found = places;
     let mut j = 0;
     while j < k {
         j += 1;
-        found = list_longer(table, fans, rows, sizes, places, found, l, j);
+        found = list_longer(table, fans, runs, places, found, l, j);
     }
     found
 }
@@ -293,24 +277,37 @@ fn list_further(
 // Lists a train's runs: the paths of l segments, which are its places, then those of l + 1, .. l + k.
 // The tables hold the successors of the book's directed segments. Answers how many runs there are, as
 // far as 257.
-pub fn list_runs(
-    b: Book,
-    t: Train,
-    table: &[u8],
-    fans: &[u8],
-    rows: &mut [u8],
-    sizes: &mut [u8],
-) -> usize
+pub fn list_runs(b: Book, t: Train, table: &[u8], fans: &[u8], runs: &mut [u8]) -> usize
     requires { ⌜ CountsFit b × NumbersFit b × (1 ≤ b .«segment_metres») × (t .metres < 65536) × (t .speed < 65536)
         × T (reachFits (held b) (heldTrain t))
-        × SuccessorsHeld (held b) (now table) (now fans) × (length (now rows) ≡ 4096) × (length (now sizes) ≡ 256) ⌝ }
-    ensures { λ r. ⌜ (r ≡ countAfter 0 (runs.runsOf (held b) (heldTrain t)))
-        × (now (rows .exit) ≡ rowsAfter 0 (runs.runsOf (held b) (heldTrain t)) (now (rows .entry)))
-        × (now (sizes .exit) ≡ sizesAfter 0 (runs.runsOf (held b) (heldTrain t)) (now (sizes .entry))) ⌝ }
+        × SuccessorsHeld (held b) (now table) (now fans) × (length (now runs) ≡ trainBytes) ⌝ }
+    ensures { λ r. ⌜ (r ≡ countAfter 0 (runsOf (held b) (heldTrain t)))
+        × (now (runs .exit) ≡ runsAfter 0 (runsOf (held b) (heldTrain t)) (now (runs .entry))) ⌝ }
 {
     let l = length_in_segments(b, t);
     let k = speed_in_segments(b, t);
     let directed = 2 * b.segment_count;
-    let places = list_paths(table, fans, directed, rows, sizes, l);
-    list_further(table, fans, rows, sizes, places, l, k)
+    let places = list_paths(table, fans, directed, runs, l);
+    list_further(table, fans, runs, places, l, k)
+}
+
+// Lists the runs of every train, each in its part of the table; answers how many each has, as far as
+// 257. The successors are listed first, once for all trains.
+pub fn list_trains(b: Book, runs: &mut [u8]) -> Counts
+    requires { ⌜ CountsFit b × NumbersFit b × T (growing (held b)) × FitsFields (held b) × (length (now runs) ≡ tableBytes) ⌝ }
+    ensures { λ r. ⌜ (r ≡ runCounts (held b)) × (now (runs .exit) ≡ runTable (held b) (now (runs .entry))) ⌝ }
+{
+    let n = b.train_count;
+    let mut table = [0u8; SUCCESSOR_BYTES];
+    let mut fans = [0u8; FAN_BYTES];
+    fill_successors(b, &mut table, &mut fans);
+    let mut counts = [0usize; MAX_TRAINS];
+    let mut i = 0;
+    while i < n {
+        let t = b.trains[i];
+        let at = i * TRAIN_BYTES;
+        counts[i] = list_runs(b, t, &table, &fans, &mut runs[at..at + TRAIN_BYTES]);
+        i += 1;
+    }
+    counts
 }

@@ -22,6 +22,9 @@ pub const MAX_REACH: usize = 8;
 
 pub const MAX_RUNS: usize = 256;
 
+// A number for each train.
+pub type Counts = [usize; MAX_TRAINS];
+
 // A segment: its two nodes and its TTD.
 pub struct Segment {
     pub a: u8,

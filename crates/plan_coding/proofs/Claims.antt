@@ -2,7 +2,7 @@
 -- assignment are. Assumes nothing.
 use mathlib.Core.Path.{_≡_, refl, sym, ap, ap₂, _∙_, subst}
 use mathlib.Core.Bool.{Bool, _||_}
-use Prim.Native.Nat.{ℕ, _+_, _≤_, _<_}
+use Prim.Native.Nat.{ℕ, _+_, _*_, _≤_, _<_}
 use native.Mathlib.Nat.{zero-add}
 use native.Mathlib.Omega.{arith}
 use mathlib.Core.List.{List, _++_, map, append-nil, List·Memᴰ}
@@ -15,26 +15,28 @@ use Rattle.spec.specs.Instance.{Instance, instanceOf}
 use Rattle.spec.specs.Sections.{together}
 use Rattle.spec.specs.Plan.{Plan, Move, runs, isGone, bit, planOf}
 use Rattle.spec.specs.Extra.{extraValues}
-use Rattle.spec.specs.Formula.{variables}
+use Rattle.spec.specs.Formula.{width, firstVar, variables}
 use Rattle.spec.specs.Assignment.{claims, encode}
 use Rattle.spec.specs.Entry.{overwrite}
 use Rattle.spec.specs.Held.{held}
 use Rattle.laws.proofs.Tests.{bool-ext, any-iff, eqb-sym}
 use Rattle.laws.proofs.Rows.{any-map}
-use Rattle.laws.proofs.Parts.{length-upTo, map-same, each-same}
+use Rattle.laws.proofs.Parts.{length-each, length-upTo, map-same, each-same}
 use Rattle.demands.proofs.Encoding.{length-encode}
 use Rattle.demands.proofs.Extra.{extra-length}
 use Rattle.listing.proofs.Lists.{sets-append}
-use Rattle.run_tables.proofs.Small.{segments-is}
-use Rattle.plan_rules.specs.Marks.{PlanLabelled, rowOf, labelsOf, isMarked, marking, touched}
+use Rattle.tables.proofs.Small.{segments-is, all-variables}
+use Rattle.plan_rules.specs.declared.apart.Stretch.{Stretch}
+use Rattle.plan_rules.specs.Marks.{PlanLabelled, stretchOf, labelsOf, isMarked, marking, touched}
 use Rattle.plan_rules.proofs.Marking.{marked-by, unmarked}
 use Rattle.plan_rules.proofs.Sharing.{here-known, labels-here, labels-few}
 use Rattle.plan_coding.specs.Encoded.{borderBytes, moveBytes, claimBytes, intervalBytes, trainBytes}
+use Rattle.plan_coding.proofs.Rows.{rows-length}
 
 -- ---- claims
 
-module _ (b : BookStruct) (counts : List ℕ) (rows sizes : Bytes) (labels : List ℕ) (plan : Bytes)
-    (ready : PlanLabelled b counts rows sizes labels plan) (t : ℕ) (inside : t < b .intervals) (i : ℕ) (known : i < b .«train_count») where
+module _ {b : BookStruct} {counts : List ℕ} {runs : Bytes} {labels : List ℕ} (plan : Bytes)
+    (ready : PlanLabelled b counts runs labels plan) (t : ℕ) (inside : t < b .intervals) (i : ℕ) (known : i < b .«train_count») where
   abbrev I : Instance
   I = instanceOf (held b)
 
@@ -60,26 +62,27 @@ module _ (b : BookStruct) (counts : List ℕ) (rows sizes : Bytes) (labels : Lis
       same : (u : ℕ) → List·Memᴰ u (touched I p t i) → eqb (label s) (label u) ≡ together I (p .border) u s
       same u m =
           eqb-sym (label s) (label u)
-          ∙ ready .2 .same u s (here-known b counts rows sizes labels plan ready t inside i known u m) l
+          ∙ ready .2 .same u s (here-known plan ready t inside i known u m) l
 
   -- the marks of the run's labels
-  abbrev marks : Bytes
-  marks = marking (replicate 64 0) (labelsOf labels rows (rowOf sizes i (p .move i t)))
+  module _ {stretch : Stretch} (e : stretch ≡ stretchOf runs i (p .move i t)) where
+    abbrev marks : Bytes
+    marks = marking (replicate 64 0) (labelsOf labels runs stretch)
 
-  marked-claims : (s : ℕ) → s < I .segments → isMarked marks (label s) ≡ claims I p i t s
-  marked-claims s l =
-      ap (λ (ls : List ℕ). isMarked (marking (replicate 64 0) ls) (label s)) (labels-here b counts rows sizes labels plan ready t inside i known)
-      ∙ marked-by (map label (touched I p t i)) (replicate 64 0) (label s)
-      (subst (λ (n : ℕ). T (all (λ x. ltb x n) (map label (touched I p t i)))) (sym (length-replicate {A = ℕ} 64 0))
-      (labels-few b counts rows sizes labels plan ready t inside i known))
-      ∙ ap (λ (x : Bool). x || has (label s) (map label (touched I p t i))) (unmarked 64 (label s))
-      ∙ one-section s l
+    marked-claims : (s : ℕ) → s < I .segments → isMarked marks (label s) ≡ claims I p i t s
+    marked-claims s l =
+        ap (λ (ls : List ℕ). isMarked (marking (replicate 64 0) ls) (label s)) (labels-here plan ready t inside i known e)
+        ∙ marked-by (map label (touched I p t i)) (replicate 64 0) (label s)
+        (subst (λ (n : ℕ). T (all (λ x. ltb x n) (map label (touched I p t i)))) (sym (length-replicate {A = ℕ} 64 0))
+        (labels-few plan ready t inside i known))
+        ∙ ap (λ (x : Bool). x || has (label s) (map label (touched I p t i))) (unmarked 64 (label s))
+        ∙ one-section s l
 
-  pub claims-marked : map (λ s. bit (isMarked marks (label s))) (upTo (b .«segment_count»)) ≡ claimBytes I p i t
-  unfolding claimBytes
-  claims-marked =
-      ap (λ (n : ℕ). map (λ s. bit (isMarked marks (label s))) (upTo n)) (sym (segments-is b (ready .0 .counted .passed)))
-      ∙ map-same _ _ (I .segments) (λ s l. ap bit (marked-claims s l))
+    pub claims-marked : map (λ s. bit (isMarked marks (label s))) (upTo (b .«segment_count»)) ≡ claimBytes I p i t
+    unfolding claimBytes
+    claims-marked =
+        ap (λ (n : ℕ). map (λ s. bit (isMarked marks (label s))) (upTo n)) (sym (segments-is b (ready .0 .counted .passed)))
+        ∙ map-same _ _ (I .segments) (λ s l. ap bit (marked-claims s l))
 
 -- ---- lengths
 
@@ -89,22 +92,35 @@ length-moves m n =
     length-append (map (λ r. bit (runs m (eqb r))) (upTo n)) (one (bit (isGone m)))
     ∙ ap (λ (k : ℕ). k + 1) (length-map (upTo n) _ ∙ length-upTo n)
 
-pub length-interval : (I : Instance) (p : Plan) (i t : ℕ) → length (intervalBytes I p i t) ≡ I .runs i + 1 + I .segments
-unfolding intervalBytes claimBytes
-length-interval I p i t =
-    length-append (moveBytes (p .move i t) (I .runs i)) (claimBytes I p i t)
-    ∙ ap₂ _+_ (length-moves (p .move i t) (I .runs i)) (length-map (upTo (I .segments)) _ ∙ length-upTo (I .segments))
+module _ (I : Instance) (p : Plan) where
+  pub length-interval : (i t : ℕ) → length (intervalBytes I p i t) ≡ width I i
+  unfolding intervalBytes claimBytes width
+  length-interval i t =
+      length-append (moveBytes (p .move i t) (I .runs i)) (claimBytes I p i t)
+      ∙ ap₂ _+_ (length-moves (p .move i t) (I .runs i)) (length-map (upTo (I .segments)) _ ∙ length-upTo (I .segments))
 
--- ---- an interval is its move and its claims
+  length-train : (i : ℕ) → length (trainBytes I p i) ≡ I .intervals * width I i
+  unfolding trainBytes
+  length-train i = rows-length (intervalBytes I p i) (width I i) (length-interval i) (I .intervals)
 
-pub interval-written : (I : Instance) (p : Plan) (i t at n : ℕ) (m : Move) (out : Bytes) → n ≡ I .runs i → m ≡ p .move i t
-    → sets (sets out at (moveBytes m n)) (at + n + 1) (claimBytes I p i t) ≡ sets out at (intervalBytes I p i t)
-unfolding intervalBytes
-interval-written I p i t at n m out e f =
-    let place : at + n + 1 ≡ at + length (moveBytes m n) = omega (arith, length-moves m n) in
-    ap (λ (k : ℕ). sets (sets out at (moveBytes m n)) k (claimBytes I p i t)) place
-    ∙ sym (sets-append out at (moveBytes m n) (claimBytes I p i t))
-    ∙ ap₂ (λ (k : ℕ) (o : Move). sets out at (moveBytes o k ++ claimBytes I p i t)) e f
+  -- a train's first variable is behind the borders and the trains before it
+  pub train-place : (i : ℕ) → firstVar I i ≡ I .nodes + length (each (upTo i) (trainBytes I p))
+  unfolding firstVar
+  train-place i = ap (λ (n : ℕ). I .nodes + n) (sym (length-each (trainBytes I p) (λ j. I .intervals * width I j) length-train i))
+
+  -- all trains' variables are behind the borders
+  pub length-parts : I .nodes + length (each (upTo (I .trains)) (trainBytes I p)) ≡ variables I
+  length-parts = sym (train-place (I .trains)) ∙ all-variables I
+
+  -- ---- an interval is its move and its claims
+
+  pub interval-written : (i t at n : ℕ) (m : Move) (out : Bytes) → n ≡ I .runs i → m ≡ p .move i t
+      → sets (sets out at (moveBytes m n)) (at + (n + 1)) (claimBytes I p i t) ≡ sets out at (intervalBytes I p i t)
+  unfolding intervalBytes
+  interval-written i t at n m out e f =
+      ap (λ (k : ℕ). sets (sets out at (moveBytes m n)) (at + k) (claimBytes I p i t)) (sym (length-moves m n))
+      ∙ sym (sets-append out at (moveBytes m n) (claimBytes I p i t))
+      ∙ ap₂ (λ (k : ℕ) (o : Move). sets out at (moveBytes o k ++ claimBytes I p i t)) e f
 
 -- ---- an assignment is its borders and its trains
 
@@ -119,14 +135,6 @@ encode-parts I p =
 pub length-borders : (I : Instance) (p : Plan) → length (borderBytes I p) ≡ I .nodes
 unfolding borderBytes
 length-borders I p = length-map (upTo (I .nodes)) _ ∙ length-upTo (I .nodes)
-
--- a byte a variable
-pub length-parts : (I : Instance) (p : Plan) → I .nodes + length (each (upTo (I .trains)) (trainBytes I p)) ≡ variables I
-length-parts I p =
-    ap (λ (n : ℕ). n + length (each (upTo (I .trains)) (trainBytes I p))) (sym (length-borders I p))
-    ∙ sym (length-append (borderBytes I p) (each (upTo (I .trains)) (trainBytes I p)))
-    ∙ ap length (encode-parts I p)
-    ∙ length-encode I p (extra-length I p)
 
 -- the borders from the start on, then the trains behind them
 pub assignment-written : (I : Instance) (p : Plan) (out : Bytes) → variables I ≤ length out

@@ -7,7 +7,7 @@ use native.Mathlib.Omega.{arith}
 use Rattle.spec.specs.Lists.{upTo, count}
 use Rattle.spec.specs.Plan.{moveCode}
 use Rattle.spec.specs.Assignment.{firstRun, chosen}
-use Rattle.run_tables.specs.Tables.{leastFrom}
+use Rattle.tables.specs.Tables.{leastFrom}
 
 module _ (f : ℕ → Bool) where
   -- the two searches in case of this test, from a on

@@ -1,3 +1,4 @@
+pub mod Blocks
 pub mod Codes
 pub mod Rows
 pub mod Writing

@@ -1,4 +1,4 @@
--- Rows of one length that are stored one behind another; and the parts of a decoded plan as such rows. Assumes nothing.
+-- Rows that are stored one behind another; and the parts of a decoded plan as such rows. Assumes nothing.
 use mathlib.Core.Path.{_≡_, refl, sym, ap, ap₂, _∙_}
 use Prim.Native.Nat.{ℕ, _+_, _*_, _≤_}
 use native.Mathlib.Nat.{zero-add}
@@ -9,17 +9,16 @@ use lib.Seq.{sets, length-sets, sets-eq}
 use Rattle.spec.specs.Lists.{Bytes, upTo, count, each}
 use Rattle.spec.specs.Numbers.{littleEndian}
 use Rattle.spec.specs.Instance.{Instance}
-use Rattle.spec.specs.Formula.{base, runVar, goneVar}
 use Rattle.spec.specs.Plan.{bit, moveCode, planBytes, planLength}
 use Rattle.spec.specs.Assignment.{assigned, decoded, decode}
 use Rattle.spec.specs.Entry.{overwrite}
 use Rattle.laws.proofs.Numbers.{length-littleEndian}
-use Rattle.laws.proofs.Parts.{length-each, sum-constant, length-upTo, each-same}
+use Rattle.laws.proofs.Parts.{length-each, sum-constant, length-upTo}
 use Rattle.demands.proofs.Encoding.{length-plan}
 use Rattle.listing.proofs.Lists.{sets-append, each-next}
-use Rattle.plan_coding.specs.Decoded.{borderBytes, codeOf, trainBytes}
+use Rattle.plan_coding.specs.Decoded.{borderBytes, trainBytes}
 
--- ---- rows of w bytes each
+-- ---- rows
 
 -- the first i rows stand in the output from `at` on
 pub record Rows (f : ℕ → Bytes) (old : Bytes) (at i : ℕ) (out : Bytes) : Type 0 where
@@ -36,20 +35,25 @@ module _ {f : ℕ → Bytes} {old : Bytes} {at : ℕ} where
   pub rows-all : {i n : ℕ} {out : Bytes} → Rows f old at i out → i ≡ n → out ≡ sets old at (each (upTo n) f)
   rows-all r e = r .stored ∙ ap (λ (k : ℕ). sets old at (each (upTo k) f)) e
 
+  -- a turn stores a row behind them
+  pub rows-behind : {i place : ℕ} {out after : Bytes} → Rows f old at i out → place ≡ at + length (each (upTo i) f)
+      → after ≡ sets out place (f i) → Rows f old at (i + 1) after
+  rows-behind {i} r e s = record {
+    stored =
+        s
+        ∙ ap₂ (λ (t : Bytes) (k : ℕ). sets t k (f i)) (r .stored) e
+        ∙ sym (sets-append old at (each (upTo i) f) (f i))
+        ∙ ap (sets old at) (sym (each-next f i));
+  }
+
+-- rows of w bytes each
 module _ (f : ℕ → Bytes) (w : ℕ) (sized : (i : ℕ) → length (f i) ≡ w) where
   pub rows-length : (n : ℕ) → length (each (upTo n) f) ≡ n * w
   rows-length n = length-each f (λ _. w) sized n ∙ sum-constant w n
 
-  -- a turn stores a row behind them
-  pub rows-next : {old : Bytes} {at i : ℕ} {out after : Bytes} → Rows f old at i out → after ≡ sets out (at + i * w) (f i)
-      → Rows f old at (i + 1) after
-  rows-next {old} {at} {i} {out} {after} r s = record {
-    stored =
-        s
-        ∙ ap₂ (λ (t : Bytes) (k : ℕ). sets t (at + k) (f i)) (r .stored) (sym (rows-length i))
-        ∙ sym (sets-append old at (each (upTo i) f) (f i))
-        ∙ ap (sets old at) (sym (each-next f i));
-  }
+  pub rows-next : {old : Bytes} {at i place : ℕ} {out after : Bytes} → Rows f old at i out → place ≡ at + i * w
+      → after ≡ sets out place (f i) → Rows f old at (i + 1) after
+  rows-next {at = at} {i} r e s = rows-behind r (e ∙ ap (λ (k : ℕ). at + k) (sym (rows-length i))) s
 
 -- ---- the plan's parts
 
@@ -62,14 +66,6 @@ module _ (I : Instance) (s : Bytes) where
   pub borders-length : length (borderBytes I s) ≡ I .nodes
   unfolding borderBytes
   borders-length = length-map (upTo (I .nodes)) (λ n. bit (decoded I (assigned s) .border n)) ∙ length-upTo (I .nodes)
-
-  -- a train's bytes, by the number of its runs and the first variable of each interval
-  pub train-is : (i n intervals : ℕ) (v : ℕ → ℕ) → n ≡ I .runs i → intervals ≡ I .intervals → ((t : ℕ) → v t ≡ base I i t)
-      → each (upTo intervals) (λ t. littleEndian 2 (codeOf s (v t) n)) ≡ trainBytes I s i
-  unfolding trainBytes decoded runVar goneVar
-  train-is i n intervals v few long first =
-      ap (λ (m : ℕ). each (upTo m) (λ t. littleEndian 2 (codeOf s (v t) n))) long
-      ∙ each-same _ _ (I .intervals) (λ t _. ap₂ (λ (x m : ℕ). littleEndian 2 (codeOf s x m)) (first t) few)
 
   -- both parts together
   pub parts : decode I s ≡ borderBytes I s ++ each (upTo (I .trains)) (trainBytes I s)

@@ -2,13 +2,14 @@
 // interval the number of the run whose variable is 1, 65535 where gone is 1, 65534 where neither is.
 // Assumes nothing.
 use clauses::value;
+use layout::blocks::block_at;
+use layout::blocks::train_block;
 use layout::moves::ABSENT;
 use layout::moves::GONE;
 use layout::moves::move_place;
-use layout::numbering::base_from;
-use layout::numbering::first_variable;
 use layout::numbering::gone_variable;
 use model::Book;
+use model::Counts;
 ghost use mathlib.Core.Path.{_≡_};
 ghost use Prim.Native.Nat.{_+_, _≤_, _<_};
 ghost use lib.ListN.{length};
@@ -20,13 +21,14 @@ ghost use Rattle.spec.specs.Assignment as assignment;
 ghost use Rattle.spec.specs.Assignment.{assigned};
 ghost use Rattle.spec.specs.Entry.{overwrite};
 ghost use Rattle.spec.specs.Held.{held};
-ghost use Rattle.run_tables.specs.Tables.{Passed, leastFrom};
-ghost use Rattle.run_tables.specs.Ready.{Counted};
+ghost use Rattle.tables.specs.Tables.{Passed, leastFrom};
+ghost use Rattle.tables.specs.Ready.{Counted};
+ghost use Rattle.layout.specs.Blocks.{blockRoom};
 ghost use Rattle.plan_coding.specs.Decoded.{borderBytes, codeOf, trainBytes};
 
 // The first of n runs whose variable is 1, or n where none is; run r's variable is base + r.
-fn first_run(values: &[u8], base: usize, n: usize) -> usize
-    requires { ⌜ (base < 800000000) × (n ≤ 256) ⌝ }
+fn first_run(base: usize, n: usize, values: &[u8]) -> usize
+    requires { ⌜ (base < blockRoom) × (n ≤ 256) ⌝ }
     ensures { λ r. ⌜ r ≡ leastFrom (λ k. assigned (now (values .entry)) (base + k)) 0 n ⌝ }
 {
     let mut r = 0;
@@ -41,11 +43,11 @@ fn first_run(values: &[u8], base: usize, n: usize) -> usize
 
 // The plan's number of an interval whose first variable is `base`, of a train with n runs: the run's,
 // or the one for gone, or for absent.
-fn code_of(values: &[u8], base: usize, n: usize) -> usize
-    requires { ⌜ (base < 800000000) × (n ≤ 256) ⌝ }
+fn code_of(base: usize, n: usize, values: &[u8]) -> usize
+    requires { ⌜ (base < blockRoom) × (n ≤ 256) ⌝ }
     ensures { λ r. ⌜ (r ≡ codeOf (now (values .entry)) base n) × (r < 65536) ⌝ }
 {
-    let r = first_run(values, base, n);
+    let r = first_run(base, n, values);
     if r < n {
         return r;
     }
@@ -56,7 +58,7 @@ fn code_of(values: &[u8], base: usize, n: usize) -> usize
 }
 
 // Stores a number in two bytes, the lower one first.
-fn put_code(out: &mut [u8], at: usize, code: usize)
+fn put_code(at: usize, code: usize, out: &mut [u8])
     requires { ⌜ (at + 2 ≤ length (now out)) × (code < 65536) ⌝ }
     ensures { λ _. ⌜ now (out .exit) ≡ sets (now (out .entry)) at (littleEndian 2 code) ⌝ }
 {
@@ -65,19 +67,18 @@ fn put_code(out: &mut [u8], at: usize, code: usize)
 }
 
 // Stores the numbers of a train's intervals, each in its place of the plan.
-fn decode_train(b: Book, runs: [usize; 8], train: usize, values: &[u8], out: &mut [u8])
-    requires { ⌜ Counted b runs × (train < b .«train_count») × (planLength (instanceOf (held b)) ≤ length (now out)) ⌝ }
-    ensures { λ _. ⌜ now (out .exit) ≡ sets (now (out .entry)) (moveAt (instanceOf (held b)) train 0) (trainBytes (instanceOf (held b)) (now (values .entry)) train) ⌝ }
+fn decode_train(b: Book, counts: Counts, train: usize, values: &[u8], out: &mut [u8])
+    requires { ⌜ Counted b counts × (train < b .«train_count») × (planLength (instanceOf (held b)) ≤ length (now out)) ⌝ }
+    ensures { λ _. ⌜ now (out .exit) ≡ sets (now (out .entry)) (moveAt (instanceOf (held b)) train 0)
+        (trainBytes (instanceOf (held b)) (now (values .entry)) train) ⌝ }
 {
-    let first = first_variable(b, runs, train);
+    let first = train_block(b, counts, train);
     let intervals = b.intervals;
-    let segments = b.segment_count;
-    let n = runs[train];
     let mut interval = 0;
     while interval < intervals {
-        let base = base_from(first, n, segments, interval);
-        let code = code_of(values, base, n);
-        put_code(out, move_place(b, train, interval), code);
+        let block = block_at(b, first, interval);
+        let code = code_of(block.base, block.runs, values);
+        put_code(move_place(b, train, interval), code, out);
         interval += 1;
     }
 }
@@ -96,15 +97,15 @@ fn decode_borders(b: Book, values: &[u8], out: &mut [u8])
 }
 
 // Writes the plan that the values decode to; behind its bytes the output is as it was.
-pub fn decode(b: Book, runs: [usize; 8], values: &[u8], out: &mut [u8])
-    requires { ⌜ Counted b runs × (planLength (instanceOf (held b)) ≤ length (now out)) ⌝ }
+pub fn decode(b: Book, counts: Counts, values: &[u8], out: &mut [u8])
+    requires { ⌜ Counted b counts × (planLength (instanceOf (held b)) ≤ length (now out)) ⌝ }
     ensures { λ _. ⌜ now (out .exit) ≡ overwrite (now (out .entry)) (assignment.decode (instanceOf (held b)) (now (values .entry))) ⌝ }
 {
     decode_borders(b, values, out);
     let trains = b.train_count;
     let mut train = 0;
     while train < trains {
-        decode_train(b, runs, train, values, out);
+        decode_train(b, counts, train, values, out);
         train += 1;
     }
 }

@@ -1,15 +1,18 @@
 // A plan written as an assignment: a byte 0 or 1 a variable, each at its variable's number. A train
 // claims exactly the sections that its run touches: the run's labels are marked, and a segment is
 // claimed where its label is. Assumes nothing.
+use layout::blocks::Block;
+use layout::blocks::block_at;
+use layout::blocks::train_block;
 use layout::moves::Move;
 use layout::moves::is_gone;
 use layout::moves::move_at;
 use layout::numbering::claims_from;
 use layout::numbering::gone_variable;
-use layout::numbering::next_interval;
 use model::Book;
+use model::Counts;
 use plan_rules::apart::mark;
-use plan_rules::apart::row_of;
+use plan_rules::apart::stretch_of;
 ghost use mathlib.Core.Path.{_≡_};
 ghost use mathlib.Core.List.{map};
 ghost use Prim.Native.Nat.{ℕ, _+_, _≤_, _<_};
@@ -19,16 +22,17 @@ ghost use lib.Dec.{eqb};
 ghost use Rattle.spec.specs.Lists.{upTo};
 ghost use Rattle.spec.specs.Instance.{instanceOf};
 ghost use Rattle.spec.specs.Plan as plans;
-ghost use Rattle.spec.specs.Formula.{variables};
+ghost use Rattle.spec.specs.Formula.{firstVar, base, variables};
 ghost use Rattle.spec.specs.Assignment as assignment;
 ghost use Rattle.spec.specs.Entry.{overwrite};
 ghost use Rattle.spec.specs.Held.{held};
 ghost use Rattle.layout.specs.Moves.{heldMove};
+ghost use Rattle.layout.specs.Blocks.{BlockOf};
 ghost use Rattle.plan_rules.specs.Marks.{PlanLabelled, isMarked};
 ghost use Rattle.plan_coding.specs.Encoded.{moveBytes, intervalBytes, trainBytes};
 
 // Writes a byte for each of the first n nodes: 1 where the plan has a border.
-fn write_borders(plan: &[u8], n: usize, out: &mut [u8])
+fn write_borders(n: usize, plan: &[u8], out: &mut [u8])
     requires { ⌜ (n ≤ length (now plan)) × (n ≤ length (now out)) ⌝ }
     ensures { λ _. ⌜ now (out .exit) ≡ sets (now (out .entry)) 0 (map (λ k. plans.bit (eqb (getD (now (plan .entry)) k 0) 1)) (upTo n)) ⌝ }
 {
@@ -52,7 +56,7 @@ fn is_run(m: Move, r: usize) -> bool
 
 // Writes a byte for each of n runs, 1 for the one that the move is, and gone's byte, from `at` on, the
 // interval's first variable.
-fn write_move(m: Move, n: usize, at: usize, out: &mut [u8])
+fn write_move(at: usize, n: usize, m: Move, out: &mut [u8])
     requires { ⌜ at + n + 1 ≤ length (now out) ⌝ }
     ensures { λ _. ⌜ now (out .exit) ≡ sets (now (out .entry)) at (moveBytes (heldMove m) n) ⌝ }
 {
@@ -66,7 +70,7 @@ fn write_move(m: Move, n: usize, at: usize, out: &mut [u8])
 }
 
 // Writes a byte for each of the first n segments from `at` on: 1 where its label is marked.
-fn write_marked(labels: &[usize], marks: &[u8; 64], n: usize, at: usize, out: &mut [u8])
+fn write_marked(at: usize, n: usize, labels: &[usize], marks: &[u8; 64], out: &mut [u8])
     requires { ⌜ (n ≤ length (now labels)) × ((s : ℕ) → s < n → getD (now labels) s 0 < 64) × (at + n ≤ length (now out)) ⌝ }
     ensures { λ _. ⌜ now (out .exit) ≡ sets (now (out .entry)) at
         (map (λ s. plans.bit (isMarked (now (marks .entry)) (getD (now (labels .entry)) s 0))) (upTo n)) ⌝ }
@@ -79,96 +83,66 @@ fn write_marked(labels: &[usize], marks: &[u8; 64], n: usize, at: usize, out: &m
     }
 }
 
-// Writes the bytes of a train's interval from `at` on, its first variable; answers where they end.
+// Writes the bytes of a train's interval, whose variables are the block's.
 fn write_interval(
     b: Book,
-    runs: [usize; 8],
-    rows: &[u8],
-    sizes: &[u8],
-    labels: &[usize],
-    plan: &[u8],
-    train: usize,
+    counts: Counts,
+    block: Block,
     interval: usize,
-    at: usize,
-    out: &mut [u8],
-) -> usize
-    requires { ⌜ PlanLabelled b runs (now rows) (now sizes) (now labels) (now plan) × (train < b .«train_count») × (interval < b .intervals)
-        × (at + length (intervalBytes (instanceOf (held b)) (plans.planOf (instanceOf (held b)) (now plan)) train interval) ≤ length (now out)) ⌝ }
-    ensures { λ r. ⌜ (r ≡ at + length (intervalBytes (instanceOf (held b)) (plans.planOf (instanceOf (held b)) (now (plan .entry))) train interval))
-        × (now (out .exit) ≡ sets (now (out .entry)) at
-        (intervalBytes (instanceOf (held b)) (plans.planOf (instanceOf (held b)) (now (plan .entry))) train interval)) ⌝ }
-{
-    let n = runs[train];
-    let segments = b.segment_count;
-    let m = move_at(b, plan, train, interval);
-    write_move(m, n, at, out);
-    let mut marks = [0u8; 64];
-    mark(labels, rows, row_of(m, sizes, train), &mut marks);
-    write_marked(labels, &marks, segments, claims_from(at, n), out);
-    next_interval(at, n, segments)
-}
-
-// Writes the bytes of a train from `at` on; answers where they end.
-fn write_train(
-    b: Book,
-    runs: [usize; 8],
-    rows: &[u8],
-    sizes: &[u8],
-    labels: &[usize],
-    plan: &[u8],
-    train: usize,
-    at: usize,
-    out: &mut [u8],
-) -> usize
-    requires { ⌜ PlanLabelled b runs (now rows) (now sizes) (now labels) (now plan) × (train < b .«train_count»)
-        × (at + length (trainBytes (instanceOf (held b)) (plans.planOf (instanceOf (held b)) (now plan)) train) ≤ length (now out)) ⌝ }
-    ensures { λ r. ⌜ (r ≡ at + length (trainBytes (instanceOf (held b)) (plans.planOf (instanceOf (held b)) (now (plan .entry))) train))
-        × (now (out .exit) ≡ sets (now (out .entry)) at
-        (trainBytes (instanceOf (held b)) (plans.planOf (instanceOf (held b)) (now (plan .entry))) train)) ⌝ }
-{
-    let intervals = b.intervals;
-    let mut next = at;
-    let mut interval = 0;
-    while interval < intervals {
-        next = write_interval(
-            b,
-            runs,
-            rows,
-            sizes,
-            labels,
-            plan,
-            train,
-            interval,
-            next,
-            out,
-        );
-        interval += 1;
-    }
-    next
-}
-
-// Writes the assignment of a plan over the start of the output.
-pub fn encode(
-    b: Book,
-    runs: [usize; 8],
-    rows: &[u8],
-    sizes: &[u8],
+    runs: &[u8],
     labels: &[usize],
     plan: &[u8],
     out: &mut [u8],
 )
-    requires { ⌜ PlanLabelled b runs (now rows) (now sizes) (now labels) (now plan)
-        × (variables (instanceOf (held b)) ≤ length (now out)) ⌝ }
+    requires { ⌜ PlanLabelled b counts (now runs) (now labels) (now plan) × BlockOf b (block .train) interval block
+        × (interval < b .intervals) × (base (instanceOf (held b)) (block .train) (interval + 1) ≤ length (now out)) ⌝ }
+    ensures { λ _. ⌜ now (out .exit) ≡ sets (now (out .entry)) (base (instanceOf (held b)) (block .train) interval)
+        (intervalBytes (instanceOf (held b)) (plans.planOf (instanceOf (held b)) (now (plan .entry))) (block .train) interval) ⌝ }
+{
+    let m = move_at(b, plan, block.train, interval);
+    write_move(block.base, block.runs, m, out);
+    let mut marks = [0u8; 64];
+    mark(stretch_of(m, runs, block.train), runs, labels, &mut marks);
+    let claims = claims_from(block.base, block.runs);
+    write_marked(claims, b.segment_count, labels, &marks, out);
+}
+
+// Writes the bytes of a train, those of each interval in its block.
+fn write_train(
+    b: Book,
+    counts: Counts,
+    train: usize,
+    runs: &[u8],
+    labels: &[usize],
+    plan: &[u8],
+    out: &mut [u8],
+)
+    requires { ⌜ PlanLabelled b counts (now runs) (now labels) (now plan) × (train < b .«train_count»)
+        × (firstVar (instanceOf (held b)) (train + 1) ≤ length (now out)) ⌝ }
+    ensures { λ _. ⌜ now (out .exit) ≡ sets (now (out .entry)) (firstVar (instanceOf (held b)) train)
+        (trainBytes (instanceOf (held b)) (plans.planOf (instanceOf (held b)) (now (plan .entry))) train) ⌝ }
+{
+    let first = train_block(b, counts, train);
+    let intervals = b.intervals;
+    let mut interval = 0;
+    while interval < intervals {
+        let block = block_at(b, first, interval);
+        write_interval(b, counts, block, interval, runs, labels, plan, out);
+        interval += 1;
+    }
+}
+
+// Writes the assignment of a plan over the start of the output.
+pub fn encode(b: Book, counts: Counts, runs: &[u8], labels: &[usize], plan: &[u8], out: &mut [u8])
+    requires { ⌜ PlanLabelled b counts (now runs) (now labels) (now plan) × (variables (instanceOf (held b)) ≤ length (now out)) ⌝ }
     ensures { λ _. ⌜ now (out .exit) ≡ overwrite (now (out .entry))
         (assignment.encode (instanceOf (held b)) (plans.planOf (instanceOf (held b)) (now (plan .entry)))) ⌝ }
 {
-    let nodes = b.node_count;
-    write_borders(plan, nodes, out);
+    write_borders(b.node_count, plan, out);
     let trains = b.train_count;
-    let mut at = nodes;
     let mut i = 0;
     while i < trains {
-        at = write_train(b, runs, rows, sizes, labels, plan, i, at, out);
+        write_train(b, counts, i, runs, labels, plan, out);
         i += 1;
     }
 }

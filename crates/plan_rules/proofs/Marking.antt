@@ -1,4 +1,4 @@
--- Marks of labels: marking a row label by label, and that after it exactly its labels are marked besides those that were. Assumes
+-- Marks of labels: marking a stretch label by label, and that after it exactly its labels are marked besides those that were. Assumes
 -- nothing.
 use mathlib.Core.Path.{_≡_, refl, sym, ap, _∙_}
 use mathlib.Core.Logic.{inl, inr}
@@ -11,24 +11,24 @@ use lib.Dec.{T, ltb, eqb}
 use Rattle.spec.specs.Lists.{Bytes, all, any, has}
 use Rattle.laws.proofs.Tests.{and-iff, or-iff, not-iff, ltb-iff, eqb-iff, decide, bool-ext}
 use Rattle.network.proofs.Walks.{slice-next, slice-end}
-use Rattle.plan_rules.specs.declared.apart.Row.{Row}
-use Rattle.plan_rules.specs.Marks.{RowFits, isMarked, marking}
+use Rattle.plan_rules.specs.declared.apart.Stretch.{Stretch}
+use Rattle.plan_rules.specs.Marks.{StretchFits, isMarked, marking}
 
--- the label that is read at k, of a segment of the row
-pub label-here : {labels : List ℕ} {rows : Bytes} {row : Row} → RowFits labels rows row
-    → {k x : ℕ} → row .at ≤ k → k < row .at + row .size → x ≡ getD rows k 0 → (x / 2 < length labels) × (getD labels (x / 2) 0 < 64)
+-- the label that is read at k, of a segment of the stretch
+pub label-here : {labels : List ℕ} {runs : Bytes} {s : Stretch} → StretchFits labels runs s
+    → {k x : ℕ} → s .at ≤ k → k < s .at + s .size → x ≡ getD runs k 0 → (x / 2 < length labels) × (getD labels (x / 2) 0 < 64)
 label-here h {k} a z e = rw e (h .inside k a z, h .below k a z)
 
--- the next label of a row, and none behind the last
-module _ (f : ℕ → ℕ) (marks rows : Bytes) (k end : ℕ) where
-  pub marking-next : k < end → end ≤ length rows
-      → marking marks (map f (slice k end rows)) ≡ marking (set marks (f (getD rows k 0)) 1) (map f (slice (k + 1) end rows))
+-- the next label of a stretch, and none behind the last
+module _ (f : ℕ → ℕ) (marks runs : Bytes) (k end : ℕ) where
+  pub marking-next : k < end → end ≤ length runs
+      → marking marks (map f (slice k end runs)) ≡ marking (set marks (f (getD runs k 0)) 1) (map f (slice (k + 1) end runs))
   unfolding marking
-  marking-next l fits = ap (λ (ds : List ℕ). marking marks (map f ds)) (slice-next rows end k 0 l fits)
+  marking-next l fits = ap (λ (ds : List ℕ). marking marks (map f ds)) (slice-next runs end k 0 l fits)
 
-  pub marking-end : end ≤ k → marking marks (map f (slice k end rows)) ≡ marks
+  pub marking-end : end ≤ k → marking marks (map f (slice k end runs)) ≡ marks
   unfolding marking
-  marking-end l = ap (λ (ds : List ℕ). marking marks (map f ds)) (slice-end rows end k l)
+  marking-end l = ap (λ (ds : List ℕ). marking marks (map f ds)) (slice-end runs end k l)
 
 -- one label more is marked
 marked-set : (marks : Bytes) (x l : ℕ) → x < length marks → isMarked (set marks x 1) l ≡ (isMarked marks l || eqb l x)
@@ -45,7 +45,7 @@ marked-set marks x l h =
     (λ t. either .1 (inl (rw same at t)))
     (λ t. rw same (elim (either .0 t) [ inl m ↦ m | inr e ↦ absurd (not-iff (eqb l x) .0 n e) ])))
 
--- after marking, a label is marked where it was or is one of the row's
+-- after marking, a label is marked where it was or is one of the stretch's
 pub marked-by : (ls : List ℕ) (marks : Bytes) (l : ℕ) → T (all (λ x. ltb x (length marks)) ls)
     → isMarked (marking marks ls) l ≡ (isMarked marks l || has l ls)
 unfolding marking has any all

@@ -2,23 +2,24 @@
 -- answer about a run is what the instance says. Assumes nothing.
 use mathlib.Core.Path.{_≡_, refl, sym, ap, ap₂, _∙_, subst}
 use mathlib.Core.Bool.{Bool}
-use Prim.Native.Nat.{ℕ, _+_, _*_, _≤_, _<_}
+use Prim.Native.Nat.{ℕ, _+_, _≤_, _<_}
 use native.Mathlib.Omega.{arith}
-use lib.ListN.{length, getD}
-use lib.Dec.{T}
+use lib.ListN.{length}
+use lib.Dec.{T, ltb}
 use Rattle.model.specs.declared.Book.{Book as BookStruct}
 use Rattle.spec.specs.Lists.{Bytes, same}
 use Rattle.spec.specs.Runs.{startPlace, endPlace}
 use Rattle.spec.specs.Instance.{Instance, instanceOf, compile, runLists, runAt}
 use Rattle.spec.specs.Plan as plan
-use Rattle.spec.specs.Plan.{isMove, planOf, planLength, planFits}
+use Rattle.spec.specs.Plan.{run, absent, gone, ifRun, isMove, planOf, planLength, planFits}
 use Rattle.spec.specs.Held.{held}
 use Rattle.laws.proofs.Tests.{and-iff, eqb-iff, ltb-iff, all-upTo}
-use Rattle.run_tables.specs.Placed.{placeAt, endAt}
-use Rattle.run_tables.specs.Tables.{Passed}
-use Rattle.run_tables.proofs.Answers.{end-inside, least-held, ending-held}
-use Rattle.run_tables.proofs.Here.{in-instance}
-use Rattle.run_tables.proofs.Small.{intervals-is}
+use Rattle.listing.specs.Listed.{trainBytes}
+use Rattle.tables.specs.Placed.{placeAt, sizeAt, startAt, endAt}
+use Rattle.tables.specs.Tables.{Passed}
+use Rattle.tables.proofs.Answers.{end-inside, least-held, ending-held}
+use Rattle.tables.proofs.Here.{in-instance}
+use Rattle.tables.proofs.Small.{intervals-is, passed-few}
 use Rattle.layout.specs.declared.moves.Move.{Move}
 use Rattle.layout.specs.declared.moves.Move.the-variants.{Run}
 use Rattle.layout.specs.Moves.{heldMove}
@@ -50,9 +51,15 @@ pub run-below : (I : Instance) (i : ℕ) {m : Move} {r : ℕ} → T (isMove I i 
 unfolding isMove
 run-below I i {r = r} t e = ltb-iff r (I .runs i) .0 (subst (λ (o : Move). T (isMove I i (heldMove o))) e t)
 
+run-few : (I : Instance) (i : ℕ) → I .runs i ≤ 256 → (m : plan.Move) → T (isMove I i m) → T (ifRun m (λ r. ltb r 256))
+unfolding ifRun isMove
+run-few I i h (run r) v = ltb-iff r 256 .1 (omega (arith, ltb-iff r (I .runs i) .0 v))
+run-few I i h absent v = tt
+run-few I i h gone v = tt
+
 -- a move of the plan, as `moves::move_at` answers it
 module _ {b : BookStruct} {i : ℕ} {s : Bytes} (h : Planned b i s) where
-  own-here : (t : ℕ) → t < b .intervals → T (isMove (instanceOf (held b)) i (planOf (instanceOf (held b)) s .move i t))
+  pub own-here : (t : ℕ) → t < b .intervals → T (isMove (instanceOf (held b)) i (planOf (instanceOf (held b)) s .move i t))
   own-here t k =
       own-move (instanceOf (held b)) s (h .fits) i t (in-instance b (h .passed) i (h .known))
       (subst (λ (n : ℕ). t < n) (sym (intervals-is b (h .passed))) k)
@@ -60,6 +67,12 @@ module _ {b : BookStruct} {i : ℕ} {s : Bytes} (h : Planned b i s) where
   pub move-own : (m : Move) (t : ℕ) → t < b .intervals → heldMove m ≡ planOf (instanceOf (held b)) s .move i t
       → T (isMove (instanceOf (held b)) i (heldMove m))
   move-own m t k e = rw e (own-here t k)
+
+  -- where it is a run, the run's number is below 256
+  pub few-own : (m : Move) (t : ℕ) → t < b .intervals → heldMove m ≡ planOf (instanceOf (held b)) s .move i t
+      → T (ifRun (heldMove m) (λ r. ltb r 256))
+  few-own m t k e =
+      run-few (instanceOf (held b)) i (passed-few b (h .passed) .runs i (in-instance b (h .passed) i (h .known))) (heldMove m) (move-own m t k e)
 
   -- the move before an interval's
   pub prior-own : (m : Move) (t : ℕ) → t ≤ b .intervals → heldMove m ≡ prior (planOf (instanceOf (held b)) s .move i) t
@@ -74,41 +87,41 @@ module _ {b : BookStruct} {i : ℕ} {s : Bytes} (h : Planned b i s) where
       → Passed b × (length s ≡ planLength (instanceOf (held b))) × (i < b .«train_count») × (t < b .intervals)
   move-asks t k = (h .passed, plan-long (instanceOf (held b)) s (h .fits), h .known, k)
 
--- a train with its tables, and a plan
-pub planned : {b : BookStruct} {i l : ℕ} {rows sizes s : Bytes} → TrainReady b i l rows sizes → T (planFits (instanceOf (held b)) s)
+-- a train with its table, and a plan
+pub planned : {b : BookStruct} {i l : ℕ} {runs s : Bytes} → TrainReady b i l runs → T (planFits (instanceOf (held b)) s)
     → Planned b i s
 planned h f = record { passed = h .passed; known = h .known; fits = f }
 
 -- ---- a train's run
 
-module _ {b : BookStruct} {i l : ℕ} {rows sizes : Bytes} (h : TrainReady b i l rows sizes) (r : ℕ)
+module _ {b : BookStruct} {i l : ℕ} {runs : Bytes} (h : TrainReady b i l runs) (r : ℕ)
     (k : r < instanceOf (held b) .runs i) where
   pub few : r < 256
-  few = omega (arith, h .tables .few)
+  few = omega (arith, h .table .few)
 
-  pub start-inside : {at : ℕ} → at ≡ 16 * r → at + l ≤ length rows
-  start-inside e = omega (arith, few, h .short, h .tables .rowsLong)
+  pub start-inside : {at : ℕ} → at ≡ startAt r → at + l ≤ length runs
+  start-inside e = omega (arith, few, h .short, h .table .long)
 
   -- what `places::end_of` asks
-  pub end-asks : (r < 256) × (r < length sizes) × (l ≤ getD sizes r 0)
-  end-asks = (few, omega (arith, few, h .tables .sizesLong), least-held b i r (h .reached) (h .tables) k)
+  pub end-asks : (r < 256) × (length runs ≡ trainBytes) × (l ≤ sizeAt runs r)
+  end-asks = (few, h .table .long, least-held b i r (h .reached) (h .table) k)
 
-  pub end-room : {at : ℕ} → at ≡ endAt sizes r l → at + l ≤ length rows
-  end-room {at} e = end-inside sizes r l at (length rows) (h .tables .rowsLong) few (end-asks .2) (h .tables .most r k) e
+  pub end-room : {at : ℕ} → at ≡ endAt runs r l → at + l ≤ length runs
+  end-room {at} e = end-inside runs r l at (h .table .long) few (end-asks .2) (h .table .most r k) e
 
-  pub starting : {at : ℕ} → at ≡ 16 * r → placeAt rows at l ≡ startPlace l (runAt (runLists (held b)) i r)
-  starting e = ap (λ (n : ℕ). placeAt rows n l) e ∙ rw (h .reached) (h .tables .starting r k)
+  pub starting : {at : ℕ} → at ≡ startAt r → placeAt runs at l ≡ startPlace l (runAt (runLists (held b)) i r)
+  starting e = ap (λ (n : ℕ). placeAt runs n l) e ∙ rw (h .reached) (h .table .starting r k)
 
-  pub ending : {at : ℕ} → at ≡ endAt sizes r l → placeAt rows at l ≡ endPlace l (runAt (runLists (held b)) i r)
-  ending e = ap (λ (n : ℕ). placeAt rows n l) e ∙ ending-held b i r (h .reached) (h .tables) k
+  pub ending : {at : ℕ} → at ≡ endAt runs r l → placeAt runs at l ≡ endPlace l (runAt (runLists (held b)) i r)
+  ending e = ap (λ (n : ℕ). placeAt runs n l) e ∙ ending-held b i r (h .reached) (h .table) k
 
 -- whether a run follows, as `places::follows` answers it
-module _ {b : BookStruct} {i l : ℕ} {rows sizes : Bytes} (h : TrainReady b i l rows sizes) (r q : ℕ)
+module _ {b : BookStruct} {i l : ℕ} {runs : Bytes} (h : TrainReady b i l runs) (r q : ℕ)
     (k : r < instanceOf (held b) .runs i) (j : q < instanceOf (held b) .runs i) where
-  pub follows-asks : (length rows ≡ 4096) × (length sizes ≡ 256) × (r < 256) × (q < 256) × (l ≤ getD sizes r 0) × (getD sizes r 0 ≤ 16)
-  follows-asks = (h .tables .rowsLong, h .tables .sizesLong, few h r k, few h q j, end-asks h r k .2, h .tables .most r k)
+  pub follows-asks : (length runs ≡ trainBytes) × (r < 256) × (q < 256) × (l ≤ sizeAt runs r) × (sizeAt runs r ≤ 16)
+  follows-asks = (h .table .long, few h r k, few h q j, end-asks h r k .2, h .table .most r k)
 
-  pub follows-answer : {test : Bool} → test ≡ same (placeAt rows (endAt sizes r l) l) (placeAt rows (16 * q) l)
+  pub follows-answer : {test : Bool} → test ≡ same (placeAt runs (endAt runs r l) l) (placeAt runs (startAt q) l)
       → test ≡ instanceOf (held b) .follows i r q
   unfolding instanceOf compile
   follows-answer t = t ∙ ap₂ same (ending h r k refl) (starting h q j refl)

@@ -7,7 +7,7 @@ use native.Mathlib.Numerals.{add-one}
 use native.Mathlib.Omega.{arith}
 use mathlib.Core.List.{List, map, map-map, List·Memᴰ, Memᴰ·of-map}
 use lib.ListN.{length, getD, replicate, length-map, length-replicate}
-use lib.Seq.{slice, length-slice}
+use lib.Seq.{slice}
 use lib.Dec.{T, eqb, ltb}
 use Rattle.model.specs.declared.Book.{Book as BookStruct}
 use Rattle.spec.specs.Lists.{Bytes, all, any, has, upTo, range, count, one}
@@ -20,12 +20,14 @@ use Rattle.laws.proofs.Tests.{meaning, bool-ext, eqb-iff, ltb-iff, all-iff, any
 use Rattle.laws.proofs.Rows.{any-map, any-append, any-one}
 use Rattle.laws.proofs.Parts.{upTo-suc}
 use Rattle.demands.proofs.Wellformed.{map-at}
-use Rattle.run_tables.specs.Placed.{placeAt}
-use Rattle.run_tables.proofs.Small.{segments-is}
-use Rattle.plan_rules.specs.declared.apart.Row.{Row}
-use Rattle.plan_rules.specs.Marks.{PlanLabelled, RowFits, rowOf, labelsOf, isMarked, marking, touched, sharesBefore, intervalApart}
+use Rattle.listing.proofs.Successors.{getD-slice, length-part}
+use Rattle.tables.specs.Placed.{placeAt}
+use Rattle.tables.proofs.Small.{segments-is}
+use Rattle.plan_rules.specs.declared.apart.Stretch.{Stretch}
+use Rattle.plan_rules.specs.Marks.{PlanLabelled, StretchFits, stretchOf, labelsOf, isMarked, marking, touched, sharesBefore, intervalApart}
 use Rattle.plan_rules.proofs.Marking.{marked-by, unmarked, length-marking}
-use Rattle.plan_rules.proofs.Rows.{getD-slice, is-move, row-inside, row-segments, row-known}
+use Rattle.plan_rules.proofs.Ready.{own-here}
+use Rattle.plan_rules.proofs.Stretches.{stretch-inside, stretch-segments, stretch-known}
 
 -- ---- rule 6, train by train
 
@@ -58,8 +60,8 @@ Marked I p t labels k marks =
     (length marks ≡ 64)
     × ((l : ℕ) → isMarked marks l ≡ any (λ i. has l (map (λ s. getD labels s 0) (touched I p t i))) (upTo k))
 
-module _ (b : BookStruct) (runs : List ℕ) (rows sizes : Bytes) (labels : List ℕ) (plan : Bytes)
-    (ready : PlanLabelled b runs rows sizes labels plan) (t : ℕ) (inside : t < b .intervals) where
+module _ {b : BookStruct} {counts : List ℕ} {runs : Bytes} {labels : List ℕ} (plan : Bytes)
+    (ready : PlanLabelled b counts runs labels plan) (t : ℕ) (inside : t < b .intervals) where
   abbrev I : Instance
   I = instanceOf (held b)
 
@@ -70,57 +72,60 @@ module _ (b : BookStruct) (runs : List ℕ) (rows sizes : Bytes) (labels : List 
   abbrev label : ℕ → ℕ
   label s = getD labels s 0
 
-  -- what a train's run touches, and where the tables hold it
+  -- what a train's run touches, and where the table holds it
   abbrev here : ℕ → List ℕ
   here i = touched I p t i
 
-  abbrev row : ℕ → Row
-  row i = rowOf sizes i (p .move i t)
+  abbrev stretch : ℕ → Stretch
+  stretch i = stretchOf runs i (p .move i t)
 
   few : I .segments ≤ 64
   few = let passed = ready .0 .counted .passed in omega (arith, segments-is b passed, passed .packed .counts .segments)
 
   module _ (i : ℕ) (known : i < b .«train_count») where
     valid : T (isMove I i (p .move i t))
-    valid = is-move b (ready .0 .counted .passed) plan (ready .1) i t known inside
+    valid = own-here (record { passed = ready .0 .counted .passed; known = known; fits = ready .1 }) t inside
 
     pub here-known : (s : ℕ) → List·Memᴰ s (here i) → s < I .segments
     unfolding touched
-    here-known = row-known b runs rows sizes (ready .0) i known (p .move i t) valid
+    here-known = stretch-known (ready .0) i known (p .move i t) valid
 
-    segments-here : map segmentOf (placeAt rows (row i .at) (row i .size)) ≡ here i
+    segments-here : map segmentOf (placeAt runs (stretch i .at) (stretch i .size)) ≡ here i
     unfolding touched
-    segments-here = row-segments b runs rows sizes (ready .0) i known (p .move i t) valid
+    segments-here = stretch-segments (ready .0) i known (p .move i t) valid
 
-    pub labels-here : labelsOf labels rows (row i) ≡ map label (here i)
+    pub labels-here : {s : Stretch} → s ≡ stretch i → labelsOf labels runs s ≡ map label (here i)
     unfolding labelsOf
-    labels-here = sym (map-map label segmentOf (placeAt rows (row i .at) (row i .size))) ∙ ap (map label) segments-here
+    labels-here e =
+        ap (labelsOf labels runs) e
+        ∙ sym (map-map label segmentOf (placeAt runs (stretch i .at) (stretch i .size)))
+        ∙ ap (map label) segments-here
 
     -- the segment at k
-    segment-at : (k : ℕ) → row i .at ≤ k → k < row i .at + row i .size → getD rows k 0 / 2 < I .segments
+    segment-at : (k : ℕ) → stretch i .at ≤ k → k < stretch i .at + stretch i .size → getD runs k 0 / 2 < I .segments
     unfolding placeAt segmentOf
     segment-at k a z =
-        let at = row i .at in
-        let size = row i .size in
-        let fits = row-inside b runs rows sizes (ready .0) i known (p .move i t) valid in
-        let long : length (slice at (at + size) rows) ≡ size = length-slice at (at + size) rows fits ∙ omega arith in
-        let below : k - at < length (slice at (at + size) rows) = omega (arith, long) in
+        let at = stretch i .at in
+        let size = stretch i .size in
+        let fits = stretch-inside (ready .0) i known (p .move i t) valid in
+        let long = length-part runs at size fits in
+        let below : k - at < length (slice at (at + size) runs) = omega (arith, long) in
         let back : at + (k - at) ≡ k = omega arith in
-        let same : getD (map segmentOf (slice at (at + size) rows)) (k - at) 0 ≡ getD rows k 0 / 2 =
-        map-at segmentOf (slice at (at + size) rows) (k - at) 0 0 below
-        ∙ ap segmentOf (getD-slice rows at size fits (k - at) 0 (omega arith) ∙ ap (λ (n : ℕ). getD rows n 0) back) in
-        here-known (getD rows k 0 / 2)
+        let same : getD (map segmentOf (slice at (at + size) runs)) (k - at) 0 ≡ getD runs k 0 / 2 =
+        map-at segmentOf (slice at (at + size) runs) (k - at) 0 0 below
+        ∙ ap segmentOf (getD-slice runs at size (k - at) 0 (omega arith) ∙ ap (λ (n : ℕ). getD runs n 0) back) in
+        here-known (getD runs k 0 / 2)
         (subst (λ (s : ℕ). List·Memᴰ s (here i)) same
-        (subst (λ (ss : List ℕ). List·Memᴰ (getD (map segmentOf (slice at (at + size) rows)) (k - at) 0) ss) segments-here
+        (subst (λ (ss : List ℕ). List·Memᴰ (getD (map segmentOf (slice at (at + size) runs)) (k - at) 0) ss) segments-here
         (getD-mem _ (k - at) 0 (rw length-map below))))
 
-    pub fits-here : RowFits labels rows (row i)
-    fits-here =
-        record {
-          fits = row-inside b runs rows sizes (ready .0) i known (p .move i t) valid;
+    pub fits-here : {s : Stretch} → s ≡ stretch i → StretchFits labels runs s
+    fits-here e =
+        subst (StretchFits labels runs) (sym e) (record {
+          fits = stretch-inside (ready .0) i known (p .move i t) valid;
           inside = λ k a z. omega (arith, segment-at k a z, ready .2 .long, few);
           below = λ k a z. omega (arith, ready .2 .below _ (segment-at k a z), few);
-        }
+        })
 
     -- its labels are labels of marks
     pub labels-few : T (all (λ l. ltb l 64) (map label (here i)))

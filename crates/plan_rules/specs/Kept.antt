@@ -10,8 +10,8 @@ use Rattle.spec.specs.Lists.{Bytes, all, upTo, firstFault, orZero}
 use Rattle.spec.specs.Instance.{Instance, instanceOf, trainLength}
 use Rattle.spec.specs.Plan.{Plan, planFits, departs, leavesRightly, runsOn, keepsCalls, ruleFaults}
 use Rattle.spec.specs.Held.{held}
-use Rattle.run_tables.specs.Tables.{Passed}
-use Rattle.run_tables.specs.Ready.{RunsHeld}
+use Rattle.tables.specs.Tables.{Passed}
+use Rattle.tables.specs.Ready.{RunsHeld}
 use Rattle.plan_rules.specs.declared.rules.TrainRule.{TrainRule}
 use Rattle.plan_rules.specs.declared.rules.TrainRule.the-variants.{Departing, Leaving, Running, Calling}
 
@@ -38,10 +38,10 @@ pub record Planned (b : BookStruct) (i : ℕ) (plan : Bytes) : Type 0 where
   pub known : i < b .«train_count»
   pub fits : T (planFits (instanceOf (held b)) plan)
 
--- a train with its length l and its tables
-pub record TrainReady (b : BookStruct) (i l : ℕ) (rows sizes : Bytes) : Type 0 where
+-- a train with its length l and its table of runs
+pub record TrainReady (b : BookStruct) (i l : ℕ) (runs : Bytes) : Type 0 where
   pub passed : Passed b
   pub known : i < b .«train_count»
   pub reached : l ≡ trainLength (held b) i
   pub short : l ≤ 8
-  pub tables : RunsHeld (held b) i rows sizes
+  pub table : RunsHeld (held b) i runs

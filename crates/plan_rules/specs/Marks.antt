@@ -1,4 +1,4 @@
--- Labels that are marked, and the row of a train's run in the run tables. Assumes nothing.
+-- Labels that are marked, and where the table of all trains' runs holds a train's run. Assumes nothing.
 use mathlib.Core.Bool.{Bool, not}
 use Prim.Native.Nat.{ℕ, _+_, _*_, _/_, _≤_, _<_}
 use mathlib.Core.List.{List, [], _∷_, map}
@@ -11,32 +11,33 @@ use Rattle.spec.specs.Instance.{Instance, instanceOf}
 use Rattle.spec.specs.Sections.{shareSection}
 use Rattle.spec.specs.Plan.{Plan, Move, run, absent, gone, ofRun, planOf, planFits}
 use Rattle.spec.specs.Held.{held}
-use Rattle.run_tables.specs.Placed.{placeAt}
-use Rattle.run_tables.specs.Ready.{RunsReady}
+use Rattle.listing.specs.Listed.{trainBytes, entryAt}
+use Rattle.tables.specs.Placed.{placeAt, startAt}
+use Rattle.tables.specs.Ready.{RunsReady}
 use Rattle.sections.specs.Labels.{LabelsHeld}
-use Rattle.plan_rules.specs.declared.apart.Row.{Row}
+use Rattle.plan_rules.specs.declared.apart.Stretch.{Stretch}
 
--- the tables, the plan and the labels of its sections
-abbrev pub PlanLabelled : BookStruct → List ℕ → Bytes → Bytes → List ℕ → Bytes → Type 0
-PlanLabelled b runs rows sizes labels plan =
-    RunsReady b runs rows sizes × T (planFits (instanceOf (held b)) plan)
+-- the runs, the plan and the labels of its sections
+abbrev pub PlanLabelled : BookStruct → List ℕ → Bytes → List ℕ → Bytes → Type 0
+PlanLabelled b counts runs labels plan =
+    RunsReady b counts runs × T (planFits (instanceOf (held b)) plan)
     × LabelsHeld (instanceOf (held b)) (planOf (instanceOf (held b)) plan .border) labels
 
--- where the run tables of all trains hold the run that a train's move is; nothing where it is none
-unfoldable pub rowOf : Bytes → ℕ → Move → Row
-rowOf sizes i (run r) = record { at = i * 4096 + 16 * r; size = getD sizes (i * 256 + r) 0 }
-rowOf sizes i absent = record { at = 0; size = 0 }
-rowOf sizes i gone = record { at = 0; size = 0 }
+-- where the table of all trains' runs holds the run that a train's move is; nothing where it is none
+unfoldable pub stretchOf : Bytes → ℕ → Move → Stretch
+stretchOf runs i (run r) = record { at = i * trainBytes + startAt r; size = getD runs (i * trainBytes + entryAt r) 0 }
+stretchOf runs i absent = record { at = 0; size = 0 }
+stretchOf runs i gone = record { at = 0; size = 0 }
 
--- the labels of a row's segments
-unfoldable pub labelsOf : List ℕ → Bytes → Row → List ℕ
-labelsOf labels rows row = map (λ d. getD labels (segmentOf d) 0) (placeAt rows (row .at) (row .size))
+-- the labels of a stretch's segments
+unfoldable pub labelsOf : List ℕ → Bytes → Stretch → List ℕ
+labelsOf labels runs s = map (λ d. getD labels (segmentOf d) 0) (placeAt runs (s .at) (s .size))
 
--- a row whose segments have labels below 64
-pub record RowFits (labels : List ℕ) (rows : Bytes) (row : Row) : Type 0 where
-  pub fits : row .at + row .size ≤ length rows
-  pub inside : (k : ℕ) → row .at ≤ k → k < row .at + row .size → getD rows k 0 / 2 < length labels
-  pub below : (k : ℕ) → row .at ≤ k → k < row .at + row .size → getD labels (getD rows k 0 / 2) 0 < 64
+-- a stretch whose segments have labels below 64
+pub record StretchFits (labels : List ℕ) (runs : Bytes) (s : Stretch) : Type 0 where
+  pub fits : s .at + s .size ≤ length runs
+  pub inside : (k : ℕ) → s .at ≤ k → k < s .at + s .size → getD runs k 0 / 2 < length labels
+  pub below : (k : ℕ) → s .at ≤ k → k < s .at + s .size → getD labels (getD runs k 0 / 2) 0 < 64
 
 -- a mark a label: 1 where it is marked
 unfoldable pub isMarked : Bytes → ℕ → Bool

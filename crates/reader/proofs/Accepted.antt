@@ -32,3 +32,10 @@ refused-by r (accepted b) e a = let z = sym (ap {B = Answer} (λ (x : BookRead).
 refused-by r (refused n d) e a =
     let z = sym (ap {B = Answer} (λ (x : BookRead). x .answer) e) ∙ a in
     ap₂ refused (ap number z) (ap detail z)
+
+-- what is accepted is not refused
+pub never-accepted : {a : Answer} {n d : ℕ} → a ≡ Refused n d → {A : Type 0} → a ≡ Accepted → A
+never-accepted e h = let z = sym e ∙ h in never cc
+
+pub refused-never : {r : BookRead} {n d : ℕ} → r ≡ bookReadOf (refused n d) → {A : Type 0} → r .answer ≡ Accepted → A
+refused-never e h = never-accepted (ap (λ (x : BookRead). x .answer) e) h

@@ -1,27 +1,26 @@
--- The book's own refusals, 10 and 11: what the code's tests of a train say in the specification's words, and what the answer is
+-- The book's own refusals, 10 and 11: what the code's tests of the trains say in the specification's words, and what the answer is
 -- where each test stands. Assumes nothing.
 use mathlib.Core.Path.{_≡_, refl, sym, ap, _∙_}
-use mathlib.Core.Bool.{Bool, true, false, not, _&&_, _||_, Bool·not-not}
+use mathlib.Core.Bool.{Bool, true, false, not, _||_, Bool·not-not}
 use mathlib.Core.Option.{none, some}
-use Prim.Native.Nat.{ℕ, suc, _≤_, _<_}
+use Prim.Native.Nat.{ℕ, _+_, _<_, min}
 use native.Mathlib.Omega.{arith}
-use mathlib.Core.List.{List, [], _∷_}
-use lib.ListN.{length, getD, take}
-use lib.Dec.{T, ltb, eqb}
-use Rattle.laws.proofs.Tests.{and-iff, ltb-iff, leb-iff, eqb-iff, true-of, false-of, empty-length}
-use Rattle.laws.proofs.Rows.{any-map, all-map}
+use mathlib.Core.List.{List, [], map}
+use lib.ListN.{length, getD, length-map, List·getD-append}
+use lib.Seq.{ext-getD}
+use lib.Dec.{ltb, eqb}
+use Rattle.laws.proofs.Tests.{ltb-iff, bool-ext, empty-length}
+use Rattle.laws.proofs.Rows.{any-map}
+use Rattle.laws.proofs.Parts.{length-upTo, map-at, map-same}
 use Rattle.model.specs.declared.Book.{Book as BookStruct}
-use Rattle.model.specs.declared.Train.{Train as TrainStruct}
-use Rattle.spec.specs.Lists.{all, any, upTo, empty, _when_, firstFault, one, refused}
-use Rattle.spec.specs.Book.{Book, Train, callsOf}
+use Rattle.spec.specs.Lists.{any, upTo, empty, _when_, firstFault, one, refused}
+use Rattle.spec.specs.Book.{Book, callsOf, trainAt}
 use Rattle.spec.specs.Runs.{runsOf}
-use Rattle.spec.specs.Read.{growing, trainAllFits, headFits, reachFits, bookFaults, refuseOr, maxRuns}
-use Rattle.spec.specs.Held.{held, heldTrain}
-use Rattle.spec.specs.BookFile.{FitsFields}
-use Rattle.network.proofs.Walks.{all-take-at}
+use Rattle.spec.specs.Read.{bookFaults, refuseOr, maxRuns}
+use Rattle.spec.specs.Held.{held, padded}
 use Rattle.reader.specs.Added.{Packed}
-use Rattle.listing.specs.Listed.{countAfter}
-use Rattle.demands.proofs.Growing.{Few, growing-parts}
+use Rattle.listing.specs.Listed.{countAfter, runsAt, runCounts}
+use Rattle.demands.proofs.Wellformed.{runs-at}
 use Rattle.reader.proofs.FrameTests.{fault-here, fault-next}
 use Rattle.reader.specs.declared.reading.Answer.the-variants.{Accepted}
 use Rattle.reader.specs.declared.reading.BookRead.{BookRead}
@@ -44,55 +43,48 @@ or-first false e = e
 pub not-of : {b c : Bool} → b ≡ not c → c ≡ not b
 not-of {b} {c} e = sym (ap not e ∙ Bool·not-not c)
 
--- ---- a train of the struct
+-- ---- the counts of runs
 
--- what every train of the book passes, the one at i passes
-pub train-passes : (f : Train → Bool) (b : BookStruct) (i : ℕ) (d : TrainStruct) → i < b .«train_count»
-    → b .«train_count» ≤ length (b .trains) → T (all f (held b .trains)) → T (f (heldTrain (getD (b .trains) i d)))
-unfolding held
-train-passes f b i d l fits h = all-take-at (λ t. f (heldTrain t)) (b .trains) (b .«train_count») i d l fits (rw all-map at h)
+-- an element by its place
+any-at {ℓ} : {A : Type ℓ} (f : A → Bool) (d : A) (xs : List A) → any f xs ≡ any (λ i. f (getD xs i d)) (upTo (length xs))
+any-at {A = A} f d xs =
+    let at : ℕ → A = λ i. getD xs i d in
+    let n = length xs in
+    ap (any f)
+    (sym
+    (ext-getD d (map at (upTo n)) xs (length-map (upTo n) at ∙ length-upTo n)
+    (λ i h. map-at at n i d (omega (arith, length-map (upTo n) at, length-upTo n)))))
+    ∙ any-map f at (upTo n)
 
--- the runs are over 256
-abbrev pub over : Book → TrainStruct → Bool
-over b t = ltb maxRuns (length (runsOf b (heldTrain t)))
-
--- the trains of the book are those of the struct
-any-trains : (f : Train → Bool) (b : BookStruct)
-    → any f (held b .trains) ≡ any (λ t. f (heldTrain t)) (take (b .«train_count») (b .trains))
-unfolding held
-any-trains f b = any-map f heldTrain (take (b .«train_count») (b .trains))
-
-pub over-trains : (b : BookStruct) → any (λ t. ltb maxRuns (length (runsOf (held b) t))) (held b .trains)
-    ≡ any (over (held b)) (take (b .«train_count») (b .trains))
-over-trains b = any-trains (λ t. ltb maxRuns (length (runsOf (held b) t))) b
+any-same : (f g : ℕ → Bool) (n : ℕ) → ((i : ℕ) → i < n → f i ≡ g i) → any f (upTo n) ≡ any g (upTo n)
+any-same f g n h =
+    sym (any-map (λ t. t) f (upTo n)) ∙ ap (any (λ t. t)) (map-same f g n h) ∙ any-map (λ t. t) g (upTo n)
 
 -- the count, which goes as far as 257, is over 256 exactly where there are more runs
-pub count-over : (n : ℕ) (rs : List (List ℕ)) → n ≡ countAfter 0 rs → 256 < n → ltb maxRuns (length rs) ≡ true
+count-over : (runs : List (List ℕ)) → ltb 256 (countAfter 0 runs) ≡ ltb maxRuns (length runs)
 unfolding countAfter
-count-over n rs e h = true-of (ltb 256 (length rs)) (ltb-iff 256 (length rs) .1 (omega arith))
+count-over runs =
+    let n = length runs in
+    bool-ext (ltb 256 (min 257 (0 + n))) (ltb 256 n)
+    (λ h. let k = ltb-iff 256 (min 257 (0 + n)) .0 h in ltb-iff 256 n .1 (omega arith))
+    (λ h. let k = ltb-iff 256 n .0 h in ltb-iff 256 (min 257 (0 + n)) .1 (omega arith))
 
-pub count-few : (n : ℕ) (rs : List (List ℕ)) → n ≡ countAfter 0 rs → n ≤ 256 → ltb maxRuns (length rs) ≡ false
-unfolding countAfter
-count-few n rs e h = false-of (ltb 256 (length rs)) (λ t. let l = ltb-iff 256 (length rs) .0 t in omega arith)
+-- a train's count
+pub count-at : (b : Book) (i : ℕ) → i < length (b .trains) → getD (runCounts b) i 0 ≡ countAfter 0 (runsAt b i)
+unfolding runCounts padded
+count-at b i l =
+    let n = length (b .trains) in
+    let counted : ℕ → ℕ = λ i. countAfter 0 (runsAt b i) in
+    List·getD-append (map counted (upTo n)) _ 0 i (omega (arith, length-map (upTo n) counted, length-upTo n)) ∙ map-at counted n i 0 l
 
-module _ (b : BookStruct) (g : T (growing (held b))) where
-  -- a segment's metres are 1 at least
-  pub metres-some : 1 ≤ b .«segment_metres»
-  unfolding headFits held
-  metres-some = let p = simp (and-iff, leb-iff) at (growing-parts _ g .head) in p .0 .0
-
-  module _ (i : ℕ) (d : TrainStruct) (l : i < b .«train_count») (fits : b .«train_count» ≤ length (b .trains)) where
-    -- a train's l and k fit
-    pub reach-here : T (reachFits (held b) (heldTrain (getD (b .trains) i d)))
-    unfolding Few trainAllFits
-    reach-here = let p = simp and-iff at (train-passes (trainAllFits (held b)) b i d l fits (growing-parts _ g .trains .1)) in p .0 .1
-
-    -- and its numbers are those of two bytes
-    pub numbers-here : FitsFields (held b) → (getD (b .trains) i d .metres < 65536) × (getD (b .trains) i d .speed < 65536)
-    unfolding heldTrain
-    numbers-here f =
-        simp (and-iff, ltb-iff) at
-        (train-passes (λ t. ltb (t .metres) 65536 && ltb (t .speed) 65536) b i d l fits (f .trains))
+-- some count is over 256 exactly where some train has more runs
+pub counts-over : (b : Book)
+    → any (λ i. ltb 256 (getD (runCounts b) i 0)) (upTo (length (b .trains))) ≡ any (λ t. ltb maxRuns (length (runsOf b t))) (b .trains)
+unfolding runsAt trainAt
+counts-over b =
+    any-same _ _ (length (b .trains))
+    (λ i l. ap (ltb 256) (count-at b i l) ∙ count-over (runsAt b i) ∙ ap (λ (runs : List (List ℕ)). ltb maxRuns (length runs)) (runs-at b i l))
+    ∙ sym (any-at (λ t. ltb maxRuns (length (runsOf b t))) _ (b .trains))
 
 -- ---- the answer
 
@@ -130,6 +122,7 @@ module _ (b : BookStruct) {r : BookRead} where
   ends-over e f h = rw (first-overs (held b) e f) h
 
   pub ends-fine : Packed b → lacks (held b) ≡ false → overs (held b) ≡ false
-      → r ≡ record { answer = Accepted; book = b } → r ≡ ended b
+      → r ≡ record { answer = Accepted; book = b; counts = runCounts (held b) } → r ≡ ended b
   unfolding refuseOr
-  ends-fine w e f h = rw (first-none (held b) e f) (h ∙ (λ i. record { answer = Accepted; book = w .same i }))
+  ends-fine w e f h =
+      rw (first-none (held b) e f) (h ∙ (λ i. record { answer = Accepted; book = w .same i; counts = runCounts (held b) }))

@@ -115,214 +115,158 @@ module _ (b : BookStruct) (fits : CountsFit b) where
   unfolding held
   trains-held e = length-map (take (b .«train_count») (b .trains)) heldTrain ∙ length-take-le _ (b .trains) (omega arith)
 
+-- ---- the struct with one part of it changed
+
+abbrev pub withHead : BookStruct → ℕ → ℕ → ℕ → BookStruct
+withHead b m s t = record {
+  «segment_metres» = m;
+  «interval_seconds» = s;
+  intervals = t;
+  «node_count» = b .«node_count»;
+  «segment_count» = b .«segment_count»;
+  «join_count» = b .«join_count»;
+  «train_count» = b .«train_count»;
+  «call_count» = b .«call_count»;
+  nodes = b .nodes;
+  segments = b .segments;
+  joins = b .joins;
+  trains = b .trains;
+  calls = b .calls;
+}
+
+abbrev pub withNodes : BookStruct → ℕ → List ℕ → BookStruct
+withNodes b n xs = record {
+  «segment_metres» = b .«segment_metres»;
+  «interval_seconds» = b .«interval_seconds»;
+  intervals = b .intervals;
+  «node_count» = n;
+  «segment_count» = b .«segment_count»;
+  «join_count» = b .«join_count»;
+  «train_count» = b .«train_count»;
+  «call_count» = b .«call_count»;
+  nodes = xs;
+  segments = b .segments;
+  joins = b .joins;
+  trains = b .trains;
+  calls = b .calls;
+}
+
+abbrev pub withSegments : BookStruct → ℕ → List Segment → BookStruct
+withSegments b n xs = record {
+  «segment_metres» = b .«segment_metres»;
+  «interval_seconds» = b .«interval_seconds»;
+  intervals = b .intervals;
+  «node_count» = b .«node_count»;
+  «segment_count» = n;
+  «join_count» = b .«join_count»;
+  «train_count» = b .«train_count»;
+  «call_count» = b .«call_count»;
+  nodes = b .nodes;
+  segments = xs;
+  joins = b .joins;
+  trains = b .trains;
+  calls = b .calls;
+}
+
+abbrev pub withJoins : BookStruct → ℕ → List Join → BookStruct
+withJoins b n xs = record {
+  «segment_metres» = b .«segment_metres»;
+  «interval_seconds» = b .«interval_seconds»;
+  intervals = b .intervals;
+  «node_count» = b .«node_count»;
+  «segment_count» = b .«segment_count»;
+  «join_count» = n;
+  «train_count» = b .«train_count»;
+  «call_count» = b .«call_count»;
+  nodes = b .nodes;
+  segments = b .segments;
+  joins = xs;
+  trains = b .trains;
+  calls = b .calls;
+}
+
+abbrev pub withTrains : BookStruct → ℕ → List TrainStruct → BookStruct
+withTrains b n xs = record {
+  «segment_metres» = b .«segment_metres»;
+  «interval_seconds» = b .«interval_seconds»;
+  intervals = b .intervals;
+  «node_count» = b .«node_count»;
+  «segment_count» = b .«segment_count»;
+  «join_count» = b .«join_count»;
+  «train_count» = n;
+  «call_count» = b .«call_count»;
+  nodes = b .nodes;
+  segments = b .segments;
+  joins = b .joins;
+  trains = xs;
+  calls = b .calls;
+}
+
+abbrev pub withCalls : BookStruct → ℕ → List Call → BookStruct
+withCalls b n xs = record {
+  «segment_metres» = b .«segment_metres»;
+  «interval_seconds» = b .«interval_seconds»;
+  intervals = b .intervals;
+  «node_count» = b .«node_count»;
+  «segment_count» = b .«segment_count»;
+  «join_count» = b .«join_count»;
+  «train_count» = b .«train_count»;
+  «call_count» = n;
+  nodes = b .nodes;
+  segments = b .segments;
+  joins = b .joins;
+  trains = b .trains;
+  calls = xs;
+}
+
 -- ---- an entry more
 
 -- Each: the struct that the code leaves is the one of the book with what the frame adds.
 module _ (b : BookStruct) (w : Packed b) (p : Bytes) where
   pub put-head : (m s t : ℕ) → m ≡ field p 0 2 → s ≡ field p 2 2 → t ≡ field p 4 1
-      → record {
-        «segment_metres» = m;
-        «interval_seconds» = s;
-        intervals = t;
-        «node_count» = b .«node_count»;
-        «segment_count» = b .«segment_count»;
-        «join_count» = b .«join_count»;
-        «train_count» = b .«train_count»;
-        «call_count» = b .«call_count»;
-        nodes = b .nodes;
-        segments = b .segments;
-        joins = b .joins;
-        trains = b .trains;
-        calls = b .calls;
-      }
-      ≡ packed (add (held b) headKind p)
+      → withHead b m s t ≡ packed (add (held b) headKind p)
   unfolding packed add headOf
   put-head m s t e f g =
-      λ i. let o = w .same i in record {
-        «segment_metres» = e i;
-        «interval_seconds» = f i;
-        intervals = g i;
-        «node_count» = o .«node_count»;
-        «segment_count» = o .«segment_count»;
-        «join_count» = o .«join_count»;
-        «train_count» = o .«train_count»;
-        «call_count» = o .«call_count»;
-        nodes = o .nodes;
-        segments = o .segments;
-        joins = o .joins;
-        trains = o .trains;
-        calls = o .calls;
-      }
+      λ i. withHead (w .same i) (e i) (f i) (g i)
 
   pub put-node : (x : ℕ) → x ≡ field p 0 1 → b .«node_count» < maxNodes
-      → record {
-        «segment_metres» = b .«segment_metres»;
-        «interval_seconds» = b .«interval_seconds»;
-        intervals = b .intervals;
-        «node_count» = b .«node_count» + 1;
-        «segment_count» = b .«segment_count»;
-        «join_count» = b .«join_count»;
-        «train_count» = b .«train_count»;
-        «call_count» = b .«call_count»;
-        nodes = set (b .nodes) (b .«node_count») x;
-        segments = b .segments;
-        joins = b .joins;
-        trains = b .trains;
-        calls = b .calls;
-      }
-      ≡ packed (add (held b) nodeKind p)
+      → withNodes b (b .«node_count» + 1) (set (b .nodes) (b .«node_count») x) ≡ packed (add (held b) nodeKind p)
   unfolding packed add
   put-node x e h =
       let c = count-row (field p 0 1) (held b .nodes) (sym (nodes-counted w)) in
       let r = set-row 0 x (held b .nodes) (sym (nodes-counted w)) (ap {B = List ℕ} (λ o. o .nodes) (w .same)) h
       ∙ ap (λ (y : ℕ). padded maxNodes 0 (held b .nodes ++ one y)) e in
-      λ i. let o = w .same i in record {
-        «segment_metres» = o .«segment_metres»;
-        «interval_seconds» = o .«interval_seconds»;
-        intervals = o .intervals;
-        «node_count» = c i;
-        «segment_count» = o .«segment_count»;
-        «join_count» = o .«join_count»;
-        «train_count» = o .«train_count»;
-        «call_count» = o .«call_count»;
-        nodes = r i;
-        segments = o .segments;
-        joins = o .joins;
-        trains = o .trains;
-        calls = o .calls;
-      }
+      λ i. withNodes (w .same i) (c i) (r i)
 
   pub put-segment : (x : Segment) → x ≡ segmentIn p → b .«segment_count» < maxSegments
-      → record {
-        «segment_metres» = b .«segment_metres»;
-        «interval_seconds» = b .«interval_seconds»;
-        intervals = b .intervals;
-        «node_count» = b .«node_count»;
-        «segment_count» = b .«segment_count» + 1;
-        «join_count» = b .«join_count»;
-        «train_count» = b .«train_count»;
-        «call_count» = b .«call_count»;
-        nodes = b .nodes;
-        segments = set (b .segments) (b .«segment_count») x;
-        joins = b .joins;
-        trains = b .trains;
-        calls = b .calls;
-      }
-      ≡ packed (add (held b) segmentKind p)
+      → withSegments b (b .«segment_count» + 1) (set (b .segments) (b .«segment_count») x) ≡ packed (add (held b) segmentKind p)
   unfolding packed add
   put-segment x e h =
       let c = count-row (segmentIn p) (held b .segments) (sym (segments-counted w)) in
       let r = set-row zeroSegment x (held b .segments) (sym (segments-counted w)) (ap {B = List Segment} (λ o. o .segments) (w .same)) h
       ∙ ap (λ (y : Segment). padded maxSegments zeroSegment (held b .segments ++ one y)) e in
-      λ i. let o = w .same i in record {
-        «segment_metres» = o .«segment_metres»;
-        «interval_seconds» = o .«interval_seconds»;
-        intervals = o .intervals;
-        «node_count» = o .«node_count»;
-        «segment_count» = c i;
-        «join_count» = o .«join_count»;
-        «train_count» = o .«train_count»;
-        «call_count» = o .«call_count»;
-        nodes = o .nodes;
-        segments = r i;
-        joins = o .joins;
-        trains = o .trains;
-        calls = o .calls;
-      }
+      λ i. withSegments (w .same i) (c i) (r i)
 
   pub put-join : (x : Join) → x ≡ joinIn p → b .«join_count» < maxJoins
-      → record {
-        «segment_metres» = b .«segment_metres»;
-        «interval_seconds» = b .«interval_seconds»;
-        intervals = b .intervals;
-        «node_count» = b .«node_count»;
-        «segment_count» = b .«segment_count»;
-        «join_count» = b .«join_count» + 1;
-        «train_count» = b .«train_count»;
-        «call_count» = b .«call_count»;
-        nodes = b .nodes;
-        segments = b .segments;
-        joins = set (b .joins) (b .«join_count») x;
-        trains = b .trains;
-        calls = b .calls;
-      }
-      ≡ packed (add (held b) joinKind p)
+      → withJoins b (b .«join_count» + 1) (set (b .joins) (b .«join_count») x) ≡ packed (add (held b) joinKind p)
   unfolding packed add
   put-join x e h =
       let c = count-row (joinIn p) (held b .joins) (sym (joins-counted w)) in
       let r = set-row zeroJoin x (held b .joins) (sym (joins-counted w)) (ap {B = List Join} (λ o. o .joins) (w .same)) h
       ∙ ap (λ (y : Join). padded maxJoins zeroJoin (held b .joins ++ one y)) e in
-      λ i. let o = w .same i in record {
-        «segment_metres» = o .«segment_metres»;
-        «interval_seconds» = o .«interval_seconds»;
-        intervals = o .intervals;
-        «node_count» = o .«node_count»;
-        «segment_count» = o .«segment_count»;
-        «join_count» = c i;
-        «train_count» = o .«train_count»;
-        «call_count» = o .«call_count»;
-        nodes = o .nodes;
-        segments = o .segments;
-        joins = r i;
-        trains = o .trains;
-        calls = o .calls;
-      }
+      λ i. withJoins (w .same i) (c i) (r i)
 
   pub put-call : (x : Call) → x ≡ callIn p → b .«call_count» < maxTrains * maxCalls
-      → record {
-        «segment_metres» = b .«segment_metres»;
-        «interval_seconds» = b .«interval_seconds»;
-        intervals = b .intervals;
-        «node_count» = b .«node_count»;
-        «segment_count» = b .«segment_count»;
-        «join_count» = b .«join_count»;
-        «train_count» = b .«train_count»;
-        «call_count» = b .«call_count» + 1;
-        nodes = b .nodes;
-        segments = b .segments;
-        joins = b .joins;
-        trains = b .trains;
-        calls = set (b .calls) (b .«call_count») x;
-      }
-      ≡ packed (add (held b) callKind p)
+      → withCalls b (b .«call_count» + 1) (set (b .calls) (b .«call_count») x) ≡ packed (add (held b) callKind p)
   unfolding packed add
   put-call x e h =
       let c = count-row (callIn p) (held b .calls) (sym (calls-counted w)) in
       let r = set-row zeroCall x (held b .calls) (sym (calls-counted w)) (ap {B = List Call} (λ o. o .calls) (w .same)) h
       ∙ ap (λ (y : Call). padded (maxTrains * maxCalls) zeroCall (held b .calls ++ one y)) e in
-      λ i. let o = w .same i in record {
-        «segment_metres» = o .«segment_metres»;
-        «interval_seconds» = o .«interval_seconds»;
-        intervals = o .intervals;
-        «node_count» = o .«node_count»;
-        «segment_count» = o .«segment_count»;
-        «join_count» = o .«join_count»;
-        «train_count» = o .«train_count»;
-        «call_count» = c i;
-        nodes = o .nodes;
-        segments = o .segments;
-        joins = o .joins;
-        trains = o .trains;
-        calls = r i;
-      }
+      λ i. withCalls (w .same i) (c i) (r i)
 
   pub put-train : (x : TrainStruct) → x ≡ packedTrain (trainIn p) → b .«train_count» < maxTrains
-      → record {
-        «segment_metres» = b .«segment_metres»;
-        «interval_seconds» = b .«interval_seconds»;
-        intervals = b .intervals;
-        «node_count» = b .«node_count»;
-        «segment_count» = b .«segment_count»;
-        «join_count» = b .«join_count»;
-        «train_count» = b .«train_count» + 1;
-        «call_count» = b .«call_count»;
-        nodes = b .nodes;
-        segments = b .segments;
-        joins = b .joins;
-        trains = set (b .trains) (b .«train_count») x;
-        calls = b .calls;
-      }
-      ≡ packed (add (held b) trainKind p)
+      → withTrains b (b .«train_count» + 1) (set (b .trains) (b .«train_count») x) ≡ packed (add (held b) trainKind p)
   unfolding packed add
   put-train x e h =
       let n : b .«train_count» ≡ length (held b .trains) = sym (trains-counted w) in
@@ -331,21 +275,7 @@ module _ (b : BookStruct) (w : Packed b) (p : Bytes) where
       let r = set-row zeroTrain x (map packedTrain (held b .trains)) m (ap {B = List TrainStruct} (λ o. o .trains) (w .same)) h
       ∙ ap (λ (y : TrainStruct). padded maxTrains zeroTrain (map packedTrain (held b .trains) ++ one y)) e
       ∙ ap (padded maxTrains zeroTrain) (sym (map-snoc packedTrain (held b .trains) (trainIn p))) in
-      λ i. let o = w .same i in record {
-        «segment_metres» = o .«segment_metres»;
-        «interval_seconds» = o .«interval_seconds»;
-        intervals = o .intervals;
-        «node_count» = o .«node_count»;
-        «segment_count» = o .«segment_count»;
-        «join_count» = o .«join_count»;
-        «train_count» = c i;
-        «call_count» = o .«call_count»;
-        nodes = o .nodes;
-        segments = o .segments;
-        joins = o .joins;
-        trains = r i;
-        calls = o .calls;
-      }
+      λ i. withTrains (w .same i) (c i) (r i)
 
   -- an Unbreakable TTD adds nothing
   pub put-nothing : b ≡ packed (add (held b) unbreakableKind p)

@@ -4,12 +4,14 @@ use mathlib.Core.Bool.{Bool, true, false, not, _&&_, _||_}
 use mathlib.Core.Option.{Option, none, some}
 use Prim.Native.Nat.{ℕ, _+_}
 use mathlib.Core.List.{[]}
+use lib.ListN.{replicate}
 use lib.Dec.{ltb, eqb}
 use Rattle.spec.specs.Lists.{Bytes, Verdict, accepted, refused, firstFault}
 use Rattle.spec.specs.Frames.{frameHead, Kind, kindOrder, findKind, kindField, payloadLength, payloadOf, rank}
 use Rattle.spec.specs.Book.{Book, noBook}
-use Rattle.spec.specs.Read.{Reading, frameFaults, pastFrame, isHead, isEnd, kindFaults, addFound}
+use Rattle.spec.specs.Read.{Reading, frameFaults, pastFrame, isHead, isEnd, kindFaults, addFound, maxTrains}
 use Rattle.spec.specs.Held.{held, packed}
+use Rattle.listing.specs.Listed.{runCounts}
 use Rattle.reader.specs.Added.{settled}
 use Rattle.reader.specs.declared.content.Added.{Added}
 use Rattle.reader.specs.declared.reading.Answer.{Answer}
@@ -24,10 +26,10 @@ abbrev pub answerOf : {A : Type 0} → Verdict A → Answer
 answerOf (accepted a) = Accepted
 answerOf (refused n d) = Refused n d
 
--- a verdict on a book, with the book by value, or the empty one beside a refusal
+-- a verdict on a book, with the book by value and how many runs each of its trains has, or the empty book beside a refusal
 abbrev pub bookReadOf : Verdict Book → BookRead
-bookReadOf (accepted b) = record { answer = Accepted; book = packed b }
-bookReadOf (refused n d) = record { answer = Refused n d; book = packed noBook }
+bookReadOf (accepted b) = record { answer = Accepted; book = packed b; counts = runCounts b }
+bookReadOf (refused n d) = record { answer = Refused n d; book = packed noBook; counts = replicate maxTrains 0 }
 
 -- 4 to 9 of a frame whose kind was found, and the book after it
 unfoldable pub addedFound : Book → Option Kind → Bytes → Added

@@ -1,6 +1,7 @@
 // Reading a book: the frames in file order, each through its refusals by rising number, then the
 // book's own. `read_book` is the entry point: it takes any bytes, and answers the book by value or one
-// numbered refusal. Assumes nothing.
+// numbered refusal; `read_runs` leaves the trains' runs, which 11 counts, in a lent table. Assumes
+// nothing.
 use crate::content::Added;
 use crate::content::Checked;
 use crate::content::add_call;
@@ -27,13 +28,11 @@ use frames::frame_at;
 use frames::kind_of;
 use frames::out_of_order;
 use frames::rank;
-use listing::FAN_BYTES;
-use listing::SUCCESSOR_BYTES;
-use listing::TRAIN_BYTES;
-use listing::fill_successors;
-use listing::list_runs;
+use listing::TABLE_BYTES;
+use listing::list_trains;
 use model::Book;
 use model::Call;
+use model::Counts;
 use model::Join;
 use model::MAX_CALLS;
 use model::MAX_JOINS;
@@ -61,6 +60,7 @@ ghost use Rattle.spec.specs.Held.{held, packed, CountsFit};
 ghost use Rattle.reader.specs.Added.{Packed};
 ghost use Rattle.frames.specs.Framed.{framedAt, kindIn};
 ghost use Rattle.spec.specs.Reached.{Reached};
+ghost use Rattle.listing.specs.Listed.{tableBytes, runTable, runCounts};
 ghost use Rattle.reader.specs.BookAnswers.{bookReadOf, addedFound, steppedAt};
 
 // A verdict: accepted, or a refusal's number and detail.
@@ -69,10 +69,11 @@ pub enum Answer {
     Refused(usize, usize),
 }
 
-// A book that was read, or the empty book beside its refusal.
+// A book that was read, with how many runs each of its trains has; or the empty book beside its refusal.
 pub struct BookRead {
     pub answer: Answer,
     pub book: Book,
+    pub counts: Counts,
 }
 
 // The book before any frame.
@@ -118,6 +119,7 @@ fn refused_book(number: usize) -> BookRead
     BookRead {
         answer: Answer::Refused(number, 0),
         book: empty_book(),
+        counts: [0usize; MAX_TRAINS],
     }
 }
 
@@ -295,21 +297,15 @@ fn all_called(b: Book) -> bool
     n != 0
 }
 
-// 11: no train has over 256 runs.
-fn few_runs(b: Book) -> bool
-    requires { ⌜ Packed b × T (growing (held b)) × FitsFields (held b) ⌝ }
+// 11: no train has over 256 runs. The counts go as far as 257.
+fn few_runs(b: Book, counts: Counts) -> bool
+    requires { ⌜ CountsFit b × (counts ≡ runCounts (held b)) ⌝ }
     ensures { λ r. ⌜ r ≡ not (any (λ t. ltb maxRuns (length (runsOf (held b) t))) (held b .trains)) ⌝ }
 {
     let n = b.train_count;
-    let mut table = [0u8; SUCCESSOR_BYTES];
-    let mut fans = [0u8; FAN_BYTES];
-    fill_successors(b, &mut table, &mut fans);
-    let mut rows = [0u8; TRAIN_BYTES];
-    let mut sizes = [0u8; MAX_RUNS];
     let mut i = 0;
     while i < n {
-        let t = b.trains[i];
-        if MAX_RUNS < list_runs(b, t, &table, &fans, &mut rows, &mut sizes) {
+        if MAX_RUNS < counts[i] {
             return false;
         }
         i += 1;
@@ -317,26 +313,33 @@ fn few_runs(b: Book) -> bool
     true
 }
 
-// The book's own refusals, 10 and 11, after its End.
-fn finish(b: Book) -> BookRead
-    requires { ⌜ Packed b × T (growing (held b)) × FitsFields (held b) ⌝ }
-    ensures { λ r. ⌜ r ≡ bookReadOf (refuseOr (firstFault (bookFaults (held b))) (held b)) ⌝ }
+// The book's own refusals, 10 and 11, after its End. The runs that are counted for 11 are left in the
+// table; beside a refusal it is left free.
+fn finish(b: Book, runs: &mut [u8]) -> BookRead
+    requires { ⌜ Packed b × T (growing (held b)) × FitsFields (held b) × (length (now runs) ≡ tableBytes) ⌝ }
+    ensures { λ r. ⌜ (r ≡ bookReadOf (refuseOr (firstFault (bookFaults (held b))) (held b)))
+        × (r .answer ≡ Answer.Accepted → now (runs .exit) ≡ runTable (held (r .book)) (now (runs .entry))) ⌝ }
 {
     if !all_called(b) {
         return refused_book(10);
     }
-    if !few_runs(b) {
+    let counts = list_trains(b, runs);
+    if !few_runs(b, counts) {
         return refused_book(11);
     }
     BookRead {
         answer: Answer::Accepted,
         book: b,
+        counts: counts,
     }
 }
 
-// The entry point: the book that the bytes hold, or one numbered refusal.
-pub fn read_book(s: &[u8]) -> BookRead
-    ensures { λ r. ⌜ r ≡ bookReadOf (readBook (now (s .entry))) ⌝ }
+// The book that the bytes hold, with its runs in the table, or one numbered refusal; beside that the
+// table is left free.
+pub fn read_runs(s: &[u8], runs: &mut [u8]) -> BookRead
+    requires { ⌜ length (now runs) ≡ tableBytes ⌝ }
+    ensures { λ r. ⌜ (r ≡ bookReadOf (readBook (now (s .entry))))
+        × (r .answer ≡ Answer.Accepted → now (runs .exit) ≡ runTable (held (r .book)) (now (runs .entry))) ⌝ }
 {
     let mut book = empty_book();
     let mut last = 0;
@@ -349,7 +352,7 @@ pub fn read_book(s: &[u8]) -> BookRead
                 return refused_book(n);
             }
             Next::End => {
-                return finish(book);
+                return finish(book, runs);
             }
             Next::More { at: a, last: l } => {
                 book = st.book;
@@ -358,4 +361,12 @@ pub fn read_book(s: &[u8]) -> BookRead
             }
         }
     }
+}
+
+// The entry point: the book that the bytes hold, or one numbered refusal.
+pub fn read_book(s: &[u8]) -> BookRead
+    ensures { λ r. ⌜ r ≡ bookReadOf (readBook (now (s .entry))) ⌝ }
+{
+    let mut runs = [0u8; TABLE_BYTES];
+    read_runs(s, &mut runs)
 }

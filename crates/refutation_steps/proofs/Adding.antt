@@ -18,6 +18,7 @@ use Rattle.propagation.proofs.Lookup.{length-starts}
 use Rattle.propagation.proofs.Adding.{starts-append}
 use Rattle.propagation.specs.Known.{LeftOnTrail}
 use Rattle.propagation.proofs.Trail.{left-alone, left-both}
+use Rattle.refutation_steps.specs.declared.one_step.Filled.{Filled}
 use Rattle.refutation_steps.specs.declared.one_step.StepAnswer.{StepAnswer}
 use Rattle.refutation_steps.specs.declared.one_step.StepAnswer.the-variants.{Proved, Refused}
 use Rattle.refutation_steps.specs.Checked.{stepChecked}
@@ -62,14 +63,14 @@ sets-append l i (x ∷ xs) ys =
     let e : suc i + length xs ≡ i + suc (length xs) = omega arith in
     sets-append (set l i x) (suc i) xs ys ∙ ap (λ (k : ℕ). sets (sets (set l i x) (suc i) xs) k ys) e
 
-module _ {used₀ count₀ : ℕ} {words₀ : List ℤ} {starts₀ : List ℕ} {values₀ : Bytes} {trail₀ : List ℕ} where
+module _ {filled₀ : Filled} {words₀ : List ℤ} {starts₀ : List ℕ} {values₀ : Bytes} {trail₀ : List ℕ} where
   -- before the first step
-  pub nothing-yet : Adds [] used₀ count₀ words₀ starts₀ values₀ trail₀ words₀ starts₀ values₀ trail₀
+  pub nothing-yet : Adds [] filled₀ words₀ starts₀ values₀ trail₀ words₀ starts₀ values₀ trail₀
   unfolding wordsOf each startsFrom
   nothing-yet = record { wordsAfter = refl; startsAfter = refl; valuesAfter = refl; trailAfter = left-alone }
 
   module _ {new : List Clause} {words : List ℤ} {starts : List ℕ} {values : Bytes} {trail : List ℕ}
-      (a : Adds new used₀ count₀ words₀ starts₀ values₀ trail₀ words starts values trail) where
+      (a : Adds new filled₀ words₀ starts₀ values₀ trail₀ words starts values trail) where
     -- what is left on the trail since the first step
     left-since : {trail′ : List ℕ} → LeftOnTrail (length values) trail trail′ → LeftOnTrail (length values₀) trail₀ trail′
     left-since left = left-both (a .trailAfter) (rw (a .valuesAfter) at left)
@@ -77,7 +78,7 @@ module _ {used₀ count₀ : ℕ} {words₀ : List ℤ} {starts₀ : List ℕ} {
     -- a refused step
     pub stays : {words′ : List ℤ} {starts′ : List ℕ} {values′ : Bytes} {trail′ : List ℕ} → words′ ≡ words → starts′ ≡ starts
         → values′ ≡ values → LeftOnTrail (length values) trail trail′
-        → Adds new used₀ count₀ words₀ starts₀ values₀ trail₀ words′ starts′ values′ trail′
+        → Adds new filled₀ words₀ starts₀ values₀ trail₀ words′ starts′ values′ trail′
     stays e f g left = record {
       wordsAfter = e ∙ a .wordsAfter;
       startsAfter = f ∙ a .startsAfter;
@@ -86,21 +87,22 @@ module _ {used₀ count₀ : ℕ} {words₀ : List ℤ} {starts₀ : List ℕ} {
     }
 
     -- a proved step
-    pub grows : (c : Clause) {words′ : List ℤ} {starts′ : List ℕ} {values′ : Bytes} {trail′ : List ℕ} {used count : ℕ}
-        → used ≡ used₀ + length (wordsOf new) → count ≡ count₀ + length new → words′ ≡ sets words used (c ++ one (pos 0))
-        → starts′ ≡ set starts count used → values′ ≡ values → LeftOnTrail (length values) trail trail′
-        → Adds (new ++ one c) used₀ count₀ words₀ starts₀ values₀ trail₀ words′ starts′ values′ trail′
+    pub grows : (c : Clause) {words′ : List ℤ} {starts′ : List ℕ} {values′ : Bytes} {trail′ : List ℕ} {filled : Filled}
+        → filled .words ≡ filled₀ .words + length (wordsOf new) → filled .clauses ≡ filled₀ .clauses + length new
+        → words′ ≡ sets words (filled .words) (c ++ one (pos 0)) → starts′ ≡ set starts (filled .clauses) (filled .words)
+        → values′ ≡ values → LeftOnTrail (length values) trail trail′
+        → Adds (new ++ one c) filled₀ words₀ starts₀ values₀ trail₀ words′ starts′ values′ trail′
     grows c u k e f g left = record {
       wordsAfter =
           e
           ∙ (λ i. sets (a .wordsAfter i) (u i) (words-one c i))
-          ∙ sym (sets-append words₀ used₀ (wordsOf new) (wordsOf (one c)))
-          ∙ ap (sets words₀ used₀) (sym (words-append new (one c)));
+          ∙ sym (sets-append words₀ (filled₀ .words) (wordsOf new) (wordsOf (one c)))
+          ∙ ap (sets words₀ (filled₀ .words)) (sym (words-append new (one c)));
       startsAfter =
           f
-          ∙ (λ i. set (a .startsAfter i) ((k ∙ ap (λ (n : ℕ). count₀ + n) (sym (length-starts used₀ new))) i) (u i))
-          ∙ sym (sets-append starts₀ count₀ (startsFrom used₀ new) (one (used₀ + length (wordsOf new))))
-          ∙ ap (sets starts₀ count₀) (sym (starts-append used₀ new c));
+          ∙ (λ i. set (a .startsAfter i) ((k ∙ ap (λ (n : ℕ). filled₀ .clauses + n) (sym (length-starts (filled₀ .words) new))) i) (u i))
+          ∙ sym (sets-append starts₀ (filled₀ .clauses) (startsFrom (filled₀ .words) new) (one (filled₀ .words + length (wordsOf new))))
+          ∙ ap (sets starts₀ (filled₀ .clauses)) (sym (starts-append (filled₀ .words) new c));
       valuesAfter = g ∙ a .valuesAfter;
       trailAfter = left-since left;
     }

@@ -21,10 +21,11 @@ use Rattle.spec.specs.Refutation.{stepIn, stepDetail, checkSteps, checkFile, cl
 use Rattle.reader.specs.declared.reading.Answer.{Answer}
 use Rattle.reader.specs.declared.reading.Answer.the-variants.{Accepted, Refused}
 use Rattle.reader.specs.BookAnswers.{answerOf}
+use Rattle.refutation_steps.specs.declared.one_step.Filled.{Filled}
 use Rattle.refutation_steps.specs.declared.one_step.StepAnswer.{StepAnswer}
 use Rattle.refutation_steps.specs.declared.one_step.StepAnswer.the-variants as step
 use Rattle.refutation_file.specs.Found.{stepBytes}
-use Rattle.refutation_steps.specs.Checked.{Ready, lentBy, stepChecked, Leaves}
+use Rattle.refutation_steps.specs.Checked.{Ready, oneMore, lentBy, stepChecked, Leaves}
 use Rattle.refutation_steps.proofs.StepFaults.{words-added, is-bad}
 use Rattle.refutation_steps.specs.Added.{addedFrom, added, Adds, LeavesAll}
 use Rattle.refutation_steps.proofs.Adding.{adds-none, adds-last, adds-more, nothing-yet, stays, grows}
@@ -42,34 +43,35 @@ none-left r at l =
     empty-length (drop at r) ∙ ap (λ (k : ℕ). eqb k 0) (length-drop at r) ∙ eq-eqb (length r - at) 0 (omega arith)
 
 -- the file, and the slices as they were at first
-module _ (r : Bytes) (used₀ count₀ : ℕ) (words₀ : List ℤ) (starts₀ : List ℕ) (values₀ : Bytes) (trail₀ : List ℕ) where
+module _ (r : Bytes) (filled₀ : Filled) (words₀ : List ℤ) (starts₀ : List ℕ) (values₀ : Bytes) (trail₀ : List ℕ) where
   -- the verdict on the whole file
   abbrev verdict : Verdict (Unit {0})
-  verdict = checkFile (lentBy (length words₀) (length starts₀)) (length values₀) (clausesOf (take used₀ words₀)) r
+  verdict = checkFile (lentBy (length words₀) (length starts₀)) (length values₀) (clausesOf (take (filled₀ .words) words₀)) r
 
   -- the clauses that it adds
   abbrev total : List Clause
-  total = added (length words₀) (length starts₀) (length values₀) (clausesOf (take used₀ words₀)) r
+  total = added (length words₀) (length starts₀) (length values₀) (clausesOf (take (filled₀ .words) words₀)) r
 
   -- what is promised of an answer, and of the slices then
   abbrev pub Promised : Answer → List ℤ → List ℕ → Bytes → List ℕ → Type 0
   Promised a words starts values trail =
-      (a ≡ answerOf verdict) × LeavesAll r used₀ count₀ words₀ starts₀ values₀ trail₀ words starts values trail
+      (a ≡ answerOf verdict) × LeavesAll r filled₀ words₀ starts₀ values₀ trail₀ words starts values trail
 
   -- what is known at a place: the whole's verdict is the rest's, whatever fuel is left; the clauses so far were added to the slices,
   -- and the rest's are all others; the slices are ready for the next step
-  pub record Along (words : List ℤ) (starts : List ℕ) (values : Bytes) (trail : List ℕ) (used count at number : ℕ) : Type 0 where
+  pub record Along (words : List ℤ) (starts : List ℕ) (values : Bytes) (trail : List ℕ) (filled : Filled) (at number : ℕ) : Type 0 where
     pub fuel : ℕ
     pub enough : length r < at + fuel
     pub same : verdict
-        ≡ checkSteps (lentBy (length words₀) (length starts₀)) (length values₀) fuel number (clausesOf (take used words)) (drop at r)
+        ≡ checkSteps (lentBy (length words₀) (length starts₀)) (length values₀) fuel number (clausesOf (take (filled .words) words))
+        (drop at r)
     pub new : List Clause
-    pub adds : Adds new used₀ count₀ words₀ starts₀ values₀ trail₀ words starts values trail
+    pub adds : Adds new filled₀ words₀ starts₀ values₀ trail₀ words starts values trail
     pub others : total
-        ≡ new ++ addedFrom (length words₀) (length starts₀) (length values₀) fuel (clausesOf (take used words)) (drop at r)
-    pub usedNow : used ≡ used₀ + length (wordsOf new)
-    pub countNow : count ≡ count₀ + length new
-    pub ready : Ready used count words starts values trail
+        ≡ new ++ addedFrom (length words₀) (length starts₀) (length values₀) fuel (clausesOf (take (filled .words) words)) (drop at r)
+    pub wordsNow : filled .words ≡ filled₀ .words + length (wordsOf new)
+    pub clausesNow : filled .clauses ≡ filled₀ .clauses + length new
+    pub ready : Ready filled words starts values trail
     pub within : at ≤ length r
     pub steps : number ≤ at + 1
     pub wordsLength : length words ≡ length words₀
@@ -78,8 +80,8 @@ module _ (r : Bytes) (used₀ count₀ : ℕ) (words₀ : List ℤ) (starts₀ :
     pub trailLength : length trail ≡ length trail₀
 
 -- before the first step
-pub sets-out : (r : Bytes) {words : List ℤ} {starts : List ℕ} {values : Bytes} {trail : List ℕ} {used count : ℕ}
-    → Ready used count words starts values trail → Along r used count words starts values trail words starts values trail used count 0 1
+pub sets-out : (r : Bytes) {words : List ℤ} {starts : List ℕ} {values : Bytes} {trail : List ℕ} {filled : Filled}
+    → Ready filled words starts values trail → Along r filled words starts values trail words starts values trail filled 0 1
 unfolding checkFile added wordsOf each
 sets-out r ready = record {
   fuel = suc (length r);
@@ -88,8 +90,8 @@ sets-out r ready = record {
   new = [];
   adds = nothing-yet;
   others = refl;
-  usedNow = omega arith;
-  countNow = omega arith;
+  wordsNow = omega arith;
+  clausesNow = omega arith;
   ready = ready;
   within = omega arith;
   steps = omega arith;
@@ -99,15 +101,15 @@ sets-out r ready = record {
   trailLength = refl;
 }
 
-module _ {r : Bytes} {used₀ count₀ : ℕ} {words₀ : List ℤ} {starts₀ : List ℕ} {values₀ : Bytes} {trail₀ : List ℕ}
-    {words : List ℤ} {starts : List ℕ} {values : Bytes} {trail : List ℕ} {used count at number : ℕ}
-    (a : Along r used₀ count₀ words₀ starts₀ values₀ trail₀ words starts values trail used count at number) where
+module _ {r : Bytes} {filled₀ : Filled} {words₀ : List ℤ} {starts₀ : List ℕ} {values₀ : Bytes} {trail₀ : List ℕ}
+    {words : List ℤ} {starts : List ℕ} {values : Bytes} {trail : List ℕ} {filled : Filled} {at number : ℕ}
+    (a : Along r filled₀ words₀ starts₀ values₀ trail₀ words starts values trail filled at number) where
   -- the verdict on the whole file, and the clauses that it adds
   abbrev whole : Verdict (Unit {0})
-  whole = verdict r used₀ count₀ words₀ starts₀ values₀ trail₀
+  whole = verdict r filled₀ words₀ starts₀ values₀ trail₀
 
   abbrev every : List Clause
-  every = total r used₀ count₀ words₀ starts₀ values₀ trail₀
+  every = total r filled₀ words₀ starts₀ values₀ trail₀
 
   -- how many words and clauses are lent, and how many variables there are
   abbrev W : ℕ
@@ -121,22 +123,22 @@ module _ {r : Bytes} {used₀ count₀ : ℕ} {words₀ : List ℤ} {starts₀ :
 
   -- the clauses so far, and what stands from here on
   abbrev cs : List Clause
-  cs = clausesOf (take used words)
+  cs = clausesOf (take (filled .words) words)
 
   abbrev s : Bytes
   s = drop at r
 
   -- what is promised where the check ends
   abbrev Ends : Answer → List ℤ → List ℕ → Bytes → List ℕ → Type 0
-  Ends x words′ starts′ values′ trail′ = Promised r used₀ count₀ words₀ starts₀ values₀ trail₀ x words′ starts′ values′ trail′
+  Ends x words′ starts′ values′ trail′ = Promised r filled₀ words₀ starts₀ values₀ trail₀ x words′ starts′ values′ trail′
 
   -- the same, where these clauses were added
   ends : {x : Answer} {new : List Clause} {words′ : List ℤ} {starts′ : List ℕ} {values′ : Bytes} {trail′ : List ℕ}
       → x ≡ answerOf whole → every ≡ new
-      → Adds new used₀ count₀ words₀ starts₀ values₀ trail₀ words′ starts′ values′ trail′ → Ends x words′ starts′ values′ trail′
+      → Adds new filled₀ words₀ starts₀ values₀ trail₀ words′ starts′ values′ trail′ → Ends x words′ starts′ values′ trail′
   ends {words′ = words′} {starts′} {values′} {trail′} v e d = (
     v,
-    subst (λ (n : List Clause). Adds n used₀ count₀ words₀ starts₀ values₀ trail₀ words′ starts′ values′ trail′) (sym e) d,
+    subst (λ (n : List Clause). Adds n filled₀ words₀ starts₀ values₀ trail₀ words′ starts′ values′ trail′) (sym e) d,
   )
 
   -- some fuel is left, and one less for what stands behind
@@ -166,7 +168,7 @@ module _ {r : Bytes} {used₀ count₀ : ℕ} {words₀ : List ℤ} {starts₀ :
     -- a refused step ends the check
     pub stopped : {n d : ℕ} {words′ : List ℤ} {starts′ : List ℕ} {values′ : Bytes} {trail′ : List ℕ} → d ≡ stepDetail n number
         → step.Refused n ≡ stepChecked (length words) (length starts) (length values) cs s
-        → Leaves (step.Refused n) s used count words starts values trail words′ starts′ values′ trail′
+        → Leaves (step.Refused n) s filled words starts values trail words′ starts′ values′ trail′
         → Ends (Refused n d) words′ starts′ values′ trail′
     stopped {n} e k leaves = ends
         (ap {B = Answer} (Refused n) e
@@ -189,10 +191,10 @@ module _ {r : Bytes} {used₀ count₀ : ℕ} {words₀ : List ℤ} {starts₀ :
       claimed = stepIn (payloadOf s) .literals
 
       module _ {words′ : List ℤ} {starts′ : List ℕ} {values′ : Bytes} {trail′ : List ℕ}
-          (leaves : Leaves (step.Proved n h) s used count words starts values trail words′ starts′ values′ trail′) where
+          (leaves : Leaves (step.Proved n h) s filled words starts values trail words′ starts′ values′ trail′) where
         -- is added
-        one-more : Adds (a .new ++ one claimed) used₀ count₀ words₀ starts₀ values₀ trail₀ words′ starts′ values′ trail′
-        one-more = grows (a .adds) claimed (a .usedNow) (a .countNow) (leaves .2) (leaves .3) (leaves .4) (leaves .5)
+        one-more : Adds (a .new ++ one claimed) filled₀ words₀ starts₀ values₀ trail₀ words′ starts′ values′ trail′
+        one-more = grows (a .adds) claimed (a .wordsNow) (a .clausesNow) (leaves .2) (leaves .3) (leaves .4) (leaves .5)
 
         -- an empty step at the file's end
         pub ended : n ≡ 0 → at + stepBytes n h ≡ length r → Ends Accepted words′ starts′ values′ trail′
@@ -211,26 +213,23 @@ module _ {r : Bytes} {used₀ count₀ : ℕ} {words₀ : List ℤ} {starts₀ :
         -- any other step: its clause stands behind those before it
         pub went-on : {to : ℕ} → (n ≡ 0 → ⊥) → to ≡ at + stepBytes n h → length words′ ≡ length words → length starts′ ≡ length starts
             → length values′ ≡ length values → length trail′ ≡ length trail
-            → Along r used₀ count₀ words₀ starts₀ values₀ trail₀ words′ starts′ values′ trail′ (used + n + 1) (count + 1) to (number + 1)
+            → Along r filled₀ words₀ starts₀ values₀ trail₀ words′ starts′ values′ trail′ (oneMore filled n) to (number + 1)
         went-on {to} z there ew es ev et =
             let room = a .enough in
             let later = a .steps in
-            let size : used + (n + 1) ≡ used + n + 1 = omega arith in
             let rest = left ∙ ap (λ (i : ℕ). drop i r) (sym there) in record {
               fuel = fuel′;
               enough = omega arith;
               same = whole-here fuelled ∙ walking.goes-on W C N cs s (answer k) fuel′ number (some-left r at l) z
-                  ∙ (λ i. checkSteps (lentBy W C) N fuel′ (sym (add-one number) i) (sym (leaves .1) i) (rest i))
-                  ∙ ap (λ (m : ℕ). checkSteps (lentBy W C) N fuel′ (number + 1) (clausesOf (take m words′)) (drop to r)) size;
+                  ∙ (λ i. checkSteps (lentBy W C) N fuel′ (sym (add-one number) i) (sym (leaves .1) i) (rest i));
               new = a .new ++ one claimed;
               adds = one-more;
               others = every-here fuelled (adds-more W C N fuel′ cs s (answer k) z)
                   ∙ (λ i. a .new ++ (claimed ∷ addedFrom W C N fuel′ (sym (leaves .1) i) (rest i)))
-                  ∙ sym (append-assoc (a .new) (one claimed) _)
-                  ∙ ap (λ (m : ℕ). (a .new ++ one claimed) ++ addedFrom W C N fuel′ (clausesOf (take m words′)) (drop to r)) size;
-              usedNow = omega (arith, a .usedNow, words-added (a .new) claimed, walking.counted W C N cs s (answer k));
-              countNow = omega (arith, a .countNow, length-append (a .new) (one claimed));
-              ready = subst (λ (m : ℕ). Ready m (count + 1) words′ starts′ values′ trail′) size (leaves .0);
+                  ∙ sym (append-assoc (a .new) (one claimed) _);
+              wordsNow = omega (arith, a .wordsNow, words-added (a .new) claimed, walking.counted W C N cs s (answer k));
+              clausesNow = omega (arith, a .clausesNow, length-append (a .new) (one claimed));
+              ready = leaves .0;
               within = rw there next;
               steps = omega arith;
               wordsLength = ew ∙ a .wordsLength;

@@ -20,6 +20,7 @@ use Rattle.refutation_file.specs.Found.{stepFound, literalBytes}
 use Rattle.propagation.specs.Known.{LeftOnTrail}
 use Rattle.refutation_steps.specs.Checked.{Ready, stepChecked, lentBy, Leaves}
 use Rattle.refutation_file.specs.declared.steps.Step.the-variants.{Whole}
+use Rattle.refutation_steps.specs.declared.one_step.Filled.{Filled}
 use Rattle.refutation_steps.specs.declared.one_step.StepAnswer.{StepAnswer}
 use Rattle.refutation_steps.specs.declared.one_step.StepAnswer.the-variants.{Proved, Refused}
 use Rattle.refutation_file.proofs.RowNumbers.{literals-length}
@@ -29,18 +30,18 @@ use Rattle.propagation.proofs.Adding.{kept-added}
 use Rattle.refutation_steps.proofs.StepFaults.{room-one, literals-bad, hints-bad, no-room, rule-broken, proved}
 
 -- A whole step s of n literals and h hints, in the rows ls and hs, where the slices are ready for it.
-pub record Given (used count n h : ℕ) (words : List ℤ) (starts : List ℕ) (values : Bytes) (trail : List ℕ) (s ls hs : Bytes)
+pub record Given (filled : Filled) (n h : ℕ) (words : List ℤ) (starts : List ℕ) (values : Bytes) (trail : List ℕ) (s ls hs : Bytes)
     : Type 0 where
-  pub ready : Ready used count words starts values trail
+  pub ready : Ready filled words starts values trail
   pub whole : stepFound s ≡ Whole n h
   pub literalRow : ls ≡ literalBytes (payloadOf s)
   pub hintRow : hs ≡ hintBytes (payloadOf s)
 
-module _ {used count n h : ℕ} {words : List ℤ} {starts : List ℕ} {values : Bytes} {trail : List ℕ} {s ls hs : Bytes}
-    (given : Given used count n h words starts values trail s ls hs) where
+module _ {filled : Filled} {n h : ℕ} {words : List ℤ} {starts : List ℕ} {values : Bytes} {trail : List ℕ} {s ls hs : Bytes}
+    (given : Given filled n h words starts values trail s ls hs) where
   -- the clauses before the step, the step, and the answer that is to be given
   abbrev before : List Clause
-  before = clausesOf (take used words)
+  before = clausesOf (take (filled .words) words)
 
   abbrev step : ProofStep
   step = stepIn (payloadOf s)
@@ -49,12 +50,12 @@ module _ {used count n h : ℕ} {words : List ℤ} {starts : List ℕ} {values :
   Answer a = a ≡ stepChecked (length words) (length starts) (length values) before s
 
   -- the clauses are counted
-  counted : length before ≡ count
-  counted = sym (starts-length (given .ready .kept)) ∙ length-take-le count starts (given .ready .startsRoom)
+  counted : length before ≡ filled .clauses
+  counted = sym (starts-length (given .ready .kept)) ∙ length-take-le (filled .clauses) starts (given .ready .startsRoom)
 
   -- and so are their words
-  worded : length (wordsOf before) ≡ used
-  worded = ap length (sym (given .ready .kept .closed)) ∙ length-take-le used words (given .ready .wordsRoom)
+  worded : length (wordsOf before) ≡ filled .words
+  worded = ap length (sym (given .ready .kept .closed)) ∙ length-take-le (filled .words) words (given .ready .wordsRoom)
 
   -- the rows are the step's
   literals-are : step .literals ≡ literalsIn ls
@@ -78,11 +79,11 @@ module _ {used count n h : ℕ} {words : List ℤ} {starts : List ℕ} {values :
   fits-as : literalsFit (length values) (step .literals) ≡ literalsFit (length values) (literalsIn ls)
   fits-as = ap (literalsFit (length values)) literals-are
 
-  known-as : hintsFit (length before + 1) (step .hints) ≡ hintsFit (count + 1) (numbersIn hs)
+  known-as : hintsFit (length before + 1) (step .hints) ≡ hintsFit (filled .clauses + 1) (numbersIn hs)
   known-as = λ i. hintsFit (counted i + 1) (hints-are i)
 
   room-as : clausesFit (lentBy (length words) (length starts)) (before ++ one (step .literals))
-      ≡ (leb (used + (n + 1)) (length words) && leb (count + 1) (length starts))
+      ≡ (leb (filled .words + (n + 1)) (length words) && leb (filled .clauses + 1) (length starts))
   room-as =
       room-one (length words) (length starts) before (step .literals)
       ∙ (λ i. leb (worded i + (in-step i + 1)) (length words) && leb (counted i + 1) (length starts))
@@ -101,35 +102,37 @@ module _ {used count n h : ℕ} {words : List ℤ} {starts : List ℕ} {values :
 
   module _ (fit : literalsFit (length values) (literalsIn ls) ≡ true) where
     -- 19
-    pub refused-19 : {r : Bool} → r ≡ hintsFit (count + 1) (numbersIn hs) → not r ≡ true → Answer (Refused 19)
+    pub refused-19 : {r : Bool} → r ≡ hintsFit (filled .clauses + 1) (numbersIn hs) → not r ≡ true → Answer (Refused 19)
     refused-19 e t = hints-bad _ _ _ _ s whole-is (fits-as ∙ fit) (known-as ∙ sym e ∙ not-true _ t)
 
-    module _ (known : hintsFit (count + 1) (numbersIn hs) ≡ true) where
-      refused-12 : (leb (used + (n + 1)) (length words) && leb (count + 1) (length starts)) ≡ false → Answer (Refused 12)
+    module _ (known : hintsFit (filled .clauses + 1) (numbersIn hs) ≡ true) where
+      refused-12 : (leb (filled .words + (n + 1)) (length words) && leb (filled .clauses + 1) (length starts)) ≡ false → Answer (Refused 12)
       refused-12 e = no-room _ _ _ _ s whole-is (fits-as ∙ fit) (known-as ∙ known) (room-as ∙ e)
 
       -- 12, for want of words
-      pub few-words : length words - used ≤ n → Answer (Refused 12)
-      few-words e = refused-12 (simp (lt-leb (used + (n + 1)) (length words) (omega (arith, given .ready .wordsRoom))))
+      pub few-words : length words - filled .words ≤ n → Answer (Refused 12)
+      few-words e = refused-12 (simp (lt-leb (filled .words + (n + 1)) (length words) (omega (arith, given .ready .wordsRoom))))
 
       -- 12, for want of an entry
-      pub no-entry : eqb (length starts) count ≡ true → Answer (Refused 12)
-      no-entry e = refused-12 (simp (lt-leb (count + 1) (length starts) (omega (arith, eqb-true (length starts) count e)), and-false))
+      pub no-entry : eqb (length starts) (filled .clauses) ≡ true → Answer (Refused 12)
+      no-entry e =
+          let full = eqb-true (length starts) (filled .clauses) e in
+          refused-12 (simp (lt-leb (filled .clauses + 1) (length starts) (omega (arith, full)), and-false))
 
   -- where there is room for the words
-  pub words-room : n < length words - used → used + (numberCount ls + 1) ≤ length words
+  pub words-room : n < length words - filled .words → filled .words + (numberCount ls + 1) ≤ length words
   words-room w = omega (arith, in-row)
 
   -- and for the entry
-  pub entry-room : eqb (length starts) count ≡ false → count < length starts
-  entry-room e = omega (arith, given .ready .startsRoom, eqb-false (length starts) count e)
+  pub entry-room : eqb (length starts) (filled .clauses) ≡ false → filled .clauses < length starts
+  entry-room e = omega (arith, given .ready .startsRoom, eqb-false (length starts) (filled .clauses) e)
 
-  module _ (fit : literalsFit (length values) (literalsIn ls) ≡ true) (known : hintsFit (count + 1) (numbersIn hs) ≡ true)
-      (w : n < length words - used) (e : eqb (length starts) count ≡ false) where
+  module _ (fit : literalsFit (length values) (literalsIn ls) ≡ true) (known : hintsFit (filled .clauses + 1) (numbersIn hs) ≡ true)
+      (w : n < length words - filled .words) (e : eqb (length starts) (filled .clauses) ≡ false) where
     fitting : clausesFit (lentBy (length words) (length starts)) (before ++ one (step .literals)) ≡ true
     fitting = room-as ∙ simp (
-      le-leb (used + (n + 1)) (length words) (omega arith),
-      le-leb (count + 1) (length starts) (omega (arith, entry-room e)),
+      le-leb (filled .words + (n + 1)) (length words) (omega arith),
+      le-leb (filled .clauses + 1) (length starts) (omega (arith, entry-room e)),
     )
 
     -- 20
@@ -138,12 +141,12 @@ module _ {used count n h : ℕ} {words : List ℤ} {starts : List ℕ} {values :
 
     -- no fault: the answer, and what the step leaves
     pub step-proved : {r : Bool} {words′ : List ℤ} {starts′ : List ℕ} {values′ : Bytes} {trail′ : List ℕ} → r ≡ ruled → not r ≡ false
-        → words′ ≡ sets words used (literalsIn ls ++ one (pos 0)) → starts′ ≡ set starts count used → values′ ≡ values
-        → length trail′ ≡ length trail → LeftOnTrail (length values) trail trail′
-        → Answer (Proved n h) × Leaves (Proved n h) s used count words starts values trail words′ starts′ values′ trail′
+        → words′ ≡ sets words (filled .words) (literalsIn ls ++ one (pos 0)) → starts′ ≡ set starts (filled .clauses) (filled .words)
+        → values′ ≡ values → length trail′ ≡ length trail → LeftOnTrail (length values) trail trail′
+        → Answer (Proved n h) × Leaves (Proved n h) s filled words starts values trail words′ starts′ values′ trail′
     step-proved a t stored entered kept-values kept-length left =
         let r = given .ready in
-        let stored′ = stored ∙ ap (λ (c : Clause). sets words used (c ++ one (pos 0))) (sym literals-are) in
+        let stored′ = stored ∙ ap (λ (c : Clause). sets words (filled .words) (c ++ one (pos 0))) (sym literals-are) in
         let p = rw in-step at (kept-added words starts (step .literals) (r .kept) (r .wordsRoom) (r .startsRoom)
         (from-true (fits-as ∙ fit)) (omega (arith, in-step)) (entry-room e)
         stored′ entered) in (
@@ -151,8 +154,8 @@ module _ {used count n h : ℕ} {words : List ℤ} {starts : List ℕ} {values :
               ∙ proved _ _ _ _ s whole-is (fits-as ∙ fit) (known-as ∙ known) fitting (rule-as ∙ sym a ∙ not-false _ t),
           (
             record {
-              wordsRoom = omega (arith, ap length stored, length-sets words used (literalsIn ls ++ one (pos 0)));
-              startsRoom = omega (arith, entry-room e, ap length entered, length-set starts count used);
+              wordsRoom = omega (arith, ap length stored, length-sets words (filled .words) (literalsIn ls ++ one (pos 0)));
+              startsRoom = omega (arith, entry-room e, ap length entered, length-set starts (filled .clauses) (filled .words));
               trailRoom = rw kept-values (omega (arith, kept-length, r .trailRoom));
               few = rw kept-values (r .few);
               kept = rw kept-values (p .0);

@@ -11,6 +11,7 @@ use Rattle.spec.specs.Formula.{Clause, wordsOf}
 use Rattle.spec.specs.Refutation.{stepIn, clausesOf}
 use Rattle.propagation.specs.Kept.{startsFrom}
 use Rattle.propagation.specs.Known.{LeftOnTrail}
+use Rattle.refutation_steps.specs.declared.one_step.Filled.{Filled}
 use Rattle.refutation_steps.specs.declared.one_step.StepAnswer.{StepAnswer}
 use Rattle.refutation_steps.specs.declared.one_step.StepAnswer.the-variants.{Proved, Refused}
 use Rattle.refutation_steps.specs.Checked.{stepChecked}
@@ -33,16 +34,16 @@ addedFrom wordsLent clausesLent variables (suc fuel) cs s =
 unfoldable pub added : ℕ → ℕ → ℕ → List Clause → Bytes → List Clause
 added wordsLent clausesLent variables cs s = addedFrom wordsLent clausesLent variables (suc (length s)) cs s
 
--- These clauses were added to the slices, behind the first `used` words and the first `count` starts, and all else is as it was; but
--- which variables are left on the trail is free.
-pub record Adds (new : List Clause) (used count : ℕ) (words : List ℤ) (starts : List ℕ) (values : Bytes) (trail : List ℕ)
+-- These clauses were added to the slices, behind what those were filled with, and all else is as it was; but which variables are
+-- left on the trail is free.
+pub record Adds (new : List Clause) (filled : Filled) (words : List ℤ) (starts : List ℕ) (values : Bytes) (trail : List ℕ)
     (words′ : List ℤ) (starts′ : List ℕ) (values′ : Bytes) (trail′ : List ℕ) : Type 0 where
-  pub wordsAfter : words′ ≡ sets words used (wordsOf new)
-  pub startsAfter : starts′ ≡ sets starts count (startsFrom used new)
+  pub wordsAfter : words′ ≡ sets words (filled .words) (wordsOf new)
+  pub startsAfter : starts′ ≡ sets starts (filled .clauses) (startsFrom (filled .words) new)
   pub valuesAfter : values′ ≡ values
   pub trailAfter : LeftOnTrail (length values) trail trail′
 
 -- What the steps of a file leave in the slices, accepted or refused.
-abbrev pub LeavesAll : Bytes → ℕ → ℕ → List ℤ → List ℕ → Bytes → List ℕ → List ℤ → List ℕ → Bytes → List ℕ → Type 0
-LeavesAll s used count words starts values trail =
-    Adds (added (length words) (length starts) (length values) (clausesOf (take used words)) s) used count words starts values trail
+abbrev pub LeavesAll : Bytes → Filled → List ℤ → List ℕ → Bytes → List ℕ → List ℤ → List ℕ → Bytes → List ℕ → Type 0
+LeavesAll s filled words starts values trail =
+    Adds (added (length words) (length starts) (length values) (clausesOf (take (filled .words) words)) s) filled words starts values trail

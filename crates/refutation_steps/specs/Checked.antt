@@ -13,6 +13,7 @@ use Rattle.spec.specs.Refutation.{Lent, stepIn, literalCount, hintCount, stepFa
 use Rattle.spec.specs.Entry.{zeroed}
 use Rattle.propagation.specs.Kept.{Kept}
 use Rattle.propagation.specs.Known.{LeftOnTrail}
+use Rattle.refutation_steps.specs.declared.one_step.Filled.{Filled}
 use Rattle.refutation_steps.specs.declared.one_step.StepAnswer.{StepAnswer}
 use Rattle.refutation_steps.specs.declared.one_step.StepAnswer.the-variants.{Proved, Refused}
 
@@ -20,14 +21,19 @@ use Rattle.refutation_steps.specs.declared.one_step.StepAnswer.the-varia
 abbrev pub lentBy : ℕ → ℕ → Lent
 lentBy words clauses = record { words = words; clauses = clauses; values = 0; trail = 0 }
 
--- The first `used` words are the clauses that hints may name, `count` of them; no variable has a value; the trail has room.
-pub record Ready (used count : ℕ) (words : List ℤ) (starts : List ℕ) (values : Bytes) (trail : List ℕ) : Type 0 where
-  pub wordsRoom : used ≤ length words
-  pub startsRoom : count ≤ length starts
+-- The slices are filled with the clauses that hints may name, their words and where each begins; no variable has a value; the trail
+-- has room.
+pub record Ready (filled : Filled) (words : List ℤ) (starts : List ℕ) (values : Bytes) (trail : List ℕ) : Type 0 where
+  pub wordsRoom : filled .words ≤ length words
+  pub startsRoom : filled .clauses ≤ length starts
   pub trailRoom : length values ≤ length trail
   pub few : length values < 2147483648
-  pub kept : Kept (length values) (take used words) (take count starts)
+  pub kept : Kept (length values) (take (filled .words) words) (take (filled .clauses) starts)
   pub allOpen : values ≡ zeroed 0 (length values)
+
+-- filled with one clause more, of n literals
+abbrev pub oneMore : Filled → ℕ → Filled
+oneMore filled n = record { words = filled .words + (n + 1); clauses = filled .clauses + 1 }
 
 -- the answer to a step with this first fault
 abbrev pub stepAnswer : Option ℕ → Bytes → StepAnswer
@@ -41,11 +47,11 @@ stepChecked wordsLent clausesLent variables cs s =
 
 -- What a step leaves in the slices: a proved one adds its clause behind those before, and nothing else; a refused one changes
 -- nothing. Which variables either leaves on the trail is free, and what is behind them there stays.
-abbrev pub Leaves : StepAnswer → Bytes → ℕ → ℕ → List ℤ → List ℕ → Bytes → List ℕ → List ℤ → List ℕ → Bytes → List ℕ → Type 0
-Leaves (Proved n h) s used count words starts values trail words′ starts′ values′ trail′ =
-    Ready (used + (n + 1)) (count + 1) words′ starts′ values′ trail′
-    × (clausesOf (take (used + (n + 1)) words′) ≡ clausesOf (take used words) ++ one (stepIn (payloadOf s) .literals))
-    × (words′ ≡ sets words used (stepIn (payloadOf s) .literals ++ one (pos 0))) × (starts′ ≡ set starts count used) × (values′ ≡ values)
-    × LeftOnTrail (length values) trail trail′
-Leaves (Refused n) s used count words starts values trail words′ starts′ values′ trail′ =
+abbrev pub Leaves : StepAnswer → Bytes → Filled → List ℤ → List ℕ → Bytes → List ℕ → List ℤ → List ℕ → Bytes → List ℕ → Type 0
+Leaves (Proved n h) s filled words starts values trail words′ starts′ values′ trail′ =
+    Ready (oneMore filled n) words′ starts′ values′ trail′
+    × (clausesOf (take (oneMore filled n .words) words′) ≡ clausesOf (take (filled .words) words) ++ one (stepIn (payloadOf s) .literals))
+    × (words′ ≡ sets words (filled .words) (stepIn (payloadOf s) .literals ++ one (pos 0)))
+    × (starts′ ≡ set starts (filled .clauses) (filled .words)) × (values′ ≡ values) × LeftOnTrail (length values) trail trail′
+Leaves (Refused n) s filled words starts values trail words′ starts′ values′ trail′ =
     (words′ ≡ words) × (starts′ ≡ starts) × (values′ ≡ values) × LeftOnTrail (length values) trail trail′

@@ -13,9 +13,14 @@ ghost use mathlib.Core.Path.{_≡_};
 ghost use Prim.Native.Nat.{_≤_};
 ghost use lib.ListN.{length, take, drop};
 ghost use Rattle.spec.specs.Refutation.{clausesOf};
-ghost use Rattle.refutation_file.specs.declared.steps.Step.the-variants as step;
-ghost use Rattle.refutation_file.specs.Found.{stepFound};
 ghost use Rattle.refutation_steps.specs.Checked.{Ready, stepChecked, Leaves};
+
+// How far the lent slices are filled with the clauses that a step may name: so many words, so many
+// clauses.
+pub struct Filled {
+    pub words: usize,
+    pub clauses: usize,
+}
 
 // A proved step, with how many literals and hints it has, or a refusal's number.
 pub enum StepAnswer {
@@ -23,80 +28,47 @@ pub enum StepAnswer {
     Refused(usize),
 }
 
-// 18, 19, 12 and 20 of a whole step at a place. The first `used` words are the `count` clauses before
-// it.
-fn check_whole(
-    r: &[u8],
-    at: usize,
-    literals: usize,
-    hints: usize,
-    used: usize,
-    count: usize,
-    words: &mut [i32],
-    starts: &mut [usize],
-    values: &mut [u8],
-    trail: &mut [usize],
-) -> StepAnswer
-    requires { ⌜ (at ≤ length (now r)) × (stepFound (drop at (now r)) ≡ step.Whole literals hints)
-        × Ready used count (now words) (now starts) (now values) (now trail) ⌝ }
-    ensures { λ a. ⌜ (a ≡ stepChecked (length (now (words .entry))) (length (now (starts .entry))) (length (now (values .entry)))
-        (clausesOf (take used (now (words .entry)))) (drop at (now (r .entry))))
-        × Leaves a (drop at (now (r .entry))) used count
-        (now (words .entry)) (now (starts .entry)) (now (values .entry)) (now (trail .entry))
-        (now (words .exit)) (now (starts .exit)) (now (values .exit)) (now (trail .exit)) ⌝ }
-{
-    let ls = literals_at(r, at, literals, hints);
-    let hs = hints_at(r, at, literals, hints);
-    if !literals_fit(ls, values.len()) {
-        return StepAnswer::Refused(18);
-    }
-    if !hints_fit(hs, count + 1) {
-        return StepAnswer::Refused(19);
-    }
-    // 12: no room for the step's words or for its clause
-    if words.len() - used <= literals || starts.len() == count {
-        return StepAnswer::Refused(12);
-    }
-    if !follows_rule(ls, hs, &words[..used], &starts[..count], values, trail) {
-        return StepAnswer::Refused(20);
-    }
-    store_clause(ls, words, used);
-    starts[count] = used;
-    StepAnswer::Proved { literals, hints }
-}
-
-// Whether the step at a place is proved, with its clause kept, or the number that refuses it. The first
-// `used` words are the `count` clauses before it. Which variables are left on the trail is free.
+// Whether the step at a place is proved, with its clause kept, or the number that refuses it. The slices
+// are filled with the clauses before it. Which variables are left on the trail is free.
 pub fn check_step(
     r: &[u8],
     at: usize,
-    used: usize,
-    count: usize,
+    filled: Filled,
     words: &mut [i32],
     starts: &mut [usize],
     values: &mut [u8],
     trail: &mut [usize],
 ) -> StepAnswer
-    requires { ⌜ (at ≤ length (now r)) × Ready used count (now words) (now starts) (now values) (now trail) ⌝ }
+    requires { ⌜ (at ≤ length (now r)) × Ready filled (now words) (now starts) (now values) (now trail) ⌝ }
     ensures { λ a. ⌜ (a ≡ stepChecked (length (now (words .entry))) (length (now (starts .entry))) (length (now (values .entry)))
-        (clausesOf (take used (now (words .entry)))) (drop at (now (r .entry))))
-        × Leaves a (drop at (now (r .entry))) used count
+        (clausesOf (take (filled .words) (now (words .entry)))) (drop at (now (r .entry))))
+        × Leaves a (drop at (now (r .entry))) filled
         (now (words .entry)) (now (starts .entry)) (now (values .entry)) (now (trail .entry))
         (now (words .exit)) (now (starts .exit)) (now (values .exit)) (now (trail .exit)) ⌝ }
 {
+    let used = filled.words;
+    let count = filled.clauses;
     match step_at(r, at) {
         Step::Bad => StepAnswer::Refused(17),
-        Step::Whole { literals, hints } => check_whole(
-            r,
-            at,
-            literals,
-            hints,
-            used,
-            count,
-            words,
-            starts,
-            values,
-            trail,
-        ),
+        Step::Whole { literals, hints } => {
+            let ls = literals_at(r, at, literals, hints);
+            let hs = hints_at(r, at, literals, hints);
+            if !literals_fit(ls, values.len()) {
+                return StepAnswer::Refused(18);
+            }
+            if !hints_fit(hs, count + 1) {
+                return StepAnswer::Refused(19);
+            }
+            // 12: no room for the step's words or for its clause
+            if words.len() - used <= literals || starts.len() == count {
+                return StepAnswer::Refused(12);
+            }
+            if !follows_rule(ls, hs, &words[..used], &starts[..count], values, trail) {
+                return StepAnswer::Refused(20);
+            }
+            store_clause(ls, words, used);
+            starts[count] = used;
+            StepAnswer::Proved { literals, hints }
+        }
     }
 }

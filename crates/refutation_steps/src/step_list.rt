@@ -1,5 +1,6 @@
 // The whole list of steps of a refutation: each step by the clauses before it, and the ending (21).
 // Assumes nothing.
+use crate::one_step::Filled;
 use crate::one_step::StepAnswer;
 use crate::one_step::check_step;
 use reader::reading::Answer;
@@ -18,31 +19,29 @@ fn detail_of(number: usize, step: usize) -> usize
     if number == 12 { 0 } else { step }
 }
 
-// The verdict on a refutation's bytes. The first `words_used` words are the formula's `clause_count`
-// clauses. The clauses of the proved steps stand behind them after it, and all variables are open. Which
-// variables are left on the trail is free.
+// The verdict on a refutation's bytes. The slices are filled with the formula's clauses. The clauses of
+// the proved steps stand behind them after it, and all variables are open. Which variables are left on
+// the trail is free.
 pub fn check_steps(
     r: &[u8],
-    words_used: usize,
-    clause_count: usize,
+    formula: Filled,
     words: &mut [i32],
     starts: &mut [usize],
     values: &mut [u8],
     trail: &mut [usize],
 ) -> Answer
-    requires { ⌜ Ready «words_used» «clause_count» (now words) (now starts) (now values) (now trail) ⌝ }
+    requires { ⌜ Ready formula (now words) (now starts) (now values) (now trail) ⌝ }
     ensures { λ a. ⌜ (a ≡ answerOf (checkFile (lentBy (length (now (words .entry))) (length (now (starts .entry)))) (length (now (values .entry)))
-        (clausesOf (take «words_used» (now (words .entry)))) (now (r .entry))))
-        × LeavesAll (now (r .entry)) «words_used» «clause_count»
+        (clausesOf (take (formula .words) (now (words .entry)))) (now (r .entry))))
+        × LeavesAll (now (r .entry)) formula
         (now (words .entry)) (now (starts .entry)) (now (values .entry)) (now (trail .entry))
         (now (words .exit)) (now (starts .exit)) (now (values .exit)) (now (trail .exit)) ⌝ }
 {
-    let mut used = words_used;
-    let mut count = clause_count;
+    let mut filled = formula;
     let mut at = 0;
     let mut step = 1;
     while at < r.len() {
-        match check_step(r, at, used, count, words, starts, values, trail) {
+        match check_step(r, at, filled, words, starts, values, trail) {
             StepAnswer::Refused(number) => return Answer::Refused(number, detail_of(number, step)),
             StepAnswer::Proved { literals, hints } => {
                 at = step_end(at, literals, hints);
@@ -53,8 +52,8 @@ pub fn check_steps(
                         Answer::Refused(21, 0)
                     };
                 }
-                used = used + literals + 1;
-                count += 1;
+                filled.words += literals + 1;
+                filled.clauses += 1;
                 step += 1;
             }
         }

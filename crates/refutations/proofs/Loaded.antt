@@ -17,6 +17,7 @@ use Rattle.clauses.specs.Walked.{start, Walks, most}
 use Rattle.clauses.proofs.Totals.{stored-front}
 use Rattle.demands.proofs.Words.{range-proper, words-back}
 use Rattle.propagation.specs.Kept.{startsFrom}
+use Rattle.refutation_steps.specs.declared.one_step.Filled.{Filled}
 use Rattle.refutation_steps.specs.Checked.{Ready}
 use Rattle.propagation.proofs.Storing.{length-zeroed}
 use Rattle.propagation.proofs.Adding.{kept-formula}
@@ -47,11 +48,12 @@ module _ (vars : ℕ) (cs : List Clause) (ranged : T (inRange vars cs)) where
   closed e = e ∙ ap wordsOf (sym (said e))
 
   -- the words in front are the clauses', where each begins was noted, and the bytes of the variables were zeroed
-  pub ready : (words : List ℤ) (starts trail : List ℕ) {used count n : ℕ} {starts′ : List ℕ} {values : Bytes} → used ≡ length (wordsOf cs)
-      → count ≡ length cs → take used words ≡ wordsOf cs → used ≤ length words → count ≤ length starts
-      → starts′ ≡ sets starts 0 (startsFrom 0 (clausesOf (take used words))) → values ≡ zeroed 0 n → vars ≤ n → vars ≤ length trail
-      → vars < 2147483648 → Ready used count words starts′ (take vars values) trail
-  ready words starts trail {used} {values = values} u k held w s e z v t few =
+  pub ready : (words : List ℤ) (starts trail : List ℕ) {filled : Filled} {n : ℕ} {starts′ : List ℕ} {values : Bytes}
+      → filled .words ≡ length (wordsOf cs) → filled .clauses ≡ length cs → take (filled .words) words ≡ wordsOf cs
+      → filled .words ≤ length words → filled .clauses ≤ length starts
+      → starts′ ≡ sets starts 0 (startsFrom 0 (clausesOf (take (filled .words) words))) → values ≡ zeroed 0 n → vars ≤ n
+      → vars ≤ length trail → vars < 2147483648 → Ready filled words starts′ (take vars values) trail
+  ready words starts trail {values = values} u k held w s e z v t few =
       let open′ : take vars values ≡ zeroed 0 vars = ap (take vars) z ∙ take-zeroed 0 vars _ v in
       let long : length (take vars values) ≡ vars = ap length open′ ∙ length-zeroed 0 vars in
       let noted = e ∙ ap (λ (ds : List Clause). sets starts 0 (startsFrom 0 ds)) (said held) in

@@ -3,20 +3,19 @@
 // zero. Assumes nothing.
 use formula::walk::walk_formula;
 use layout::numbering::variable_count;
+use listing::TABLE_BYTES;
 use model::Book;
+use model::Counts;
 use propagation::clause_table::clear_bytes;
 use propagation::clause_table::clear_numbers;
 use propagation::clause_table::clear_words;
 use propagation::clause_table::index_clauses;
 use reader::reading::Answer;
-use reader::reading::read_book;
+use refutation_steps::one_step::Filled;
 use refutation_steps::step_list::check_steps;
-use run_tables::tables::ALL_BYTES;
-use run_tables::tables::ALL_RUNS;
-use run_tables::tables::chain_trains;
-use run_tables::tables::fill_runs;
-use sections::meets::MEET_BYTES;
-use sections::meets::list_meets;
+use tables::chains::ALL_CHAINS;
+use tables::meets::MEET_BYTES;
+use tables::preparing::prepare_chains;
 ghost use mathlib.Core.Path.{_≡_};
 ghost use lib.ListN.{length};
 ghost use lib.IntN.{pos};
@@ -24,102 +23,62 @@ ghost use Rattle.spec.specs.Instance.{instanceOf};
 ghost use Rattle.spec.specs.Held.{held};
 ghost use Rattle.spec.specs.Entry.{zeroed, refutedFor, checkRefutation};
 ghost use Rattle.reader.specs.BookAnswers.{answerOf};
-ghost use Rattle.run_tables.specs.Tables.{Passed};
-ghost use Rattle.run_tables.specs.Ready.{RunsReady, ChainsReady};
-ghost use Rattle.sections.specs.Meets.{MeetsReady};
+ghost use Rattle.tables.specs.Ready.{Counted, RunsReady, ChainsReady, MeetsReady};
 ghost use Rattle.refutations.specs.Lent.{lengths};
+ghost use Rattle.refutations.specs.Standing.{Stands};
 
-// 12, then the steps, by the tables of a book. What the slices hold after it is left free.
-fn refute_by(
+// Writes the formula's words and where each clause begins, where the slices have room for them; answers
+// how many words and clauses these are. Else what the slices hold is left free.
+fn load_formula(
     b: Book,
-    runs: [usize; 8],
-    rows: &[u8],
-    sizes: &[u8],
-    firsts: &[usize],
-    nexts: &[usize],
+    counts: Counts,
+    runs: &[u8],
+    chains: &[usize],
     meets: &[u8],
-    end: usize,
+    words: &mut [i32],
+    clauses: &mut [usize],
+) -> Filled
+    requires { ⌜ RunsReady b counts (now runs) × ChainsReady b (now chains) × MeetsReady b (now meets) ⌝ }
+    ensures { λ f. ⌜ Stands (instanceOf (held b)) f (now (words .exit)) (now (clauses .exit)) ⌝ }
+{
+    let none = &runs[0..0];
+    let measured = walk_formula(b, counts, runs, chains, meets, none, &mut words[0..0]);
+    let filled = Filled {
+        words: measured.words,
+        clauses: measured.clauses,
+    };
+    if words.len() < measured.words || clauses.len() < measured.clauses {
+        return filled;
+    }
+    walk_formula(b, counts, runs, chains, meets, none, words);
+    index_clauses(&words[..measured.words], clauses);
+    filled
+}
+
+// 12, then the steps, by the formula in the slices. What the slices hold after it is left free.
+fn check_loaded(
+    b: Book,
+    counts: Counts,
+    formula: Filled,
     r: &[u8],
     words: &mut [i32],
     clauses: &mut [usize],
     values: &mut [u8],
     trail: &mut [usize],
 ) -> Answer
-    requires { ⌜ RunsReady b runs (now rows) (now sizes) × ChainsReady b (now firsts) (now nexts) × MeetsReady b (now meets) end ⌝ }
+    requires { ⌜ Counted b counts × Stands (instanceOf (held b)) formula (now words) (now clauses) ⌝ }
     ensures { λ a. ⌜ a ≡ answerOf (refutedFor (instanceOf (held b)) (now (r .entry))
         (lengths (now (words .entry)) (now (clauses .entry)) (now (values .entry)) (now (trail .entry)))) ⌝ }
 {
-    let none = &rows[0..0];
-    let variables = variable_count(b, runs);
-    let measured = walk_formula(
-        b,
-        runs,
-        rows,
-        sizes,
-        firsts,
-        nexts,
-        meets,
-        end,
-        none,
-        &mut words[0..0],
-    );
-    if words.len() < measured.words || clauses.len() < measured.clauses {
+    let variables = variable_count(b, counts);
+    if words.len() < formula.words || clauses.len() < formula.clauses {
         return Answer::Refused(12, 0);
     }
     if values.len() < variables || trail.len() < variables {
         return Answer::Refused(12, 0);
     }
-    walk_formula(b, runs, rows, sizes, firsts, nexts, meets, end, none, words);
-    index_clauses(&words[..measured.words], clauses);
     clear_bytes(values);
-    check_steps(
-        r,
-        measured.words,
-        measured.clauses,
-        words,
-        clauses,
-        &mut values[..variables],
-        trail,
-    )
-}
-
-// The check for a book that passed: its tables are filled, then the steps are checked. What the slices
-// hold after it is left free.
-fn refute_for(
-    b: Book,
-    r: &[u8],
-    words: &mut [i32],
-    clauses: &mut [usize],
-    values: &mut [u8],
-    trail: &mut [usize],
-) -> Answer
-    requires { ⌜ Passed b ⌝ }
-    ensures { λ a. ⌜ a ≡ answerOf (refutedFor (instanceOf (held b)) (now (r .entry))
-        (lengths (now (words .entry)) (now (clauses .entry)) (now (values .entry)) (now (trail .entry)))) ⌝ }
-{
-    let mut rows = [0u8; ALL_BYTES];
-    let mut sizes = [0u8; ALL_RUNS];
-    let mut firsts = [0usize; ALL_RUNS];
-    let mut nexts = [0usize; ALL_RUNS];
-    let mut meets = [0u8; MEET_BYTES];
-    let runs = fill_runs(b, &mut rows, &mut sizes);
-    chain_trains(b, runs, &rows, &sizes, &mut firsts, &mut nexts);
-    let end = list_meets(b, &mut meets);
-    refute_by(
-        b,
-        runs,
-        &rows,
-        &sizes,
-        &firsts,
-        &nexts,
-        &meets,
-        end,
-        r,
-        words,
-        clauses,
-        values,
-        trail,
-    )
+    check_steps(r, formula, words, clauses, &mut values[..variables], trail)
 }
 
 // The verdict on the bytes of a book and of a refutation. What the slices hold after it is left free.
@@ -134,12 +93,21 @@ fn refute(
     ensures { λ a. ⌜ a ≡ answerOf (checkRefutation (now (book .entry)) (now (r .entry))
         (lengths (now (words .entry)) (now (clauses .entry)) (now (values .entry)) (now (trail .entry)))) ⌝ }
 {
-    let read = read_book(book);
-    let answer = read.answer;
+    let mut runs = [0u8; TABLE_BYTES];
+    let mut chains = [0usize; ALL_CHAINS];
+    let mut meets = [0u8; MEET_BYTES];
+    let p = prepare_chains(book, &mut runs, &mut chains, &mut meets);
+    let end = p.meets;
+    let read = p.read;
     let b = read.book;
+    let counts = read.counts;
+    let answer = read.answer;
     match answer {
         Answer::Refused(number, detail) => Answer::Refused(number, detail),
-        Answer::Accepted => refute_for(b, r, words, clauses, values, trail),
+        Answer::Accepted => {
+            let formula = load_formula(b, counts, &runs, &chains, &meets[..end], words, clauses);
+            check_loaded(b, counts, formula, r, words, clauses, values, trail)
+        }
     }
 }
 

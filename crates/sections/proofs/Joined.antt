@@ -16,8 +16,8 @@ use Rattle.laws.proofs.Tests.{and-iff, or-iff, not-iff, implies-iff, eqb-iff, l
 use Rattle.laws.proofs.Tests.{decide, true-of, denied-of, le-or-lt}
 use Rattle.laws.proofs.Rows.{all-cons, any-cons, any-nil, all-each, any-each, all-only, any-only, all-one, any-one}
 use Rattle.demands.proofs.Sections.{neighbours-iff, together-refl, together-trans, together-step, together-sym, together-chain}
-use Rattle.sections.specs.Meets.{meetBytes}
-use Rattle.sections.proofs.Triples.{triples, triples-next, triples-end, triples-meet}
+use Rattle.tables.specs.Meets.{meetBytes}
+use Rattle.tables.proofs.Triples.{triples, triples-next, triples-end, triples-meet}
 use Rattle.sections.specs.Labels.{mergedLabel, joinedLabel}
 use Rattle.demands.proofs.Labels.{least, least-le, least-below, least-together}
 

@@ -6,7 +6,7 @@ use Prim.Native.Nat.{ℕ, _+_, _≤_, _<_}
 use native.Mathlib.Omega.{arith}
 use mathlib.Core.List.{List, _∷_, map}
 use lib.ListN.{length, getD, drop}
-use lib.Seq.{sets, slice}
+use lib.Seq.{sets, slice, take-length}
 use lib.Dec.{T}
 use Rattle.model.specs.declared.Book.{Book as BookStruct}
 use Rattle.spec.specs.Lists.{Bytes, upTo}
@@ -14,22 +14,22 @@ use Rattle.spec.specs.Instance.{Instance, instanceOf}
 use Rattle.spec.specs.Sections.{Borders}
 use Rattle.spec.specs.Held.{held}
 use Rattle.demands.proofs.Sections.{meet-sym}
-use Rattle.run_tables.specs.Tables.{Passed}
-use Rattle.run_tables.proofs.Small.{nodes-is, segments-is}
-use Rattle.sections.specs.Meets.{MeetsReady}
-use Rattle.sections.proofs.Triples.{bytes-next, bytes-end}
+use Rattle.tables.specs.Tables.{Passed}
+use Rattle.tables.proofs.Small.{nodes-is, segments-is}
+use Rattle.tables.specs.Ready.{MeetsReady}
+use Rattle.tables.proofs.Triples.{bytes-next, bytes-end}
 use Rattle.sections.specs.Labels.{joinedLabel, sectionLabels}
 use Rattle.sections.proofs.Joined.{Joined, joined-start, joined-meets, joined-border, joined-open, joined-least}
 use Rattle.sections.proofs.Stored.{Stored, stored, sets-of}
 use Rattle.demands.proofs.Labels.{least}
 
 -- the labels of the sections that the triples before `at` make; the table is else as it was
-pub record Labelled (b : BookStruct) (border : Borders) (meets : Bytes) (end at : ℕ) (old new : List ℕ) : Type 0 where
+pub record Labelled (b : BookStruct) (border : Borders) (meets : Bytes) (at : ℕ) (old new : List ℕ) : Type 0 where
   pub size : length new ≡ 64
   pub behind : drop (b .«segment_count») new ≡ drop (b .«segment_count») old
-  pub joined : Joined (instanceOf (held b)) border (slice at end meets) (λ s. getD new s 0)
+  pub joined : Joined (instanceOf (held b)) border (slice at (length meets) meets) (λ s. getD new s 0)
 
-module _ (b : BookStruct) (passed : Passed b) (border : Borders) (meets : Bytes) (end : ℕ) (ready : MeetsReady b meets end) where
+module _ (b : BookStruct) (passed : Passed b) (border : Borders) (meets : Bytes) (ready : MeetsReady b meets) where
   abbrev I : Instance
   I = instanceOf (held b)
 
@@ -48,32 +48,32 @@ module _ (b : BookStruct) (passed : Passed b) (border : Borders) (meets : Bytes)
     numbered : Stored (λ s. s) n old first
     numbered = stored (λ s. s) n old (omega (arith, few)) first e
 
-    pub labelled-start : Labelled b border meets end 0 first first
+    pub labelled-start : Labelled b border meets 0 first first
     labelled-start = record {
       size = numbered .size ∙ room;
       behind = refl;
       joined =
-          subst (λ (l : Bytes). Joined I border l (λ s. getD first s 0)) (sym (ready .same))
+          subst (λ (l : Bytes). Joined I border l (λ s. getD first s 0)) (sym (take-length meets ∙ ready))
           (joined-start I border (λ s. getD first s 0) (λ x l. numbered .at x (counted x l)));
     }
 
     -- where no triple is left, each label is the section's
-    pub labelled-end : (at : ℕ) (new : List ℕ) → Labelled b border meets end at first new → end ≤ at + 2
+    pub labelled-end : (at : ℕ) (new : List ℕ) → Labelled b border meets at first new → length meets ≤ at + 2
         → new ≡ sets old 0 (sectionLabels I border)
     unfolding sectionLabels
     labelled-end at new k h =
         sets-of (least I border) n old (omega (arith, few)) new record {
           size = k .size ∙ sym room;
-          at = λ s l. joined-least I border _ _ (k .joined) (bytes-end meets end at h) s (omega (arith, segments-is b passed));
+          at = λ s l. joined-least I border _ _ (k .joined) (bytes-end meets (length meets) at h) s (omega (arith, segments-is b passed));
           behind = k .behind ∙ numbered .behind;
         }
         ∙ ap (λ (m : ℕ). sets old 0 (map (least I border) (upTo m))) (sym (segments-is b passed))
 
   -- the triple that stands at `at`
-  module _ (at : ℕ) (old labels : List ℕ) (k : Labelled b border meets end at old labels) (l : at + 2 < end) where
-    triple : Joined I border (getD meets at 0 ∷ getD meets (at + 1) 0 ∷ getD meets (at + 2) 0 ∷ slice (at + 3) end meets)
+  module _ (at : ℕ) (old labels : List ℕ) (k : Labelled b border meets at old labels) (l : at + 2 < length meets) where
+    triple : Joined I border (getD meets at 0 ∷ getD meets (at + 1) 0 ∷ getD meets (at + 2) 0 ∷ slice (at + 3) (length meets) meets)
         (λ s. getD labels s 0)
-    triple = rw (bytes-next meets end at l (ready .room)) at (k .joined)
+    triple = rw (bytes-next meets (length meets) at l (omega arith)) at (k .joined)
 
     pub labelled-meets : (getD meets at 0 < b .«node_count») × (getD meets (at + 1) 0 < n) × (getD meets (at + 2) 0 < n)
     labelled-meets =
@@ -81,7 +81,7 @@ module _ (b : BookStruct) (passed : Passed b) (border : Borders) (meets : Bytes)
         (omega (arith, nodes-is b passed, m .0), counted _ (m .1), counted _ (m .2))
 
     -- at a border the labels stay as they are
-    pub labelled-border : T (border (getD meets at 0)) → (new : List ℕ) → new ≡ labels → Labelled b border meets end (at + 3) old new
+    pub labelled-border : T (border (getD meets at 0)) → (new : List ℕ) → new ≡ labels → Labelled b border meets (at + 3) old new
     labelled-border h new e =
         rw e record {
           size = k .size;
@@ -93,7 +93,7 @@ module _ (b : BookStruct) (passed : Passed b) (border : Borders) (meets : Bytes)
     pub labelled-open : T (not (border (getD meets at 0))) → (new : List ℕ) (s u : ℕ)
         → s ≡ getD meets (at + 1) 0 → u ≡ getD meets (at + 2) 0
         → new ≡ sets labels 0 (map (λ x. joinedLabel (getD labels s 0) (getD labels u 0) (getD labels x 0)) (upTo n))
-        → Labelled b border meets end (at + 3) old new
+        → Labelled b border meets (at + 3) old new
     labelled-open h new s u es eu e =
         let t = stored _ n labels (omega (arith, few, k .size)) new e in
         record {

@@ -14,9 +14,9 @@ use Rattle.spec.specs.Sections.{Borders}
 use Rattle.spec.specs.Plan.{planOf}
 use Rattle.spec.specs.Held.{held}
 use Rattle.demands.proofs.Sections.{meet-sym}
-use Rattle.run_tables.specs.Placed.{bordersOf}
-use Rattle.run_tables.specs.Tables.{Passed}
-use Rattle.run_tables.proofs.Small.{passed-few}
+use Rattle.tables.specs.Placed.{bordersOf}
+use Rattle.tables.specs.Tables.{Passed}
+use Rattle.tables.proofs.Small.{passed-few}
 use Rattle.sections.specs.Labels.{sectionLabels, LabelsHeld}
 use Rattle.demands.proofs.Labels.{least, least-below, least-iff}
 use Rattle.sections.proofs.Stored.{stored}

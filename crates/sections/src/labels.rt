@@ -11,9 +11,9 @@ ghost use lib.Seq.{sets};
 ghost use Rattle.spec.specs.Lists.{upTo};
 ghost use Rattle.spec.specs.Instance.{instanceOf};
 ghost use Rattle.spec.specs.Held.{held};
-ghost use Rattle.run_tables.specs.Placed.{bordersOf};
-ghost use Rattle.run_tables.specs.Tables.{Passed};
-ghost use Rattle.sections.specs.Meets.{MeetsReady};
+ghost use Rattle.tables.specs.Placed.{bordersOf};
+ghost use Rattle.tables.specs.Tables.{Passed};
+ghost use Rattle.tables.specs.Ready.{MeetsReady};
 ghost use Rattle.sections.specs.Labels.{mergedLabel, joinedLabel, sectionLabels};
 
 // Gives each segment its own number as its label: no two are together yet.
@@ -66,14 +66,15 @@ fn join(labels: &mut [usize], segments: usize, s: usize, u: usize)
 }
 
 // The label of each segment's section, by one pass over the pairs of segments that meet. `meets`
-// holds node, first and second segment, three bytes each, up to `end`. Each pair that meets at a
-// node without a border is joined.
-pub fn label_sections(b: Book, meets: &[u8], end: usize, borders: &[u8], labels: &mut [usize])
-    requires { ⌜ Passed b × MeetsReady b (now meets) end × (b .«node_count» ≤ length (now borders)) × (length (now labels) ≡ 64) ⌝ }
+// holds node, first and second segment, three bytes each. Each pair that meets at a node without a
+// border is joined.
+pub fn label_sections(b: Book, meets: &[u8], borders: &[u8], labels: &mut [usize])
+    requires { ⌜ Passed b × MeetsReady b (now meets) × (b .«node_count» ≤ length (now borders)) × (length (now labels) ≡ 64) ⌝ }
     ensures { λ _. ⌜ now (labels .exit)
         ≡ sets (now (labels .entry)) 0 (sectionLabels (instanceOf (held b)) (bordersOf (now (borders .entry)))) ⌝ }
 {
     number_labels(labels, b.segment_count);
+    let end = meets.len();
     let mut at = 0;
     while at + 2 < end {
         let node = wide(meets[at]);

@@ -21,7 +21,7 @@ use Rattle.spec.specs.Extra.{extraVariables, extraClauses, extraConditio
 use Rattle.spec.specs.Formula.{width, firstVar, base, borderVar, runVar, goneVar, claimVar, ownVariables, variables, clausesB, clausesC, clausesI, clausesD, followersE, clauseE, clausesE, serversF, claimsG, clausesG, clausesH, familyA, familyB, familyC, familyD, familyE, familyF, familyG, familyH, familyI, formula, wordsOf, dimacsOpening, dimacsLine, dimacsText}
 use Rattle.spec.specs.Assignment.{deny, truth, isYes, valueOf, isTrue, holds, satisfies, firstFalse, assigned, assignmentFits, firstRun, chosen, decoded, decode, claims, encode}
 use Rattle.spec.specs.Refutation.{ProofStep, Lent, stepPayload, fileOf, literalCount, hintCount, stepIn, variableOf, risesFrom, literalsFit, hintsFit, makeTrue, makeFalse, refuting, isNo, isOpen, clauseAt, notFalse, hinted, goThrough, followsRule, clausesFit, isBad, stepFaults, stepDetail, checkSteps, checkFile}
-use Rattle.spec.specs.Entry.{demand, findNone, readInstance, formulaWritten, writtenFor, writeFormula, formulaText, judgeAssignment, decodedFor, checkAssignment, judgePlan, encodedFor, checkPlan, formulaFits, refutedFor, checkRefutation}
+use Rattle.spec.specs.Entry.{demand, findNone, readInstance, formulaWritten, writtenFor, writeFormula, formulaText, judgeAssignment, decodedFor, checkAssignment, judgePlan, afterPlan, encodedFor, checkPlan, formulaFits, refutedFor, checkRefutation}
 use Rattle.spec.specs.Library.{RunAsked, noTrain, noRun, shown, Meaning, border, run, gone, claim, noVariable, freeNodesOf, sizesOf, measureBook, bordersFit, labelledFor, labelSections, runAmong, runAsked, askRun, meaningsIn, meanings, meaningOf, askVariable}
 use Rattle.spec.specs.Programs.{sliceBytes, sliceOf, programLent, unlessLong, isLong, acceptedLine, refusalLine, printed, printFormula, printAssignment, printPlan, printRefutation}
 
@@ -355,6 +355,6 @@ unfolding
     width firstVar base borderVar runVar goneVar claimVar ownVariables variables clausesB clausesC clausesI clausesD followersE clauseE clausesE serversF claimsG clausesG clausesH familyA familyB familyC familyD familyE familyF familyG familyH familyI formula wordsOf dimacsOpening dimacsLine dimacsText
     deny truth isYes valueOf isTrue holds satisfies firstFalse assigned assignmentFits firstRun chosen decoded decode claims encode
     stepPayload fileOf literalCount hintCount stepIn variableOf risesFrom literalsFit hintsFit makeTrue makeFalse refuting isNo isOpen clauseAt notFalse hinted goThrough followsRule clausesFit isBad stepFaults stepDetail checkSteps checkFile
-    demand findNone readInstance formulaWritten writtenFor writeFormula formulaText judgeAssignment decodedFor checkAssignment judgePlan encodedFor checkPlan formulaFits refutedFor checkRefutation
+    demand findNone readInstance formulaWritten writtenFor writeFormula formulaText judgeAssignment decodedFor checkAssignment judgePlan afterPlan encodedFor checkPlan formulaFits refutedFor checkRefutation
     sliceBytes sliceOf programLent unlessLong isLong acceptedLine refusalLine printed printFormula printAssignment printPlan printRefutation
 cases = refl

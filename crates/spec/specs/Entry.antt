@@ -11,7 +11,7 @@ use Rattle.spec.specs.Lists.{Bytes, Verdict, accepted, refused, andThen}
 use Rattle.spec.specs.Book.{Book}
 use Rattle.spec.specs.Read.{readBook}
 use Rattle.spec.specs.Instance.{Instance, instanceOf}
-use Rattle.spec.specs.Plan.{planFits, planLength, planOf, brokenRule}
+use Rattle.spec.specs.Plan.{Plan, planFits, planLength, planOf, brokenRule}
 use Rattle.spec.specs.Formula.{Clause, formula, variables, wordsOf, dimacsText}
 use Rattle.spec.specs.Assignment.{assignmentFits, assigned, firstFalse, decode, encode}
 use Rattle.spec.specs.Refutation.{Lent, clausesFit, checkFile}
@@ -109,12 +109,16 @@ planOutput book assignment old = overwrite old (written (checkAssignment book as
 unfoldable pub judgePlan : Instance → Bytes → Verdict (Unit {0})
 judgePlan I s = andThen (demand (planFits I s) 15) λ _. findNone (brokenRule I (planOf I s)) 16
 
--- of an instance: 12, then the judgement, then the assignment that it is written as
-unfoldable pub encodedFor : Instance → Bytes → ℕ → Verdict Bytes
-encodedFor I plan outLength =
-    andThen (demand (leb (variables I) outLength) 12) λ _.
+-- whatever is written of a plan, of an instance: 12 by the output's length, then 15 and 16, then a number of its own, then the output
+unfoldable pub afterPlan : {A : Type 0} → Instance → Bytes → ℕ → ℕ → (Plan → Verdict A) → Verdict A
+afterPlan I plan need outLength own =
+    andThen (demand (leb need outLength) 12) λ _.
     andThen (judgePlan I plan) λ _.
-    accepted (encode I (planOf I plan))
+    own (planOf I plan)
+
+-- the assignment that it is written as
+unfoldable pub encodedFor : Instance → Bytes → ℕ → Verdict Bytes
+encodedFor I plan outLength = afterPlan I plan (variables I) outLength λ p. accepted (encode I p)
 
 unfoldable pub checkPlan : Bytes → Bytes → ℕ → Verdict Bytes
 checkPlan book plan outLength = andThen (readInstance book) λ I. encodedFor I plan outLength

@@ -16,7 +16,7 @@ use Rattle.spec.specs.Entry.{Written, demand, formulaWritten, overwrite, writte
 use Rattle.clauses.specs.declared.Walk.{Walk}
 use Rattle.clauses.specs.Walked.{start, Walks}
 use Rattle.clauses.proofs.Totals.{stored-front}
-use Rattle.run_tables.specs.Tables.{Passed}
+use Rattle.tables.specs.Tables.{Passed}
 use Rattle.formula.proofs.Totals.{is-small}
 use Rattle.writing.specs.declared.FormulaAnswer.{FormulaAnswer}
 use Rattle.writing.specs.declared.FormulaAnswer.the-variants.{Totals, Refused}

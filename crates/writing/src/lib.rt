@@ -3,23 +3,19 @@
 // The words are measured before anything is written. Assumes nothing.
 use formula::walk::walk_formula;
 use layout::numbering::variable_count;
+use listing::TABLE_BYTES;
 use model::Book;
+use model::Counts;
 use reader::reading::Answer;
-use reader::reading::read_book;
-use run_tables::tables::ALL_BYTES;
-use run_tables::tables::ALL_RUNS;
-use run_tables::tables::chain_trains;
-use run_tables::tables::fill_runs;
-use sections::meets::MEET_BYTES;
-use sections::meets::list_meets;
+use tables::chains::ALL_CHAINS;
+use tables::meets::MEET_BYTES;
+use tables::preparing::prepare_chains;
 ghost use mathlib.Core.Path.{_≡_};
 ghost use lib.ListN.{length};
 ghost use Rattle.spec.specs.Instance.{instanceOf};
 ghost use Rattle.spec.specs.Held.{held};
 ghost use Rattle.spec.specs.Entry.{writtenFor, wordsAfter, writeFormula, formulaOutput};
-ghost use Rattle.run_tables.specs.Tables.{Passed};
-ghost use Rattle.run_tables.specs.Ready.{RunsReady, ChainsReady};
-ghost use Rattle.sections.specs.Meets.{MeetsReady};
+ghost use Rattle.tables.specs.Ready.{RunsReady, ChainsReady, MeetsReady};
 ghost use Rattle.writing.specs.FormulaAnswers.{formulaAnswer};
 
 // The totals of a formula that was written, or a refusal's number and detail.
@@ -35,58 +31,27 @@ pub enum FormulaAnswer {
 // 12, then the words, by the tables of a book: measured with an empty output, then written.
 fn write_by(
     b: Book,
-    runs: [usize; 8],
-    rows: &[u8],
-    sizes: &[u8],
-    firsts: &[usize],
-    nexts: &[usize],
+    counts: Counts,
+    runs: &[u8],
+    chains: &[usize],
     meets: &[u8],
-    end: usize,
     out: &mut [i32],
 ) -> FormulaAnswer
-    requires { ⌜ RunsReady b runs (now rows) (now sizes) × ChainsReady b (now firsts) (now nexts) × MeetsReady b (now meets) end ⌝ }
+    requires { ⌜ RunsReady b counts (now runs) × ChainsReady b (now chains) × MeetsReady b (now meets) ⌝ }
     ensures { λ r. ⌜ (r ≡ formulaAnswer (writtenFor (instanceOf (held b)) (length (now (out .entry)))))
         × (now (out .exit) ≡ wordsAfter (now (out .entry)) (writtenFor (instanceOf (held b)) (length (now (out .entry))))) ⌝ }
 {
-    let none = &rows[0..0];
-    let measured = walk_formula(
-        b,
-        runs,
-        rows,
-        sizes,
-        firsts,
-        nexts,
-        meets,
-        end,
-        none,
-        &mut out[0..0],
-    );
+    let none = &runs[0..0];
+    let measured = walk_formula(b, counts, runs, chains, meets, none, &mut out[0..0]);
     if out.len() < measured.words {
         return FormulaAnswer::Refused(12, 0);
     }
-    let w = walk_formula(b, runs, rows, sizes, firsts, nexts, meets, end, none, out);
+    let w = walk_formula(b, counts, runs, chains, meets, none, out);
     FormulaAnswer::Totals {
-        variables: variable_count(b, runs),
+        variables: variable_count(b, counts),
         clauses: w.clauses,
         words: w.words,
     }
-}
-
-// The formula of a book that passed: its tables are filled, then its words are written.
-fn write_words(b: Book, out: &mut [i32]) -> FormulaAnswer
-    requires { ⌜ Passed b ⌝ }
-    ensures { λ r. ⌜ (r ≡ formulaAnswer (writtenFor (instanceOf (held b)) (length (now (out .entry)))))
-        × (now (out .exit) ≡ wordsAfter (now (out .entry)) (writtenFor (instanceOf (held b)) (length (now (out .entry))))) ⌝ }
-{
-    let mut rows = [0u8; ALL_BYTES];
-    let mut sizes = [0u8; ALL_RUNS];
-    let mut firsts = [0usize; ALL_RUNS];
-    let mut nexts = [0usize; ALL_RUNS];
-    let mut meets = [0u8; MEET_BYTES];
-    let runs = fill_runs(b, &mut rows, &mut sizes);
-    chain_trains(b, runs, &rows, &sizes, &mut firsts, &mut nexts);
-    let end = list_meets(b, &mut meets);
-    write_by(b, runs, &rows, &sizes, &firsts, &nexts, &meets, end, out)
 }
 
 // The entry point: the formula of the book that the bytes hold.
@@ -94,11 +59,17 @@ pub fn write_formula(book: &[u8], out: &mut [i32]) -> FormulaAnswer
     ensures { λ r. ⌜ (r ≡ formulaAnswer (writeFormula (now (book .entry)) (length (now (out .entry)))))
         × (now (out .exit) ≡ formulaOutput (now (book .entry)) (now (out .entry))) ⌝ }
 {
-    let r = read_book(book);
-    let answer = r.answer;
-    let b = r.book;
+    let mut runs = [0u8; TABLE_BYTES];
+    let mut chains = [0usize; ALL_CHAINS];
+    let mut meets = [0u8; MEET_BYTES];
+    let p = prepare_chains(book, &mut runs, &mut chains, &mut meets);
+    let end = p.meets;
+    let read = p.read;
+    let b = read.book;
+    let counts = read.counts;
+    let answer = read.answer;
     match answer {
         Answer::Refused(number, detail) => FormulaAnswer::Refused(number, detail),
-        Answer::Accepted => write_words(b, out),
+        Answer::Accepted => write_by(b, counts, &runs, &chains, &meets[..end], out),
     }
 }

@@ -1,63 +1,78 @@
 -- `checking::check_assignment` meets its contract: the book's refusal, or the check of the book that the bytes hold. Assumes nothing.
 use borrow.Author.Needs.{needs}
 use native.Mathlib.Omega.{arith}
+use mathlib.Core.Path.{sym}
+use Prim.Native.Nat.{ℕ, _≤_}
 use denote.Ref.{now}
-use lib.ListN.{length}
+use lib.ListN.{length, take, length-replicate}
+use lib.Seq.{length-take-le}
 use Rattle.spec.specs.Lists.{Bytes, Verdict}
 use Rattle.spec.specs.Instance.{Instance}
 use Rattle.spec.specs.Entry.{decodedFor, checkAssignment, planOutput}
+use Rattle.listing.specs.Listed.{tableBytes}
+use Rattle.tables.specs.Tables.{allChains}
+use Rattle.tables.specs.Meets.{meetRoom}
+use Rattle.tables.specs.Ready.{RunsReady, MeetsReady}
+use Rattle.tables.specs.declared.preparing.Prepared.{Prepared}
+use Rattle.tables.proofs.Instances.{went-on, stopped}
 use Rattle.checking.proofs.Answers.{left-stopped, left-same}
-use Rattle.run_tables.proofs.Instances.{passed, went-on, stopped}
 use Rattle.checking.proofs.check_assignment.Statement.{statement}
 use Rattle.checking.proofs.check_assignment.Tie as tie
 
-read-book-requires : tie.Need-read-book-requires
-read-book-requires c κs = search needs
-
-enum-known-answer : tie.Need-enum-known-answer
-enum-known-answer c = search needs
-
-enum-told : tie.Need-enum-told
-enum-told c = search needs
-
 -- the answer to the book's bytes
-module _ (c : tie.After-read-book) where
+module _ (c : tie.After-prepare-chains) where
   abbrev start : tie.Start
-  start = c .before .before .before .before
+  start = c .before .before .before .before .before .before .before
 
   -- what the check does with an instance
   abbrev onward : Instance → Verdict Bytes
   onward I = decodedFor I (now (start .args .values)) (length (now (start .args .out)))
 
-decode-for-requires : tie.Need-decode-for-requires
-decode-for-requires c κs =
-    let r = c .before .before .before .before in
-    passed _ _ (r .read-book .ensures) (c .before .enum-told .given .1) (λ i. omega (arith, r .before .before .before .shared-slice-known .given i))
+-- the book is accepted
+module _ (c : tie.After-enum-told) where
+  abbrev prepared : tie.After-prepare-chains
+  prepared = c .before .before .before .before .before .before .before .before
+
+  abbrev p : Prepared
+  p = prepared .prepare-chains .result
+
+  ready : RunsReady (p .read .book) (p .read .counts) (prepared .prepare-chains .last .1 .0)
+      × (p .meets ≤ length (prepared .prepare-chains .last .1 .1 .1 .0))
+      × MeetsReady (p .read .book) (take (p .meets) (prepared .prepare-chains .last .1 .1 .1 .0))
+  ready = prepared .prepare-chains .ensures .1 (c .enum-told .given .1)
+
+decode-by-requires : tie.Need-decode-by-requires
+decode-by-requires c κs = let a = c .before .before .before .before in (ready a .0, prepared a .prepare-chains .ensures .2 (a .enum-told .given .1), ready a .2)
 
 returns : tie.Need-returns
 unfolding checkAssignment planOutput
 returns c =
-    let r = c .before .before .before .before in
-    left-stopped _ (stopped _ _ (r .read-book .ensures) (onward r) (c .before .answer .given .1))
-
-same-length : tie.Need-same-length
-same-length c = search needs
+    let r = c .before .before .before .before .before .before .before .before .before in
+    left-stopped _ (stopped _ _ (r .prepare-chains .ensures .0) (onward r) (c .before .answer .given .1))
 
 returns-2 : tie.Need-returns-2
 unfolding checkAssignment planOutput
 returns-2 c =
-    let d = c .before in
-    let r = d .before .before .before .before .before .before in
-    left-same _ (went-on _ _ (r .read-book .ensures) (d .before .before .before .enum-told .given .1) (onward r)) (d .before .decode-for .ensures)
+    let d = c .before .before in
+    let a = d .before .before .before .before .before in
+    let r = prepared a in
+    left-same _ (went-on _ _ (r .prepare-chains .ensures .0) (a .enum-told .given .1) (onward r)) (d .decode-by .ensures)
 
 pub check-assignment-spec : {M : Type 1} → statement M
 check-assignment-spec =
     tie.close
     (tie.spec
-    read-book-requires
-    enum-known-answer
-    enum-told
-    decode-for-requires
+    (λ c. sym (length-replicate {A = ℕ} tableBytes 0))
+    (λ c. sym (length-replicate {A = ℕ} allChains 0))
+    (λ c. sym (length-replicate {A = ℕ} meetRoom 0))
+    (λ c κs. (length-replicate {A = ℕ} tableBytes 0, length-replicate {A = ℕ} allChains 0, length-replicate {A = ℕ} meetRoom 0))
+    (λ c. search needs)
+    (λ c. search needs)
+    (λ c. search needs)
+    (λ c. search needs)
+    (λ c. omega (arith, ready (c .before .before) .1))
+    (λ c. let a = c .before .before .before in sym (length-take-le (p a .meets) (prepared a .prepare-chains .last .1 .1 .1 .0) (ready a .1)))
+    decode-by-requires
     returns
-    same-length
+    (λ c. search needs)
     returns-2)

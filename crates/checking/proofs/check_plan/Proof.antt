@@ -1,63 +1,75 @@
 -- `checking::check_plan` meets its contract: the book's refusal, or the check of the book that the bytes hold. Assumes nothing.
 use borrow.Author.Needs.{needs}
 use native.Mathlib.Omega.{arith}
+use mathlib.Core.Path.{sym}
+use Prim.Native.Nat.{ℕ, _≤_}
 use denote.Ref.{now}
-use lib.ListN.{length}
+use lib.ListN.{length, take, length-replicate}
+use lib.Seq.{length-take-le}
 use Rattle.spec.specs.Lists.{Bytes, Verdict}
 use Rattle.spec.specs.Instance.{Instance}
 use Rattle.spec.specs.Entry.{encodedFor, checkPlan, assignmentOutput}
+use Rattle.listing.specs.Listed.{tableBytes}
+use Rattle.tables.specs.Meets.{meetRoom}
+use Rattle.tables.specs.Ready.{RunsReady, MeetsReady}
+use Rattle.tables.specs.declared.preparing.Prepared.{Prepared}
+use Rattle.tables.proofs.Instances.{went-on, stopped}
 use Rattle.checking.proofs.Answers.{left-stopped, left-same}
-use Rattle.run_tables.proofs.Instances.{passed, went-on, stopped}
 use Rattle.checking.proofs.check_plan.Statement.{statement}
 use Rattle.checking.proofs.check_plan.Tie as tie
 
-read-book-requires : tie.Need-read-book-requires
-read-book-requires c κs = search needs
-
-enum-known-answer : tie.Need-enum-known-answer
-enum-known-answer c = search needs
-
-enum-told : tie.Need-enum-told
-enum-told c = search needs
-
 -- the answer to the book's bytes
-module _ (c : tie.After-read-book) where
+module _ (c : tie.After-prepare) where
   abbrev start : tie.Start
-  start = c .before .before .before .before
+  start = c .before .before .before .before .before .before
 
   -- what the check does with an instance
   abbrev onward : Instance → Verdict Bytes
   onward I = encodedFor I (now (start .args .plan)) (length (now (start .args .out)))
 
-encode-for-requires : tie.Need-encode-for-requires
-encode-for-requires c κs =
-    let r = c .before .before .before .before in
-    passed _ _ (r .read-book .ensures) (c .before .enum-told .given .1) (λ i. omega (arith, r .before .before .before .shared-slice-known .given i))
+-- the book is accepted
+module _ (c : tie.After-enum-told) where
+  abbrev prepared : tie.After-prepare
+  prepared = c .before .before .before .before .before .before .before
+
+  abbrev p : Prepared
+  p = prepared .prepare .result
+
+  ready : RunsReady (p .read .book) (p .read .counts) (prepared .prepare .last .1 .0)
+      × (p .meets ≤ length (prepared .prepare .last .1 .1 .0))
+      × MeetsReady (p .read .book) (take (p .meets) (prepared .prepare .last .1 .1 .0))
+  ready = prepared .prepare .ensures .1 (c .enum-told .given .1)
+
+encode-by-requires : tie.Need-encode-by-requires
+encode-by-requires c κs = let a = c .before .before .before in (ready a .0, ready a .2)
 
 returns : tie.Need-returns
 unfolding checkPlan assignmentOutput
 returns c =
-    let r = c .before .before .before .before in
-    left-stopped _ (stopped _ _ (r .read-book .ensures) (onward r) (c .before .answer .given .1))
-
-same-length : tie.Need-same-length
-same-length c = search needs
+    let r = c .before .before .before .before .before .before .before .before in
+    left-stopped _ (stopped _ _ (r .prepare .ensures .0) (onward r) (c .before .answer .given .1))
 
 returns-2 : tie.Need-returns-2
 unfolding checkPlan assignmentOutput
 returns-2 c =
-    let d = c .before in
-    let r = d .before .before .before .before .before .before in
-    left-same _ (went-on _ _ (r .read-book .ensures) (d .before .before .before .enum-told .given .1) (onward r)) (d .before .encode-for .ensures)
+    let d = c .before .before in
+    let a = d .before .before .before .before in
+    let r = prepared a in
+    left-same _ (went-on _ _ (r .prepare .ensures .0) (a .enum-told .given .1) (onward r)) (d .encode-by .ensures)
 
 pub check-plan-spec : {M : Type 1} → statement M
 check-plan-spec =
     tie.close
     (tie.spec
-    read-book-requires
-    enum-known-answer
-    enum-told
-    encode-for-requires
+    (λ c. sym (length-replicate {A = ℕ} tableBytes 0))
+    (λ c. sym (length-replicate {A = ℕ} meetRoom 0))
+    (λ c κs. (length-replicate {A = ℕ} tableBytes 0, length-replicate {A = ℕ} meetRoom 0))
+    (λ c. search needs)
+    (λ c. search needs)
+    (λ c. search needs)
+    (λ c. omega (arith, ready (c .before) .1))
+    (λ c. let a = c .before .before in sym (length-take-le (p a .meets) (prepared a .prepare .last .1 .1 .0) (ready a .1)))
+    encode-by-requires
     returns
-    same-length
+    (λ c. search needs)
     returns-2)

@@ -18,7 +18,7 @@ plan-length-requires c κs = search needs
 -- the length that is compared, and the output's
 module _ (c : tie.After-plan-length) where
   abbrev start : tie.Start
-  start = c .before .before .before .before .before .before .before .before
+  start = c .before .before .before .before .before .before
 
   need : c .plan-length .result ≡ planLength (instanceOf (held (start .args .b)))
   need = c .plan-length .ensures

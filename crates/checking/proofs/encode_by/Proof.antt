@@ -1,82 +1,73 @@
--- `checking::encode_by` meets its contract: room, the judgement, then the assignment. Assumes nothing.
+-- `checking::encode_by` meets its contract: room and the judgement, then the assignment. Assumes nothing.
 use borrow.Author.Needs.{needs}
 use native.Mathlib.Omega.{arith}
-use mathlib.Core.Path.{_≡_, sym, _∙_}
-use Prim.Native.Nat.{_≤_}
+use mathlib.Core.Path.{_≡_, sym, ap, _∙_}
+use Prim.Native.Nat.{ℕ, _≤_}
 use denote.Ref.{now}
 use lib.ListN.{length}
-use Rattle.spec.specs.Instance.{instanceOf}
+use Rattle.spec.specs.Instance.{Instance, instanceOf}
 use Rattle.spec.specs.Formula.{variables}
 use Rattle.spec.specs.Held.{held}
-use Rattle.checking.proofs.Answers.{plan-fits, length-assignment, encoded-short, encoded-refused, encoded-accepted}
-use Rattle.spec.specs.Entry.{judgePlan}
+use Rattle.reader.specs.declared.reading.Answer.{Answer}
 use Rattle.reader.specs.declared.reading.Answer.the-variants.{Accepted}
 use Rattle.reader.specs.BookAnswers.{answerOf}
+use Rattle.plan_rules.specs.Admitted.{admitPlan}
+use Rattle.plan_rules.proofs.Admitted.{after-room, after-judged}
+use Rattle.checking.proofs.Answers.{plan-fits, length-assignment, encoded-refused, encoded-accepted}
 use Rattle.checking.proofs.encode_by.Statement.{statement}
 use Rattle.checking.proofs.encode_by.Tie as tie
 
-variable-count-requires : tie.Need-variable-count-requires
-variable-count-requires c κs = search needs
-
--- the length that is compared, and the output's
-module _ (c : tie.After-variable-count) where
+-- the answer to the plan, by the number of the book's variables
+module _ (a : tie.After-admit-plan) where
   abbrev start : tie.Start
-  start = c .before .before .before .before .before .before
+  start = a .before .before .before .before .before .before
 
-  need : c .variable-count .result ≡ variables (instanceOf (held (start .args .b)))
-  need = c .variable-count .ensures
+  abbrev I : Instance
+  I = instanceOf (held (start .args .b))
 
-room : (c : tie.Else1) → variables (instanceOf (held (start (c .before) .args .b))) ≤ length (now (start (c .before) .args .out))
-room c = omega (arith, c .if1 .left, need (c .before))
+  abbrev room : ℕ
+  room = length (now (start .args .out))
 
-returns : tie.Need-returns
-returns c = let k = c .before in encoded-short _ _ _ (omega (arith, c .if1 .taken, need k))
+  need : a .before .variable-count .result ≡ variables I
+  need = a .before .variable-count .ensures
 
-judge-plan-requires : tie.Need-judge-plan-requires
-judge-plan-requires c κs = search needs
+  answered : a .admit-plan .result ≡ answerOf (admitPlan I (now (start .args .plan)) (variables I) room)
+  answered = a .admit-plan .ensures ∙ ap (λ (n : ℕ). answerOf (admitPlan I (now (start .args .plan)) n room)) need
 
-enum-known-judged : tie.Need-enum-known-judged
-enum-known-judged c = search needs
+-- it is accepted
+module _ (c : tie.After-enum-told) where
+  abbrev asked : tie.After-admit-plan
+  asked = c .before .before
 
-enum-told : tie.Need-enum-told
-enum-told c = search needs
-
--- the plan was accepted
-judged : (c : tie.After-write-plan-arg)
-    → let s = start (c .before .before .before .before .before) in
-    Accepted ≡ answerOf (judgePlan (instanceOf (held (s .args .b))) (now (s .args .plan)))
-judged c = sym (c .before .enum-told .given .1) ∙ c .before .before .before .judge-plan .ensures
+  accepts : Accepted ≡ answerOf (admitPlan (I asked) (now (start asked .args .plan)) (variables (I asked)) (room asked))
+  accepts = sym (c .enum-told .given .1) ∙ answered asked
 
 write-plan-requires : tie.Need-write-plan-requires
 write-plan-requires c κs =
-    let e = c .before .before .before .before in
-    let s = start (e .before) in
-    (s .pre .0, s .pre .1, plan-fits _ _ (judged c), room e)
+    let a = c .before in
+    let s = start (asked a) in
+    (s .pre .0, s .pre .1, plan-fits _ _ (after-judged _ _ _ _ (accepts a)), after-room _ _ _ _ (accepts a))
+
+returns : tie.Need-returns
+returns c =
+    let a = c .before .before .before in
+    encoded-refused _ _ _ (sym (c .before .admitted .given .1) ∙ answered a)
 
 returns-2 : tie.Need-returns-2
 returns-2 c =
-    let j = c .before .before .before in
-    encoded-refused _ _ _ (room (j .before)) (sym (c .before .judged .given .1) ∙ j .judge-plan .ensures)
-
-same-length : tie.Need-same-length
-same-length c = search needs
-
-returns-3 : tie.Need-returns-3
-returns-3 c =
-    let d = c .before .before .before in
-    let e = d .before .before .before .before in
-    encoded-accepted _ _ _ (room e) (judged d) (need (e .before) ∙ sym (length-assignment _ _)) (c .before .before .write-plan .ensures)
+    let w = c .before .before in
+    let a = w .before .before in
+    encoded-accepted _ _ _ (accepts a) (need (asked a) ∙ sym (length-assignment _ _)) (w .write-plan .ensures)
 
 pub encode-by-spec : {M : Type 1} → statement M
 encode-by-spec =
     tie.close
     (tie.spec
-    variable-count-requires
-    returns
-    judge-plan-requires
-    enum-known-judged
-    enum-told
+    (λ c κs. search needs)
+    (λ c κs. search needs)
+    (λ c. search needs)
+    (λ c. search needs)
     write-plan-requires
-    returns-2
-    same-length
-    returns-3)
+    returns
+    (λ c. search needs)
+    returns-2)

@@ -2,7 +2,7 @@
 use borrow.Author.Needs.{needs}
 use native.Mathlib.Omega.{arith}
 use mathlib.Core.Path.{refl}
-use Rattle.run_tables.proofs.Small.{nodes-is}
+use Rattle.tables.proofs.Small.{nodes-is}
 use Rattle.plan_rules.proofs.Ready.{nodes-inside}
 use Rattle.sections.proofs.Same.{plan-labelled}
 use Rattle.checking.proofs.write_plan.Statement.{statement}
@@ -12,7 +12,7 @@ slice-aggregate-label-sections : tie.Need-slice-aggregate-label-sections
 slice-aggregate-label-sections c = search needs
 
 abbrev start : tie.After-labels → tie.Start
-start c = c .before .before .before .before .before .before
+start c = c .before .before .before .before .before
 
 label-sections-requires : tie.Need-label-sections-requires
 label-sections-requires c κs =
@@ -26,7 +26,7 @@ slice-aggregate-encode c = search needs
 encode-requires : tie.Need-encode-requires
 encode-requires c κs =
     let k = c .before .before .before in
-    let s = k .before .before .before .before .before .before .before in
+    let s = k .before .before .before .before .before .before in
     let p = s .pre .0 .counted .passed in
     ((s .pre .0, s .pre .2, plan-labelled (s .args .b) p _ _ refl (k .label-sections .ensures)), s .pre .3)
 

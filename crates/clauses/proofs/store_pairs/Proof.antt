@@ -10,7 +10,7 @@ use mir.Syntax.{w32}
 use mir.Val.{toZ, ofZ}
 use Rattle.spec.specs.Lists.{range, one}
 use Rattle.spec.specs.Formula.{not′, wordsOf}
-use Rattle.clauses.specs.Walked.{stored}
+use Rattle.clauses.specs.Walked.{stored, literalRoom}
 use Rattle.clauses.proofs.Laws.{not-read}
 use Rattle.clauses.proofs.Pairs.{stored-pair, stored-all}
 use Rattle.clauses.proofs.store_pairs.Statement.{statement}
@@ -80,7 +80,7 @@ loop-less : tie.Need-loop-less Inv-loop μ-loop
 loop-less c = omega arith
 
 -- a literal, read back from its bits
-read-back : {l : ℤ} (v : ℕ) → v < 1000000000 → l ≡ not′ v → not′ v ≡ toZ w32 (ofZ w32 l)
+read-back : {l : ℤ} (v : ℕ) → v < literalRoom → l ≡ not′ v → not′ v ≡ toZ w32 (ofZ w32 l)
 read-back v h e = sym (ap (λ (z : ℤ). toZ w32 (ofZ w32 z)) e ∙ not-read v h)
 
 loop-again : tie.Need-loop-again Inv-loop μ-loop

@@ -15,7 +15,7 @@ use Rattle.spec.specs.Lists.{upTo, each, one, all, has, lastOr}
 use Rattle.spec.specs.Book.{segmentOf}
 use Rattle.listing.specs.Listed.{pathOf, successorsBy, Covered, extendBy}
 use Rattle.listing.proofs.Leaves.{last-append}
-use Rattle.listing.proofs.Lists.{Listed, listed-none, listed-rows, listed-sizes, listed-next, listed-skip, listed-end}
+use Rattle.listing.proofs.Lists.{Listed, listed-none, listed-long, listed-next, listed-skip, listed-end}
 use Rattle.listing.proofs.Lists.{short, count-one, each-nothing, each-short, onward, onward-taken, onward-left, onward-short}
 use Rattle.listing.proofs.Lists.{extend-none, extend-more, path-of, path-size, path-packed}
 use Rattle.listing.proofs.Successors.{each-slice, covered-number, covered-fan, covered-next}
@@ -30,15 +30,15 @@ use Rattle.frames.proofs.bytes.wide.Reads as wide-reads
 use Rattle.listing.proofs.+extend.{statement}
 use Rattle.listing.proofs.+extend.Tie.{close}
 
-abbrev μ-extend : Measures 4 extend-kinds.ps ℕ
-μ-extend κs a = a .1 .1 .1 .1 .1 .1 .0
+abbrev μ-extend : Measures 3 extend-kinds.ps ℕ
+μ-extend κs a = a .1 .1 .1 .1 .1 .0
 
 -- what `extend` is given at the measure t, what a call of it asks below t, and the contracts of all that it calls
-abbrev extend-at : ℕ → In 4 extend-kinds.ps
-extend-at t = and 4 extend-kinds.ps (is 4 extend-kinds.ps μ-extend t) extend.Pre
+abbrev extend-at : ℕ → In 3 extend-kinds.ps
+extend-at t = and 3 extend-kinds.ps (is 3 extend-kinds.ps μ-extend t) extend.Pre
 
-abbrev extend-below : ℕ → In 4 extend-kinds.ps
-extend-below t = and 4 extend-kinds.ps (falls 4 extend-kinds.ps _<_ μ-extend t) extend.Pre
+abbrev extend-below : ℕ → In 3 extend-kinds.ps
+extend-below t = and 3 extend-kinds.ps (falls 3 extend-kinds.ps _<_ μ-extend t) extend.Pre
 
 abbrev calls : ℕ → lts.Claims
 calls t = (
@@ -57,46 +57,43 @@ calls t = (
 )
 
 abbrev Inv-loop : lts.InvT-loop
-Inv-loop table fans rows₀ sizes₀ count path missing last fan base found₀ i₀ rows sizes found i =
+Inv-loop table fans runs₀ count path missing last fan base found₀ i₀ runs found i =
     (i ≤ fan)
-    × Listed count rows₀ sizes₀ (each (upTo i) (λ k. onward table fans (missing - 1) (pathOf path) (getD table (base + k) 0)))
-    found rows sizes
+    × Listed count runs₀ (each (upTo i) (λ k. onward table fans (missing - 1) (pathOf path) (getD table (base + k) 0)))
+    found runs
 
 abbrev μ-loop : lts.MeasureT-loop
-μ-loop table fans rows₀ sizes₀ count path missing last fan base found₀ i₀ rows sizes found i = fan - i
+μ-loop table fans runs₀ count path missing last fan base found₀ i₀ runs found i = fan - i
 
 -- ---- nothing is missing: the path is kept
 
 keep-requires : (t : ℕ) → lts.Need-keep-requires (calls t) (extend-at t) extend.Post Inv-loop μ-loop
-keep-requires t c κs = let p = c .before .before .before .before .before .before .before .pre .1 in (p .1, p .2, p .3, p .4, omega arith)
+keep-requires t c κs = let p = c .before .before .before .before .before .pre .1 in (p .1, p .2, p .3, omega arith)
 
 add-result : (t : ℕ) → lts.Need-add-result (calls t) (extend-at t) extend.Post Inv-loop μ-loop
 add-result t c = omega arith
 
 same-length : (t : ℕ) → lts.Need-same-length (calls t) (extend-at t) extend.Post Inv-loop μ-loop
-same-length t c = c .before .before .before .before .keep .kept .0
-
-same-length-2 : (t : ℕ) → lts.Need-same-length-2 (calls t) (extend-at t) extend.Post Inv-loop μ-loop
-same-length-2 t c = c .before .before .before .before .keep .kept .1 .0
+same-length t c = c .before .before .keep .kept .0
 
 returns : (t : ℕ) → lts.Need-returns (calls t) (extend-at t) extend.Post Inv-loop μ-loop
 returns t c =
-    let k = c .before .before .before .before in
-    let s = k .before .before .before .before .before .before .before .before in
+    let k = c .before .before in
+    let s = k .before .before .before .before .before .before in
     let a = s .args in
     let e : extendBy (a .table .now) (a .fans .now) (a .missing) (pathOf (a .path)) ≡ one (pathOf (a .path)) =
-    rw (k .before .before .before .if1 .taken) (extend-none (a .table .now) (a .fans .now) (pathOf (a .path))) in
-    (rw e (count-one (a .count) (pathOf (a .path)) (s .pre .1 .3)), rw e (k .keep .ensures .0), rw e (k .keep .ensures .1))
+    rw (k .before .before .if1 .taken) (extend-none (a .table .now) (a .fans .now) (pathOf (a .path))) in
+    (rw e (count-one (a .count) (pathOf (a .path)) (s .pre .1 .2)), rw e (k .keep .ensures))
 
 -- ---- one segment more
 
 last-of-requires : (t : ℕ) → lts.Need-last-of-requires (calls t) (extend-at t) extend.Post Inv-loop μ-loop
-last-of-requires t c κs = let p = c .before .before .before .before .before .pre .1 in (p .5, omega arith)
+last-of-requires t c κs = let p = c .before .before .before .before .pre .1 in (p .4, omega arith)
 
 -- the tables have the successors of the path's last segment
 module _ (t : ℕ) (c : lts.After-last-of (calls t) (extend-at t) extend.Post Inv-loop μ-loop) where
   abbrev start : lts.Start (calls t) (extend-at t) extend.Post Inv-loop μ-loop
-  start = c .before .before .before .before .before .before
+  start = c .before .before .before .before .before
 
   abbrev last : ℕ
   last = c .last-of .result
@@ -135,7 +132,7 @@ module _ (t : ℕ) (c : lts.At-loop (calls t) (extend-at t) extend.Post Inv-loop
   some = omega arith
 
   size : args .path .n ≡ length path
-  size = path-size path (start t known .pre .1 .4)
+  size = path-size path (start t known .pre .1 .3)
 
   are-short : (n : ℕ) → T (all short (each (upTo n) paths))
   are-short n =
@@ -162,12 +159,12 @@ module _ (t : ℕ) (c : lts.At-loop (calls t) (extend-at t) extend.Post Inv-loop
 
   -- at the end the tables and the count are what the contract says
   done : (fan ≤ c .loop .i) ⊎ (257 ≤ c .loop .found)
-      → Listed (args .count) (args .rows .now) (args .sizes .now) (extendBy (args .table .now) (args .fans .now) (args .missing) path)
-      (c .loop .found) (c .loop .rows) (c .loop .sizes)
+      → Listed (args .count) (args .runs .now) (extendBy (args .table .now) (args .fans .now) (args .missing) path)
+      (c .loop .found) (c .loop .runs)
   done h = rw whole at (listed-end paths (c .loop .inv .1) (are-short (c .loop .i)) fan (c .loop .inv .0) h)
 
 loop-holds : (t : ℕ) → lts.Need-loop-holds (calls t) (extend-at t) extend.Post Inv-loop μ-loop
-loop-holds t c = (omega arith, rw each-nothing (listed-none _ _ _ (omega arith)))
+loop-holds t c = (omega arith, rw each-nothing (listed-none _ _ (omega arith)))
 
 add-wide : (t : ℕ) → lts.Need-add-wide (calls t) (extend-at t) extend.Post Inv-loop μ-loop
 add-wide t c = omega (arith, inside t (c .before .before))
@@ -204,17 +201,17 @@ module _ (t : ℕ) (c : lts.After-wide2 (calls t) (extend-at t) extend.Post Inv-
 
 pushed-requires : (t : ℕ) → lts.Need-pushed-requires (calls t) (extend-at t) extend.Post Inv-loop μ-loop
 pushed-requires t c κs =
-    let w = c .before .before .before .before in
+    let w = c .before .before .before in
     let l = looped t w in
     let p = start t (known t l) .pre .1 in
-    (p .4, omega (arith, some t l), covered-number (next t w))
+    (p .3, omega (arith, some t l), covered-number (next t w))
 
 sub-extend : (t : ℕ) → lts.Need-sub-extend (calls t) (extend-at t) extend.Post Inv-loop μ-loop
 sub-extend t c = omega arith
 
 extend-requires : (t : ℕ) → lts.Need-extend-requires (calls t) (extend-at t) extend.Post Inv-loop μ-loop
 extend-requires t c κs =
-    let w = c .before .before .before .before .before in
+    let w = c .before .before .before .before in
     let l = looped t w in
     let p = start t (known t l) .pre .1 in
     let ds = path t l ++ one (d t w) in
@@ -224,8 +221,7 @@ extend-requires t c κs =
       omega arith,
       (
         subst (λ (d : ℕ). Covered (args t l .table .now) (args t l .fans .now) d) (sym on) (next t w),
-        listed-rows (l .loop .inv .1) ∙ p .1,
-        listed-sizes (l .loop .inv .1) ∙ p .2,
+        listed-long (l .loop .inv .1) ∙ p .1,
         omega (arith, ltb-true),
         path-packed ds e,
         omega (arith, path-size ds e),
@@ -258,36 +254,30 @@ loop-again t c =
       ⊎-elim
           (λ v.
           let e = more (used t w false (sym (u .uses .ensures) ∙ turned (v .0 .taken))) ∙ same
-          ∙ ap (extendBy (a .table .now) (a .fans .now) (a .missing - 1)) (sym (path-of _ (v .3 .ensures))) in
-          let k = v .4 .ensures in
-          rw (v .9, v .10, v .11)
-          (listed-next (paths t l) (l .loop .inv .1) (are-short t l i) (rw e (record { counted = k .0; filled = k .1; sized = k .2 }))))
+          ∙ ap (extendBy (a .table .now) (a .fans .now) (a .missing - 1)) (sym (path-of _ (v .2 .ensures))) in
+          let k = v .3 .ensures in
+          rw (v .6, v .7)
+          (listed-next (paths t l) (l .loop .inv .1) (are-short t l i) (rw e (record { counted = k .0; filled = k .1 }))))
           (λ v.
-          rw (v .1, v .2, v .3)
+          rw (v .1, v .2)
           (listed-skip (paths t l) (l .loop .inv .1) (are-short t l i)
           (none (used t w true (sym (u .uses .ensures) ∙ turned (v .0 .left))))))
           (c .if3 .came),
     )
 
-same-length-3 : (t : ℕ) → lts.Need-same-length-3 (calls t) (extend-at t) extend.Post Inv-loop μ-loop
-same-length-3 t c = listed-rows (c .before .before .loop .inv .1)
-
-same-length-4 : (t : ℕ) → lts.Need-same-length-4 (calls t) (extend-at t) extend.Post Inv-loop μ-loop
-same-length-4 t c = listed-sizes (c .before .before .loop .inv .1)
+same-length-2 : (t : ℕ) → lts.Need-same-length-2 (calls t) (extend-at t) extend.Post Inv-loop μ-loop
+same-length-2 t c = listed-long (c .before .before .loop .inv .1)
 
 returns-2 : (t : ℕ) → lts.Need-returns-2 (calls t) (extend-at t) extend.Post Inv-loop μ-loop
 returns-2 t c =
     let l = done t (c .before .before) (inr (ltb-false _ _ (c .if2 .left))) in
-    (l .counted, l .filled, l .sized)
+    (l .counted, l .filled)
 
-same-length-5 : (t : ℕ) → lts.Need-same-length-5 (calls t) (extend-at t) extend.Post Inv-loop μ-loop
-same-length-5 t c = listed-rows (c .before .loop .inv .1)
-
-same-length-6 : (t : ℕ) → lts.Need-same-length-6 (calls t) (extend-at t) extend.Post Inv-loop μ-loop
-same-length-6 t c = listed-sizes (c .before .loop .inv .1)
+same-length-3 : (t : ℕ) → lts.Need-same-length-3 (calls t) (extend-at t) extend.Post Inv-loop μ-loop
+same-length-3 t c = listed-long (c .before .loop .inv .1)
 
 returns-3 : (t : ℕ) → lts.Need-returns-3 (calls t) (extend-at t) extend.Post Inv-loop μ-loop
-returns-3 t c = let l = done t (c .before) (inl (c .loop-test .left)) in (l .counted, l .filled, l .sized)
+returns-3 t c = let l = done t (c .before) (inl (c .loop-test .left)) in (l .counted, l .filled)
 
 pub +extend-spec : {M : Type 1} → statement M
 +extend-spec = close μ-extend λ t. lts.spec (calls t)
@@ -298,7 +288,6 @@ pub +extend-spec : {M : Type 1} → statement M
     (keep-requires t)
     (add-result t)
     (same-length t)
-    (same-length-2 t)
     (returns t)
     (last-of-requires t)
     (shared-slice-read-wide t)
@@ -315,9 +304,7 @@ pub +extend-spec : {M : Type 1} → statement M
     (add-i t)
     (loop-less t)
     (loop-again t)
-    (same-length-3 t)
-    (same-length-4 t)
+    (same-length-2 t)
     (returns-2 t)
-    (same-length-5 t)
-    (same-length-6 t)
+    (same-length-3 t)
     (returns-3 t)

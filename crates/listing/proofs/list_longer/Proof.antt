@@ -1,5 +1,5 @@
 -- `listing::list_longer` meets its contract. The loop's invariant: the tables and the count are those after the first places were
--- extended. The rows that are read stand before those that are written. Assumes nothing.
+-- extended. The runs that are read stand before those that are written. Assumes nothing.
 use borrow.Author.Tests.{ltb-true, ltb-false}
 use Prim.Native.Nat.{ℕ, _≤_, _<_, _-_}
 use native.Mathlib.Omega.{arith}
@@ -8,25 +8,25 @@ use mathlib.Core.Logic.{_⊎_, inl, inr}
 use mathlib.Core.List.{List}
 use lib.Dec.{T}
 use Rattle.spec.specs.Lists.{Bytes, upTo, each, all, lastOr}
-use Rattle.listing.specs.Listed.{Covered, extendBy, runIn, placesIn, longerBy}
-use Rattle.listing.proofs.Lists.{Listed, listed-none, listed-from, listed-rows, listed-sizes, listed-next, listed-end}
+use Rattle.listing.specs.Listed.{Covered, extendBy, placeIn, placesIn, longerBy}
+use Rattle.listing.proofs.Lists.{Listed, listed-none, listed-from, listed-long, listed-next, listed-end}
 use Rattle.listing.proofs.Lists.{short, each-nothing, path-of, path-size, path-packed}
-use Rattle.listing.proofs.Successors.{run-long}
+use Rattle.listing.proofs.Successors.{place-long}
 use Rattle.listing.proofs.Levels.{listed-stays, from, longer-from, from-short}
 use Rattle.listing.proofs.list_longer.Statement.{statement}
 use Rattle.listing.proofs.list_longer.Tie as tie
 
 abbrev Inv-loop : tie.InvT-loop
-Inv-loop table fans rows₀ sizes₀ places count l missing found₀ place₀ rows sizes found place =
-    (place ≤ places) × Listed count rows₀ sizes₀ (each (upTo place) (from table fans rows₀ l missing)) found rows sizes
+Inv-loop table fans runs₀ places count l missing found₀ place₀ runs found place =
+    (place ≤ places) × Listed count runs₀ (each (upTo place) (from table fans runs₀ l missing)) found runs
 
 abbrev μ-loop : tie.MeasureT-loop
-μ-loop table fans rows₀ sizes₀ places count l missing found₀ place₀ rows sizes found place = places - place
+μ-loop table fans runs₀ places count l missing found₀ place₀ runs found place = places - place
 
 -- what is known at the loop
 module _ (c : tie.At-loop Inv-loop μ-loop) where
   abbrev start : tie.Start Inv-loop μ-loop
-  start = c .before .before .before .before .before
+  start = c .before .before .before .before
 
   abbrev table : Bytes
   table = start .args .table .now
@@ -34,8 +34,8 @@ module _ (c : tie.At-loop Inv-loop μ-loop) where
   abbrev fans : Bytes
   fans = start .args .fans .now
 
-  abbrev rows : Bytes
-  rows = start .args .rows .now
+  abbrev runs : Bytes
+  runs = start .args .runs .now
 
   abbrev l : ℕ
   l = start .args .l
@@ -45,20 +45,20 @@ module _ (c : tie.At-loop Inv-loop μ-loop) where
 
   -- the paths that extend a place
   abbrev paths : ℕ → List (List ℕ)
-  paths = from table fans rows l missing
+  paths = from table fans runs l missing
 
   are-short : T (all short (each (upTo (c .loop .place)) paths))
-  are-short = from-short table fans rows l (c .loop .place) missing (start .pre .5)
+  are-short = from-short table fans runs l (c .loop .place) missing (start .pre .4)
 
   -- at the end the tables and the count are what the contract says
   done : (start .args .places ≤ c .loop .place) ⊎ (257 ≤ c .loop .found)
-      → Listed (start .args .count) rows (start .args .sizes .now) (longerBy table fans (placesIn rows l (start .args .places)) missing)
-      (c .loop .found) (c .loop .rows) (c .loop .sizes)
+      → Listed (start .args .count) runs (longerBy table fans (placesIn runs l (start .args .places)) missing)
+      (c .loop .found) (c .loop .runs)
   done h =
-      rw (longer-from table fans rows l (start .args .places) missing)
+      rw (longer-from table fans runs l (start .args .places) missing)
       (listed-end paths (c .loop .inv .1) are-short (start .args .places) (c .loop .inv .0) h)
 
--- a turn: there is room, and so the place stands in the rows
+-- a turn: there is room, and so the place stands in the table
 module _ (c : tie.Then1 Inv-loop μ-loop) where
   abbrev looped : tie.At-loop Inv-loop μ-loop
   looped = c .before .before
@@ -66,34 +66,33 @@ module _ (c : tie.Then1 Inv-loop μ-loop) where
   few : start looped .args .places ≤ 256
   few =
       let room : looped .loop .found < 257 = ltb-true _ _ (c .if1 .taken) in
-      omega (arith, listed-from (looped .loop .inv .1) (start looped .pre .3), start looped .pre .2)
+      omega (arith, listed-from (looped .loop .inv .1) (start looped .pre .2), start looped .pre .1)
 
   -- it is as it was
-  stays : runIn (looped .loop .rows) (l looped) (looped .loop .place) ≡ runIn (rows looped) (l looped) (looped .loop .place)
+  stays : placeIn (looped .loop .runs) (l looped) (looped .loop .place) ≡ placeIn (runs looped) (l looped) (looped .loop .place)
   stays = listed-stays (looped .loop .inv .1) (l looped) (omega arith) (looped .loop .place) (omega arith)
 
 loop-holds : tie.Need-loop-holds Inv-loop μ-loop
-loop-holds c = (omega arith, rw each-nothing (listed-none _ _ _ (omega arith)))
+loop-holds c = (omega arith, rw each-nothing (listed-none _ _ (omega arith)))
 
 path-at-requires : tie.Need-path-at-requires Inv-loop μ-loop
 path-at-requires c κs =
     let t = c .before in
     let p = start (looped t) .pre in
-    (listed-rows (looped t .loop .inv .1) ∙ p .0, omega (arith, few t), omega arith)
+    (listed-long (looped t .loop .inv .1) ∙ p .0, omega (arith, few t), omega arith)
 
 extend-requires : tie.Need-extend-requires Inv-loop μ-loop
 extend-requires c κs =
-    let t = c .before .before .before .before in
+    let t = c .before .before .before in
     let at = looped t in
     let p = start at .pre in
-    let e = c .before .before .path-at .ensures in
-    let place = runIn (at .loop .rows) (l at) (at .loop .place) in
-    let rows-long = listed-rows (at .loop .inv .1) ∙ p .0 in
-    let size = path-size place e ∙ run-long (at .loop .rows) (l at) (at .loop .place) (omega (arith, few t)) in (
+    let e = c .before .path-at .ensures in
+    let place = placeIn (at .loop .runs) (l at) (at .loop .place) in
+    let long = listed-long (at .loop .inv .1) ∙ p .0 in
+    let size = path-size place e ∙ place-long (at .loop .runs) (l at) (at .loop .place) (omega (arith, few t)) in (
       subst (λ (path : List ℕ). Covered (table at) (fans at) (lastOr 0 path)) (sym (path-of place e ∙ stays t))
-          (p .6 (few t) (at .loop .place) (omega arith)),
-      rows-long,
-      listed-sizes (at .loop .inv .1) ∙ p .1,
+          (p .5 (few t) (at .loop .place) (omega arith)),
+      long,
       omega (arith, ltb-true),
       path-packed place e,
       omega (arith, size),
@@ -102,22 +101,22 @@ extend-requires c κs =
 
 loop-again : tie.Need-loop-again Inv-loop μ-loop
 loop-again c =
-    let t = c .before .before .before .before .before .before .before .before .before in
+    let t = c .before .before .before .before .before .before in
     let at = looped t in
-    let e = c .before .before .before .before .extend .ensures in
-    let same = path-of _ (c .before .before .before .before .before .before .before .path-at .ensures) ∙ stays t in
+    let e = c .before .before .extend .ensures in
+    let same = path-of _ (c .before .before .before .before .path-at .ensures) ∙ stays t in
     let on = ap (extendBy (table at) (fans at) (missing at)) (sym same) in (
       omega arith,
-      listed-next (paths at) (at .loop .inv .1) (are-short at) (rw on (record { counted = e .0; filled = e .1; sized = e .2 })),
+      listed-next (paths at) (at .loop .inv .1) (are-short at) (rw on (record { counted = e .0; filled = e .1 })),
     )
 
 returns : tie.Need-returns Inv-loop μ-loop
 returns c =
     let r = done (c .before .before) (inr (ltb-false _ _ (c .if1 .left))) in
-    (r .counted, r .filled, r .sized)
+    (r .counted, r .filled)
 
 returns-2 : tie.Need-returns-2 Inv-loop μ-loop
-returns-2 c = let r = done (c .before) (inl (c .loop-test .left)) in (r .counted, r .filled, r .sized)
+returns-2 c = let r = done (c .before) (inl (c .loop-test .left)) in (r .counted, r .filled)
 
 pub list-longer-spec : {M : Type 1} → statement M
 list-longer-spec =
@@ -131,9 +130,7 @@ list-longer-spec =
     (λ c. omega arith)
     (λ c. omega arith)
     loop-again
-    (λ c. listed-rows (c .before .before .loop .inv .1))
-    (λ c. listed-sizes (c .before .before .loop .inv .1))
+    (λ c. listed-long (c .before .before .loop .inv .1))
     returns
-    (λ c. listed-rows (c .before .loop .inv .1))
-    (λ c. listed-sizes (c .before .loop .inv .1))
+    (λ c. listed-long (c .before .loop .inv .1))
     returns-2)

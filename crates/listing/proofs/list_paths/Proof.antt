@@ -11,17 +11,17 @@ use lib.Dec.{T}
 use Rattle.spec.specs.Lists.{upTo, each, one, all, lastOr}
 use Rattle.spec.specs.Held.{padded}
 use Rattle.listing.specs.Listed.{pathOf, packedPath, extendBy, pathsBy}
-use Rattle.listing.proofs.Lists.{Listed, listed-none, listed-rows, listed-sizes, listed-next, listed-end}
+use Rattle.listing.proofs.Lists.{Listed, listed-none, listed-long, listed-next, listed-end}
 use Rattle.listing.proofs.Lists.{short, each-nothing, each-short, extend-short}
 use Rattle.listing.proofs.list_paths.Statement.{statement}
 use Rattle.listing.proofs.list_paths.Tie as tie
 
 abbrev Inv-loop : tie.InvT-loop
-Inv-loop table fans directed rows₀ sizes₀ size found₀ d₀ rows sizes found d =
-    (d ≤ directed) × Listed 0 rows₀ sizes₀ (each (upTo d) (λ i. extendBy table fans (size - 1) (one i))) found rows sizes
+Inv-loop table fans directed runs₀ size found₀ d₀ runs found d =
+    (d ≤ directed) × Listed 0 runs₀ (each (upTo d) (λ i. extendBy table fans (size - 1) (one i))) found runs
 
 abbrev μ-loop : tie.MeasureT-loop
-μ-loop table fans directed rows₀ sizes₀ size found₀ d₀ rows sizes found d = directed - d
+μ-loop table fans directed runs₀ size found₀ d₀ runs found d = directed - d
 
 -- the paths that start over a directed segment
 module _ (s : tie.Start Inv-loop μ-loop) where
@@ -35,17 +35,17 @@ module _ (s : tie.Start Inv-loop μ-loop) where
 -- at the end the tables and the count are what the contract says
 module _ (c : tie.At-loop Inv-loop μ-loop) where
   abbrev start : tie.Start Inv-loop μ-loop
-  start = c .before .before .before .before .before
+  start = c .before .before .before .before
 
   done : (start .args .directed ≤ c .loop .d) ⊎ (257 ≤ c .loop .found)
-      → Listed 0 (start .args .rows .now) (start .args .sizes .now)
+      → Listed 0 (start .args .runs .now)
       (pathsBy (start .args .table .now) (start .args .fans .now) (start .args .directed) (start .args .size))
-      (c .loop .found) (c .loop .rows) (c .loop .sizes)
+      (c .loop .found) (c .loop .runs)
   unfolding pathsBy
   done h = listed-end (from start) (c .loop .inv .1) (are-short start (c .loop .d)) (start .args .directed) (c .loop .inv .0) h
 
 loop-holds : tie.Need-loop-holds Inv-loop μ-loop
-loop-holds c = (omega arith, rw each-nothing (listed-none _ _ _ (omega arith)))
+loop-holds c = (omega arith, rw each-nothing (listed-none _ _ (omega arith)))
 
 cast-path : tie.Need-cast-path Inv-loop μ-loop
 cast-path c = omega arith
@@ -59,11 +59,10 @@ sub-extend c = omega arith
 extend-requires : tie.Need-extend-requires Inv-loop μ-loop
 unfolding pathOf packedPath padded lastOr
 extend-requires c κs =
-    let l = c .before .before .before .before in
+    let l = c .before .before .before in
     let p = start l .pre in (
-      p .0 (l .loop .d) (c .before .before .before .loop-test .taken),
-      listed-rows (l .loop .inv .1) ∙ p .1,
-      listed-sizes (l .loop .inv .1) ∙ p .2,
+      p .0 (l .loop .d) (c .before .before .loop-test .taken),
+      listed-long (l .loop .inv .1) ∙ p .1,
       omega (arith, ltb-true),
       refl,
       omega arith,
@@ -79,32 +78,26 @@ loop-less c = omega arith
 loop-again : tie.Need-loop-again Inv-loop μ-loop
 unfolding pathOf
 loop-again c =
-    let e = c .before .before .before .before .extend .ensures in
-    let l = c .before .before .before .before .before .before .before .before .before in (
+    let e = c .before .before .extend .ensures in
+    let l = c .before .before .before .before .before .before in (
       omega arith,
       listed-next (from (start l)) (l .loop .inv .1) (are-short (start l) (l .loop .d))
-          (record { counted = e .0; filled = e .1; sized = e .2 }),
+          (record { counted = e .0; filled = e .1 }),
     )
 
 same-length : tie.Need-same-length Inv-loop μ-loop
-same-length c = listed-rows (c .before .before .loop .inv .1)
-
-same-length-2 : tie.Need-same-length-2 Inv-loop μ-loop
-same-length-2 c = listed-sizes (c .before .before .loop .inv .1)
+same-length c = listed-long (c .before .before .loop .inv .1)
 
 returns : tie.Need-returns Inv-loop μ-loop
 returns c =
     let l = done (c .before .before) (inr (ltb-false _ _ (c .if1 .left))) in
-    (l .counted, l .filled, l .sized)
+    (l .counted, l .filled)
 
-same-length-3 : tie.Need-same-length-3 Inv-loop μ-loop
-same-length-3 c = listed-rows (c .before .loop .inv .1)
-
-same-length-4 : tie.Need-same-length-4 Inv-loop μ-loop
-same-length-4 c = listed-sizes (c .before .loop .inv .1)
+same-length-2 : tie.Need-same-length-2 Inv-loop μ-loop
+same-length-2 c = listed-long (c .before .loop .inv .1)
 
 returns-2 : tie.Need-returns-2 Inv-loop μ-loop
-returns-2 c = let l = done (c .before) (inl (c .loop-test .left)) in (l .counted, l .filled, l .sized)
+returns-2 c = let l = done (c .before) (inl (c .loop-test .left)) in (l .counted, l .filled)
 
 pub list-paths-spec : {M : Type 1} → statement M
 list-paths-spec =
@@ -121,8 +114,6 @@ list-paths-spec =
     loop-less
     loop-again
     same-length
-    same-length-2
     returns
-    same-length-3
-    same-length-4
+    same-length-2
     returns-2)

@@ -1,4 +1,4 @@
--- `listing::list_runs` meets its contract: the paths of l segments, as they are read back from the rows, and further. Assumes nothing.
+-- `listing::list_runs` meets its contract: the paths of l segments, as they are read back from the table, and further. Assumes nothing.
 use borrow.Author.Needs.{needs}
 use Prim.Native.Nat.{ℕ, _*_, _≤_}
 use native.Mathlib.Omega.{arith}
@@ -14,7 +14,7 @@ use Rattle.spec.specs.Held.{held, heldTrain}
 use Rattle.network.proofs.Walks.{length-of-map}
 use Rattle.laws.proofs.Tests.{le-or-lt}
 use Rattle.listing.specs.Listed.{pathsBy, placesIn, furtherBy, countAfter}
-use Rattle.listing.proofs.Lists.{Listed, listed-le, listed-rows, listed-sizes, listed-any, listed-more, short, reach, held-segments}
+use Rattle.listing.proofs.Lists.{Listed, listed-le, listed-long, listed-any, listed-more, short, reach, held-segments}
 use Rattle.listing.proofs.Levels.{runs-further, fits, fits-long, fits-short, paths-fit, places-covered, read-back}
 use Rattle.listing.proofs.list_runs.Statement.{statement}
 use Rattle.listing.proofs.list_runs.Tie as tie
@@ -27,7 +27,7 @@ segments s =
 
 module _ (c : tie.After-speed-in-segments) where
   abbrev start : tie.Start
-  start = c .before .before .before .before .before .before
+  start = c .before .before .before .before .before
 
   abbrev b : Book
   b = held (start .args .b)
@@ -64,7 +64,7 @@ module _ (c : tie.After-speed-in-segments) where
 -- when they are listed
 module _ (c : tie.After-list-paths) where
   abbrev known : tie.After-speed-in-segments
-  known = c .before .before .before .before
+  known = c .before .before .before
 
   abbrev given : tie.Start
   given = start known
@@ -72,20 +72,17 @@ module _ (c : tie.After-list-paths) where
   abbrev found : ℕ
   found = c .list-paths .result
 
-  abbrev rows : Bytes
-  rows = c .list-paths .last .1 .1 .1 .0
+  abbrev runs : Bytes
+  runs = c .list-paths .last .1 .1 .1 .0
 
-  abbrev sizes : Bytes
-  sizes = c .list-paths .last .1 .1 .1 .1 .0
+  listed : Listed 0 (given .args .runs .now) (first known) found runs
+  listed = let e = c .list-paths .ensures in record { counted = e .0; filled = e .1 }
 
-  listed : Listed 0 (given .args .rows .now) (given .args .sizes .now) (first known) found rows sizes
-  listed = let e = c .list-paths .ensures in record { counted = e .0; filled = e .1; sized = e .2 }
-
-  back : found ≤ 256 → placesIn rows (l known) found ≡ first known
+  back : found ≤ 256 → placesIn runs (l known) found ≡ first known
   unfolding countAfter
   back few =
-      ap₂ (λ (rows : Bytes) (n : ℕ). placesIn rows (l known) n) (listed .filled) (listed .counted)
-      ∙ read-back (first known) (given .args .rows .now) (l known) (given .pre .7) (omega (arith, listed .counted)) (first-short known)
+      ap₂ (λ (kept : Bytes) (n : ℕ). placesIn kept (l known) n) (listed .filled) (listed .counted)
+      ∙ read-back (first known) (given .args .runs .now) (l known) (given .pre .7) (omega (arith, listed .counted)) (first-short known)
       (fits-long (b known) (l known) (first known) (first-fit known))
 
 length-in-segments-requires : tie.Need-length-in-segments-requires
@@ -99,12 +96,11 @@ mul-directed c = search needs
 
 list-paths-requires : tie.Need-list-paths-requires
 list-paths-requires c κs =
-    let a = c .before .before .before in
+    let a = c .before .before in
     let s = start a in
     let n = bounds a in (
       λ d h. record { book = b a; held = s .pre .6; below = omega (arith, directed-is a) },
       s .pre .7,
-      s .pre .8,
       omega (arith, segments s, s .pre .6 .few),
       omega arith,
       omega arith,
@@ -112,21 +108,20 @@ list-paths-requires c κs =
 
 list-further-requires : tie.Need-list-further-requires
 list-further-requires c κs =
-    let a = c .before .before .before .before .before .before in
+    let a = c .before .before .before in
     let s = given a in
     let n = bounds (known a) in (
-      listed-rows (listed a) ∙ s .pre .7,
-      listed-sizes (listed a) ∙ s .pre .8,
+      listed-long (listed a) ∙ s .pre .7,
       listed-le (listed a),
       omega arith,
       omega arith,
-      λ few. places-covered (s .pre .6) (rows a) (l (known a)) (found a) (rw (back a few) (first-fit (known a))),
+      λ few. places-covered (s .pre .6) (runs a) (l (known a)) (found a) (rw (back a few) (first-fit (known a))),
     )
 
 -- at the end all runs are listed
 module _ (c : tie.After-list-further) where
   abbrev a : tie.After-list-paths
-  a = c .before .before .before .before .before .before .before
+  a = c .before .before .before .before
 
   abbrev table : Bytes
   table = given a .args .table .now
@@ -136,12 +131,11 @@ module _ (c : tie.After-list-further) where
 
   -- the tables and the count after further runs
   abbrev After : List (List ℕ) → Type 0
-  After runs =
-      Listed (found a) (rows a) (sizes a) runs
-      (c .list-further .result) (c .list-further .last .1 .1 .0) (c .list-further .last .1 .1 .1 .0)
+  After further =
+      Listed (found a) (runs a) further (c .list-further .result) (c .list-further .last .1 .1 .0)
 
-  came : After (furtherBy table fans (placesIn (rows a) (l (known a)) (found a)) (k (known a)))
-  came = let e = c .list-further .ensures in record { counted = e .0; filled = e .1; sized = e .2 }
+  came : After (furtherBy table fans (placesIn (runs a) (l (known a)) (found a)) (k (known a)))
+  came = let e = c .list-further .ensures in record { counted = e .0; filled = e .1 }
 
   more : After (furtherBy table fans (first (known a)) (k (known a)))
   more =
@@ -150,8 +144,8 @@ module _ (c : tie.After-list-further) where
       (λ full. listed-any came (furtherBy table fans (first (known a)) (k (known a))) full)
       (le-or-lt (found a) 256)
 
-  all-listed : Listed 0 (given a .args .rows .now) (given a .args .sizes .now) (runsOf (b (known a)) (t (known a)))
-      (c .list-further .result) (c .list-further .last .1 .1 .0) (c .list-further .last .1 .1 .1 .0)
+  all-listed : Listed 0 (given a .args .runs .now) (runsOf (b (known a)) (t (known a)))
+      (c .list-further .result) (c .list-further .last .1 .1 .0)
   all-listed =
       rw
       (runs-further (given a .pre .6) (t (known a)) (directed (known a)) (l (known a)) (k (known a)) (directed-is (known a))
@@ -161,11 +155,8 @@ module _ (c : tie.After-list-further) where
 same-length : tie.Need-same-length
 same-length c = search needs
 
-same-length-2 : tie.Need-same-length-2
-same-length-2 c = search needs
-
 returns : tie.Need-returns
-returns c = let r = all-listed (c .before .before .before .before) in (r .counted, r .filled, r .sized)
+returns c = let r = all-listed (c .before .before) in (r .counted, r .filled)
 
 pub list-runs-spec : {M : Type 1} → statement M
 list-runs-spec =
@@ -177,5 +168,4 @@ list-runs-spec =
     list-paths-requires
     list-further-requires
     same-length
-    same-length-2
     returns)

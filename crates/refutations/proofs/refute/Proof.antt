@@ -1,30 +1,30 @@
 -- `refutations::refute` meets its contract: the book's refusal, or the check of the book that the bytes hold. Assumes nothing.
 use borrow.Author.Needs.{needs}
 use native.Mathlib.Omega.{arith}
-use mathlib.Core.Path.{sym, ap, _∙_}
+use mathlib.Core.Path.{_≡_, sym, ap, ap₂, _∙_}
+use Prim.Native.Nat.{ℕ, _≤_}
 use denote.Ref.{now}
+use lib.ListN.{length, take, length-replicate}
+use lib.Seq.{length-take-le}
 use Rattle.spec.specs.Lists.{Verdict}
-use Rattle.spec.specs.Instance.{Instance}
+use Rattle.spec.specs.Instance.{Instance, instanceOf}
+use Rattle.spec.specs.Held.{held}
 use Rattle.spec.specs.Entry.{refutedFor, checkRefutation}
-use Rattle.refutations.specs.Lent.{lengths}
+use Rattle.listing.specs.Listed.{tableBytes}
 use Rattle.reader.specs.BookAnswers.{answerOf}
-use Rattle.run_tables.proofs.Instances.{passed, went-on, stopped}
+use Rattle.tables.specs.Tables.{allChains}
+use Rattle.tables.specs.Meets.{meetRoom}
+use Rattle.tables.specs.Ready.{RunsReady, MeetsReady}
+use Rattle.tables.specs.declared.preparing.Prepared.{Prepared}
+use Rattle.tables.proofs.Instances.{went-on, stopped}
+use Rattle.refutations.specs.Lent.{lengths}
 use Rattle.refutations.proofs.refute.Statement.{statement}
 use Rattle.refutations.proofs.refute.Tie as tie
 
-read-book-requires : tie.Need-read-book-requires
-read-book-requires c κs = search needs
-
-enum-known-answer : tie.Need-enum-known-answer
-enum-known-answer c = search needs
-
-enum-told : tie.Need-enum-told
-enum-told c = search needs
-
 -- the answer to the book's bytes
-module _ (c : tie.After-read-book) where
+module _ (c : tie.After-prepare-chains) where
   abbrev start : tie.Start
-  start = c .before .before .before .before .before .before
+  start = c .before .before .before .before .before .before .before .before .before
 
   -- what the check does with an instance
   abbrev onward : Instance → Verdict (Unit {0})
@@ -32,49 +32,71 @@ module _ (c : tie.After-read-book) where
       let a = start .args in
       refutedFor I (now (a .r)) (lengths (now (a .words)) (now (a .clauses)) (now (a .values)) (now (a .trail)))
 
-refute-for-requires : tie.Need-refute-for-requires
-refute-for-requires c κs =
-    let r = c .before .before .before .before .before .before .before in
-    let told = c .before .before .before .before .enum-told .given .1 in
-    passed _ _ (r .read-book .ensures) told (λ i. omega (arith, r .before .before .before .before .before .shared-slice-known .given i))
+-- the book is accepted
+module _ (c : tie.After-enum-told) where
+  abbrev prepared : tie.After-prepare-chains
+  prepared = c .before .before .before .before .before .before .before .before
+
+  abbrev p : Prepared
+  p = prepared .prepare-chains .result
+
+  ready : RunsReady (p .read .book) (p .read .counts) (prepared .prepare-chains .last .1 .0)
+      × (p .meets ≤ length (prepared .prepare-chains .last .1 .1 .1 .0))
+      × MeetsReady (p .read .book) (take (p .meets) (prepared .prepare-chains .last .1 .1 .1 .0))
+  ready = prepared .prepare-chains .ensures .1 (c .enum-told .given .1)
+
+load-formula-requires : tie.Need-load-formula-requires
+load-formula-requires c κs =
+    let a = c .before .before .before .before .before in
+    (ready a .0, prepared a .prepare-chains .ensures .2 (a .enum-told .given .1), ready a .2)
+
+-- the formula stands in the slices
+module _ (l : tie.After-load-formula) where
+  abbrev told : tie.After-enum-told
+  told = l .before .before .before .before .before .before
 
 returns : tie.Need-returns
 unfolding checkRefutation
 returns c =
-    let r = c .before .before .before .before in
-    ap answerOf (sym (stopped _ _ (r .read-book .ensures) (onward r) (c .before .answer .given .1)))
-
-same-length : tie.Need-same-length
-same-length c = search needs
-
-same-length-2 : tie.Need-same-length-2
-same-length-2 c = search needs
-
-same-length-3 : tie.Need-same-length-3
-same-length-3 c = search needs
-
-same-length-4 : tie.Need-same-length-4
-same-length-4 c = search needs
+    let r = c .before .before .before .before .before .before .before .before .before in
+    ap answerOf (sym (stopped _ _ (r .prepare-chains .ensures .0) (onward r) (c .before .answer .given .1)))
 
 returns-2 : tie.Need-returns-2
 unfolding checkRefutation
 returns-2 c =
     let d = c .before .before .before .before .before .before .before in
-    let told = d .before .before .before .before .before in
-    let r = told .before .before .before in
-    d .refute-for .ensures ∙ ap answerOf (went-on _ _ (r .read-book .ensures) (told .enum-told .given .1) (onward r))
+    let l = d .before .before .before .before .before .before .before .before in
+    let r = prepared (told l) in
+    let a = start r .args in
+    d .check-loaded .ensures
+    ∙ ap₂
+    (λ (m n : ℕ).
+    answerOf
+    (refutedFor (instanceOf (held (p (told l) .read .book))) (now (a .r)) (record { words = m; clauses = n; values = length (now (a .values)); trail = length (now (a .trail)) })))
+    (l .load-formula .kept .1 .1 .1 .1 .1 .0) (l .load-formula .kept .1 .1 .1 .1 .1 .1 .0)
+    ∙ ap answerOf (went-on _ _ (r .prepare-chains .ensures .0) (told l .enum-told .given .1) (onward r))
 
 pub refute-spec : {M : Type 1} → statement M
 refute-spec =
     tie.close
     (tie.spec
-    read-book-requires
-    enum-known-answer
-    enum-told
-    refute-for-requires
+    (λ c. sym (length-replicate {A = ℕ} tableBytes 0))
+    (λ c. sym (length-replicate {A = ℕ} allChains 0))
+    (λ c. sym (length-replicate {A = ℕ} meetRoom 0))
+    (λ c κs. (length-replicate {A = ℕ} tableBytes 0, length-replicate {A = ℕ} allChains 0, length-replicate {A = ℕ} meetRoom 0))
+    (λ c. search needs)
+    (λ c. search needs)
+    (λ c. search needs)
+    (λ c. search needs)
+    (λ c. omega (arith, ready (c .before .before) .1))
+    (λ c. let a = c .before .before .before in sym (length-take-le (p a .meets) (prepared a .prepare-chains .last .1 .1 .1 .0) (ready a .1)))
+    load-formula-requires
+    (λ c κs.
+    let l = c .before .before .before .before .before .before .before in
+    (ready (told l) .0 .counted, l .load-formula .ensures))
     returns
-    same-length
-    same-length-2
-    same-length-3
-    same-length-4
+    (λ c. search needs)
+    (λ c. search needs)
+    (λ c. search needs)
+    (λ c. search needs)
     returns-2)

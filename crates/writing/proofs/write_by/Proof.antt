@@ -40,7 +40,7 @@ same-length c = search needs
 returns : tie.Need-returns
 returns c =
     let m = c .before .before .before in
-    let s = m .before .before .before .before .before .before .before .before in
+    let s = m .before .before .before .before .before .before in
     let p = s .pre .0 .counted .passed in
     let out = now (s .args .out) in
     let e = nothing-ahead (m .walk-formula .ensures) refl out in
@@ -52,7 +52,7 @@ walk-formula-requires-2 : tie.Need-walk-formula-requires-2
 walk-formula-requires-2 c κs = search needs
 
 variable-count-requires : tie.Need-variable-count-requires
-variable-count-requires c κs = c .before .before .before .before .before .before .before .before .before .before .before .before .before .before .pre .0 .counted
+variable-count-requires c κs = c .before .before .before .before .before .before .before .before .before .before .before .before .pre .0 .counted
 
 same-length-2 : tie.Need-same-length-2
 same-length-2 c = search needs
@@ -61,7 +61,7 @@ returns-2 : tie.Need-returns-2
 returns-2 c =
     let w = c .before .before in
     let m = w .before .before .before .before .before in
-    let s = m .before .before .before .before .before .before .before .before in
+    let s = m .before .before .before .before .before .before in
     let a = s .args in
     let p = s .pre .0 .counted .passed in
     let out = now (a .out) in

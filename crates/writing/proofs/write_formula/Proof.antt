@@ -2,58 +2,74 @@
 -- nothing.
 use borrow.Author.Needs.{needs}
 use native.Mathlib.Omega.{arith}
-use mathlib.Core.Path.{ap, _∙_}
+use mathlib.Core.Path.{sym, ap, _∙_}
+use Prim.Native.Nat.{ℕ, _≤_}
 use denote.Ref.{now}
-use lib.ListN.{length}
+use lib.ListN.{length, take, length-replicate}
+use lib.Seq.{length-take-le}
 use Rattle.spec.specs.Entry.{writtenFor, wordsAfter, writeFormula, formulaOutput}
-use Rattle.run_tables.proofs.Instances.{passed, went-on, stopped}
+use Rattle.listing.specs.Listed.{tableBytes}
+use Rattle.tables.specs.Tables.{allChains}
+use Rattle.tables.specs.Meets.{meetRoom}
+use Rattle.tables.specs.Ready.{RunsReady, MeetsReady}
+use Rattle.tables.specs.declared.preparing.Prepared.{Prepared}
+use Rattle.tables.proofs.Instances.{went-on, stopped}
 use Rattle.writing.specs.FormulaAnswers.{formulaAnswer}
 use Rattle.writing.proofs.Answers.{stopped-answer, stopped-output}
 use Rattle.writing.proofs.write_formula.Statement.{statement}
 use Rattle.writing.proofs.write_formula.Tie as tie
 
-read-book-requires : tie.Need-read-book-requires
-read-book-requires c κs = search needs
+-- the book is accepted
+module _ (c : tie.After-enum-told) where
+  abbrev prepared : tie.After-prepare-chains
+  prepared = c .before .before .before .before .before .before .before .before
 
-enum-known-answer : tie.Need-enum-known-answer
-enum-known-answer c = search needs
+  abbrev p : Prepared
+  p = prepared .prepare-chains .result
 
-enum-told : tie.Need-enum-told
-enum-told c = search needs
-
-write-words-requires : tie.Need-write-words-requires
-write-words-requires c κs =
-    let r = c .before .before .before .before in
-    passed _ _ (r .read-book .ensures) (c .before .enum-told .given .1) (λ i. omega (arith, r .before .shared-slice-known .given i))
+  ready : RunsReady (p .read .book) (p .read .counts) (prepared .prepare-chains .last .1 .0)
+      × (p .meets ≤ length (prepared .prepare-chains .last .1 .1 .1 .0))
+      × MeetsReady (p .read .book) (take (p .meets) (prepared .prepare-chains .last .1 .1 .1 .0))
+  ready = prepared .prepare-chains .ensures .1 (c .enum-told .given .1)
 
 returns : tie.Need-returns
 unfolding writeFormula formulaOutput
 returns c =
-    let r = c .before .before .before .before in
-    let old = now (r .before .before .args .out) in
-    let e = stopped _ _ (r .read-book .ensures) (λ I. writtenFor I (length old)) (c .before .answer .given .1) in
+    let r = c .before .before .before .before .before .before .before .before .before in
+    let old = now (r .before .before .before .before .before .args .out) in
+    let e = stopped _ _ (r .prepare-chains .ensures .0) (λ I. writtenFor I (length old)) (c .before .answer .given .1) in
     (stopped-answer e, stopped-output old e)
 
-same-length : tie.Need-same-length
-same-length c = search needs
+write-by-requires : tie.Need-write-by-requires
+write-by-requires c κs =
+    let a = c .before .before .before .before in
+    (ready a .0, prepared a .prepare-chains .ensures .2 (a .enum-told .given .1), ready a .2)
 
 returns-2 : tie.Need-returns-2
 unfolding writeFormula formulaOutput
 returns-2 c =
-    let r = c .before .before .before .before .before .before in
-    let old = now (r .before .before .args .out) in
-    let e = went-on _ _ (r .read-book .ensures) (c .before .before .before .enum-told .given .1) (λ I. writtenFor I (length old)) in
-    let w = c .before .write-words .ensures in
+    let a = c .before .before .before .before .before .before in
+    let r = prepared a in
+    let old = now (r .before .before .before .before .before .args .out) in
+    let e = went-on _ _ (r .prepare-chains .ensures .0) (a .enum-told .given .1) (λ I. writtenFor I (length old)) in
+    let w = c .before .write-by .ensures in
     (w .0 ∙ ap formulaAnswer e, w .1 ∙ ap (wordsAfter old) e)
 
 pub write-formula-spec : {M : Type 1} → statement M
 write-formula-spec =
     tie.close
     (tie.spec
-    read-book-requires
-    enum-known-answer
-    enum-told
-    write-words-requires
+    (λ c. sym (length-replicate {A = ℕ} tableBytes 0))
+    (λ c. sym (length-replicate {A = ℕ} allChains 0))
+    (λ c. sym (length-replicate {A = ℕ} meetRoom 0))
+    (λ c κs. (length-replicate {A = ℕ} tableBytes 0, length-replicate {A = ℕ} allChains 0, length-replicate {A = ℕ} meetRoom 0))
+    (λ c. search needs)
+    (λ c. search needs)
+    (λ c. search needs)
+    (λ c. search needs)
+    (λ c. omega (arith, ready (c .before .before) .1))
+    (λ c. let a = c .before .before .before in sym (length-take-le (p a .meets) (prepared a .prepare-chains .last .1 .1 .1 .0) (ready a .1)))
+    write-by-requires
     returns
-    same-length
+    (λ c. search needs)
     returns-2)

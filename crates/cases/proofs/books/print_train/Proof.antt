@@ -6,10 +6,10 @@ use Rattle.cases.proofs.books.print_train.Statement.{statement}
 use Rattle.cases.proofs.books.print_train.Tie as tie
 
 abbrev Inv-loop : tie.InvT-loop
-Inv-loop train n rows sizes firsts nexts run₀ run = run ≤ 256
+Inv-loop train n runs chains run₀ run = run ≤ 256
 
 abbrev μ-loop : tie.MeasureT-loop
-μ-loop train n rows sizes firsts nexts run₀ run = 256 - run
+μ-loop train n runs chains run₀ run = 256 - run
 
 print-head-requires : tie.Need-print-head-requires Inv-loop μ-loop
 print-head-requires c κs = search needs

@@ -6,10 +6,10 @@ use Rattle.cases.proofs.books.print_trains.Statement.{statement}
 use Rattle.cases.proofs.books.print_trains.Tie as tie
 
 abbrev Inv-loop : tie.InvT-loop
-Inv-loop n rows sizes firsts nexts counts i₀ i = i ≤ 8
+Inv-loop n runs chains counts i₀ i = i ≤ 8
 
 abbrev μ-loop : tie.MeasureT-loop
-μ-loop n rows sizes firsts nexts counts i₀ i = 8 - i
+μ-loop n runs chains counts i₀ i = 8 - i
 
 loop-holds : tie.Need-loop-holds Inv-loop μ-loop
 loop-holds c = omega arith

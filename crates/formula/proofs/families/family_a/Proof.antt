@@ -17,7 +17,7 @@ use Rattle.demands.proofs.Words.{words-append}
 use Rattle.clauses.proofs.Turns.{Ahead, ahead-start, turn, turned}
 use Rattle.reader.proofs.Packing.{nodes-counted}
 use Rattle.formula.proofs.Rest.{words-range}
-use Rattle.run_tables.proofs.Answers.{denied-held, forced-held}
+use Rattle.tables.proofs.Answers.{denied-held, forced-held}
 use Rattle.formula.proofs.families.family_a.Statement.{statement}
 use Rattle.formula.proofs.families.family_a.Tie as tie
 

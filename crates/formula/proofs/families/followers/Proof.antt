@@ -1,9 +1,9 @@
--- `families::followers` meets its contract. The loop's invariant: for each test that the tables chain, q passes it or is n, and what
+-- `families::followers` meets its contract. The loop's invariant: for each test that the table chains, q passes it or is n, and what
 -- is left to pass are the literals from q on. Assumes nothing.
 use native.Mathlib.Omega.{arith}
 use mathlib.Core.Path.{sym}
 use mathlib.Core.Bool.{Bool}
-use Prim.Native.Nat.{ℕ, _+_, _-_, _≤_, _<_}
+use Prim.Native.Nat.{ℕ, _+_, _*_, _-_, _≤_, _<_}
 use mathlib.Core.List.{List}
 use denote.Ref.{now}
 use lib.IntN.{ℤ}
@@ -24,44 +24,26 @@ abbrev words : (ℕ → Bool) → ℕ → ℕ → List ℤ
 words f base q = only (f q) (one (is (base + q)))
 
 abbrev Inv-loop : tie.InvT-loop
-Inv-loop base n r firsts nexts values out₀ next₀ q₀ out next q =
-    (f : ℕ → Bool) → Chained f n (getD firsts r 0) nexts → (q ≤ n) × (q < n → T (f q))
+Inv-loop base n r chains values out₀ next₀ q₀ out next q =
+    (f : ℕ → Bool) → Chained f n (getD chains (2 * r) 0) chains → (q ≤ n) × (q < n → T (f q))
     × Ahead values (each (upTo n) (words f base)) (each (range q n) (words f base)) next₀ out₀ next out
 
 abbrev μ-loop : tie.MeasureT-loop
-μ-loop base n r firsts nexts values out₀ next₀ q₀ out next q = n - q
-
-mul-q : tie.Need-mul-q Inv-loop μ-loop
-mul-q c = omega arith
-
-shared-slice-read-q : tie.Need-shared-slice-read-q Inv-loop μ-loop
-shared-slice-read-q c = omega arith
+μ-loop base n r chains values out₀ next₀ q₀ out next q = n - q
 
 loop-holds : tie.Need-loop-holds Inv-loop μ-loop
 loop-holds c f h = (first-below h, first-passes h, ahead-same (first-rows h _) (ahead-start _ _ _ _))
 
-add-affirm : tie.Need-add-affirm Inv-loop μ-loop
-add-affirm c = omega arith
-
-affirm-requires : tie.Need-affirm-requires Inv-loop μ-loop
-affirm-requires c κs = omega arith
-
-mul-q-2 : tie.Need-mul-q-2 Inv-loop μ-loop
-mul-q-2 c = omega arith
-
-shared-slice-read-q-2 : tie.Need-shared-slice-read-q-2 Inv-loop μ-loop
-shared-slice-read-q-2 c = omega arith
-
 -- a turn's number passes the test, and so the next is behind it
 module _ (t : tie.In-loop Inv-loop μ-loop) where
   abbrev start : tie.Start Inv-loop μ-loop
-  start = t .before .before .before .before .before .before
+  start = t .before .before .before .before .before
 
   abbrev q : ℕ
   q = t .before .loop .q
 
-  passes : (f : ℕ → Bool) → Chained f (start .args .n) (getD (now (start .args .firsts)) (start .args .r) 0) (now (start .args .nexts))
-      → T (f q)
+  passes : (f : ℕ → Bool)
+      → Chained f (start .args .n) (getD (now (start .args .chains)) (2 * start .args .r) 0) (now (start .args .chains)) → T (f q)
   passes f h = t .before .loop .inv f h .1 (t .loop-test .taken)
 
 loop-less : tie.Need-loop-less Inv-loop μ-loop
@@ -82,13 +64,11 @@ loop-again c f h =
       ahead-same (next-rows h (q t) below found _) (turn _ _ _ (v .2) below (walks-same literal (c .before .before .affirm .ensures))),
     )
 
-same-length : tie.Need-same-length Inv-loop μ-loop
-same-length c =
-    let h = c .before .before .before .before .before .before .pre .3 in
-    c .before .loop .inv (h .0) (h .1) .2 .size
-
 returns : tie.Need-returns Inv-loop μ-loop
 returns c f h = turned _ _ _ (c .before .loop .inv f h .2) (c .loop-test .left)
+
+same-length : tie.Need-same-length Inv-loop μ-loop
+same-length c = let h = c .before .before .before .before .before .pre .3 in c .before .loop .inv (h .0) (h .1) .2 .size
 
 pub followers-spec : {M : Type 1} → statement M
 followers-spec =
@@ -96,13 +76,16 @@ followers-spec =
     (tie.spec
     Inv-loop
     μ-loop
-    mul-q
-    shared-slice-read-q
+    (λ c. omega arith)
+    (λ c. omega arith)
+    (λ c. omega arith)
     loop-holds
-    add-affirm
-    affirm-requires
-    mul-q-2
-    shared-slice-read-q-2
+    (λ c. omega arith)
+    (λ c κs. omega arith)
+    (λ c. omega arith)
+    (λ c. omega arith)
+    (λ c. omega arith)
+    (λ c. omega arith)
     loop-less
     loop-again
     same-length

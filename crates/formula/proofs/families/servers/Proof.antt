@@ -1,83 +1,84 @@
--- `families::servers` meets its contract. The loop's invariant: what is left to pass are the literals from r on. Assumes nothing.
+-- `families::servers` meets its contract. The loop's invariant: what is left to pass are the literals from r on, by the places in the
+-- table. Assumes nothing.
 use native.Mathlib.Omega.{arith}
-use mathlib.Core.Path.{ap, _∙_}
+use mathlib.Core.Path.{refl, ap, _∙_}
 use mathlib.Core.Bool.{Bool}
-use Prim.Native.Nat.{ℕ, _+_, _-_}
+use Prim.Native.Nat.{ℕ, _+_, _-_, _≤_, _<_}
 use mathlib.Core.List.{List}
 use denote.Ref.{now}
 use lib.IntN.{ℤ}
 use Rattle.model.specs.declared.Book.{Book as BookStruct}
-use Rattle.spec.specs.Lists.{range, each, only, one}
-use Rattle.spec.specs.Instance.{instanceOf}
+use Rattle.model.specs.declared.Call.{Call}
+use Rattle.spec.specs.Lists.{Bytes, range, each, only, one}
+use Rattle.spec.specs.Instance.{instanceOf, placeServes}
 use Rattle.spec.specs.Formula.{is, serversF}
 use Rattle.spec.specs.Held.{held}
 use Rattle.clauses.proofs.Laws.{walks-same}
 use Rattle.clauses.proofs.Turns.{Ahead, ahead-start, turn, turned}
-use Rattle.run_tables.specs.Placed.{placeAt}
+use Rattle.tables.specs.Placed.{placeAt, sizeAt, endAt}
+use Rattle.tables.proofs.Answers.{end-inside, serves-answer}
+use Rattle.tables.proofs.Held.{few-n, sizes-n, least-n, ending-n}
+use Rattle.clauses.specs.Walked.{literalRoom}
 use Rattle.formula.proofs.Rest.{each-range}
-use Rattle.run_tables.proofs.Answers.{end-inside, serves-answer}
 use Rattle.formula.proofs.families.servers.Statement.{statement}
 use Rattle.formula.proofs.families.servers.Tie as tie
 
 -- the words of turn r
-abbrev words : BookStruct → ℕ → ℕ → ℕ → ℕ → List ℤ
-words b train number base r = only (instanceOf (held b) .serves train number r) (one (is (base + r)))
+abbrev words : BookStruct → Call → Bytes → ℕ → ℕ → ℕ → List ℤ
+words b c runs l base r = only (placeServes (held b) c (placeAt runs (endAt runs r l) l)) (one (is (base + r)))
 
 abbrev Inv-loop : tie.InvT-loop
-Inv-loop b train number c base n l rows sizes values out₀ next₀ r₀ out next r =
-    Ahead values (each (range 0 n) (words b train number base)) (each (range r n) (words b train number base)) next₀ out₀ next out
+Inv-loop b number c runs values out₀ base n l next₀ r₀ out next r =
+    Ahead values (each (range 0 n) (words b c runs l base)) (each (range r n) (words b c runs l base)) next₀ out₀ next out
 
 abbrev μ-loop : tie.MeasureT-loop
-μ-loop b train number c base n l rows sizes values out₀ next₀ r₀ out next r = n - r
+μ-loop b number c runs values out₀ base n l next₀ r₀ out next r = n - r
 
-loop-holds : tie.Need-loop-holds Inv-loop μ-loop
-loop-holds c = ahead-start _ _ _ _
+-- a turn's run
+module _ (c : tie.In-loop Inv-loop μ-loop) where
+  abbrev start : tie.Start Inv-loop μ-loop
+  start = c .before .before .before .before
 
-end-of-requires : tie.Need-end-of-requires Inv-loop μ-loop
-end-of-requires c κs =
-    let p = c .before .before .before .before .before .pre in
-    let below = c .loop-test .taken in
-    (omega arith, omega arith, p .10 _ below)
+  abbrev r : ℕ
+  r = c .before .loop .r
+
+  below : r < 256
+  below = omega (arith, c .loop-test .taken, few-n (start .pre .2) _ (start .pre .0 .runs))
+
+  small : start .args .t .base + r < literalRoom
+  small = omega (arith, below, start .pre .0 .small)
+
+  least : start .args .t .length ≤ sizeAt (now (start .args .runs)) r
+  least = least-n (start .pre .2) _ (start .pre .0 .runs) _ (start .pre .0 .length) r (c .loop-test .taken)
 
 serves-requires : tie.Need-serves-requires Inv-loop μ-loop
 serves-requires c κs =
-    let p = c .before .before .before .before .before .before .pre in
-    let below = c .before .loop-test .taken in
-    end-inside _ _ _ _ _ (p .8) (omega arith) (p .10 _ below) (p .11 _ below) (c .end-of .ensures)
-
-add-affirm-if : tie.Need-add-affirm-if Inv-loop μ-loop
-add-affirm-if c = omega arith
-
-affirm-if-requires : tie.Need-affirm-if-requires Inv-loop μ-loop
-affirm-if-requires c κs = omega arith
-
-add-r : tie.Need-add-r Inv-loop μ-loop
-add-r c = omega arith
-
-loop-less : tie.Need-loop-less Inv-loop μ-loop
-loop-less c = omega arith
+    let i = c .before in
+    let p = start i .pre in
+    let most = sizes-n (p .2) _ (p .0 .runs) _ (i .loop-test .taken) in
+    end-inside _ _ _ _ (p .2 .long) (below i) (least i) most (c .end-of .ensures)
 
 loop-again : tie.Need-loop-again Inv-loop μ-loop
 loop-again c =
-    let t = c .before .before .before .before .before in
-    let a = t .before .before .before .before .before .args in
-    let p = t .before .before .before .before .before .pre in
-    let r = t .before .loop .r in
-    let below = t .loop-test .taken in
     let s = c .before .before .before in
-    let place = ap (λ (k : ℕ). placeAt (now (a .rows)) k (a .l)) (s .before .end-of .ensures) ∙ p .12 r below in
-    let answer = serves-answer (a .b) (a .train) r (p .6) (a .number) (p .5) place (s .serves .ensures) in
-    let same-words = ap (λ (x : Bool). only x (one (is (a .base + r)))) answer in
-    turn _ _ _ (t .before .loop .inv) below (walks-same same-words (c .before .affirm-if .ensures))
-
-same-length : tie.Need-same-length Inv-loop μ-loop
-same-length c = c .before .loop .inv .size
+    let i = s .before .before in
+    let a = start i .args in
+    let place = ap (λ (k : ℕ). placeServes (held (a .b)) (a .c) (placeAt (now (a .runs)) k (a .t .length))) (s .before .end-of .ensures) in
+    let same-words = ap (λ (x : Bool). only x (one (is (a .t .base + r i)))) (s .serves .ensures ∙ place) in
+    turn _ _ _ (i .before .loop .inv) (i .loop-test .taken) (walks-same same-words (c .before .affirm-if .ensures))
 
 returns : tie.Need-returns Inv-loop μ-loop
 unfolding serversF
 returns c =
-    let p = c .before .before .before .before .before .pre in
-    walks-same (each-range _ (p .2)) (turned _ _ _ (c .before .loop .inv) (c .loop-test .left))
+    let s = c .before .before .before .before in
+    let a = s .args in
+    let h = s .pre .0 in
+    let place = ending-n (s .pre .2) _ (h .runs) _ (h .length) in
+    let serves : ℕ → Bool = instanceOf (held (a .b)) .serves (a .t .train) (a .number) in
+    let row = each-range _ (λ r. only (serves r) (one (is (a .t .base + r)))) (a .t .runs) _ (h .runs)
+    (λ r m. ap (λ (x : Bool). only x (one (is (a .t .base + r))))
+    (serves-answer (a .b) (a .t .train) r (h .length) (a .number) (s .pre .1) (place r m) refl)) in
+    walks-same row (turned _ _ _ (c .before .loop .inv) (c .loop-test .left))
 
 pub servers-spec : {M : Type 1} → statement M
 servers-spec =
@@ -85,13 +86,13 @@ servers-spec =
     (tie.spec
     Inv-loop
     μ-loop
-    loop-holds
-    end-of-requires
+    (λ c. ahead-start _ _ _ _)
+    (λ c κs. (below c, start c .pre .2 .long, least c))
     serves-requires
-    add-affirm-if
-    affirm-if-requires
-    add-r
-    loop-less
+    (λ c. omega (arith, small (c .before .before)))
+    (λ c κs. omega (arith, small (c .before .before .before)))
+    (λ c. omega (arith, below (c .before .before .before .before .before)))
+    (λ c. omega (arith, c .before .before .before .before .before .loop-test .taken))
     loop-again
-    same-length
+    (λ c. c .before .loop .inv .size)
     returns)

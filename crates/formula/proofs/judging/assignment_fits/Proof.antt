@@ -12,12 +12,6 @@ use Rattle.formula.proofs.Judged.{fits-long, fits-bits}
 use Rattle.formula.proofs.judging.assignment_fits.Statement.{statement}
 use Rattle.formula.proofs.judging.assignment_fits.Tie as tie
 
-variable-count-requires : tie.Need-variable-count-requires
-variable-count-requires c κs = search needs
-
-all-below-requires : tie.Need-all-below-requires
-all-below-requires c κs = search needs
-
 -- the number that the length is compared with
 count : (c : tie.After-variable-count) (n : ℕ)
     → eqb n (c .variable-count .result) ≡ eqb n (variables (instanceOf (held (c .before .before .args .b))))
@@ -33,4 +27,4 @@ returns-2 c = let e = ne-eqb _ _ (c .if1 .left) in e ∙ fits-long _ _ (sym (cou
 
 pub assignment-fits-spec : {M : Type 1} → statement M
 assignment-fits-spec =
-    tie.close (tie.spec variable-count-requires all-below-requires returns returns-2)
+    tie.close (tie.spec (λ c κs. search needs) (λ c κs. search needs) returns returns-2)

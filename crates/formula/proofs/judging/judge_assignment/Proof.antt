@@ -17,28 +17,13 @@ use Rattle.formula.proofs.Judged.{answer-unfit, answer-false, answer-tr
 use Rattle.formula.proofs.judging.judge_assignment.Statement.{statement}
 use Rattle.formula.proofs.judging.judge_assignment.Tie as tie
 
-assignment-fits-requires : tie.Need-assignment-fits-requires
-assignment-fits-requires c κs = search needs
-
 returns : tie.Need-returns
 returns c = answer-unfit _ _ (sym (c .before .assignment-fits .ensures) ∙ not-true _ (c .if1 .taken))
-
-sub-walk-formula : tie.Need-sub-walk-formula
-sub-walk-formula c = search needs
-
-part-none-start : tie.Need-part-none-start
-part-none-start c = search needs
-
-part-none-end : tie.Need-part-none-end
-part-none-end c = search needs
-
-walk-formula-requires : tie.Need-walk-formula-requires
-walk-formula-requires c κs = search needs
 
 -- what the walk found
 module _ (c : tie.After-walk-formula) where
   abbrev start : tie.Start
-  start = c .before .before .before .before .before .before .before .before .before .before
+  start = c .before .before .before .before .before .before .before .before
 
   fits : assignmentFits (instanceOf (held (start .args .b))) (now (start .args .values)) ≡ true
   fits = sym (c .before .before .before .assignment-fits .ensures) ∙ not-false _ (c .before .before .if1 .left)
@@ -58,11 +43,11 @@ pub judge-assignment-spec : {M : Type 1} → statement M
 judge-assignment-spec =
     tie.close
     (tie.spec
-    assignment-fits-requires
+    (λ c κs. search needs)
     returns
-    sub-walk-formula
-    part-none-start
-    part-none-end
-    walk-formula-requires
+    (λ c. search needs)
+    (λ c. search needs)
+    (λ c. search needs)
+    (λ c κs. search needs)
     returns-2
     returns-3)

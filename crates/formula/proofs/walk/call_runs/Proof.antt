@@ -2,7 +2,7 @@
 -- one on. Assumes nothing.
 use borrow.Author.Needs.{needs}
 use native.Mathlib.Omega.{arith}
-use mathlib.Core.Path.{_≡_, sym, ap, ap₂, _∙_, subst}
+use mathlib.Core.Path.{_≡_, sym, ap₂, _∙_, subst}
 use mathlib.Core.Logic.{⊎-elim}
 use Prim.Native.Nat.{ℕ, _+_, _-_, _<_}
 use mathlib.Core.List.{List}
@@ -10,18 +10,19 @@ use denote.Ref.{now}
 use lib.IntN.{ℤ}
 use Rattle.model.specs.declared.Book.{Book as BookStruct}
 use Rattle.spec.specs.Lists.{Bytes, range, each, only}
-use Rattle.spec.specs.Instance.{instanceOf, inWindow}
+use Rattle.spec.specs.Instance.{instanceOf, callAt, inWindow}
 use Rattle.spec.specs.Formula.{base, serversF}
 use Rattle.spec.specs.Held.{held}
 use Rattle.clauses.specs.declared.Walk.{Walk}
 use Rattle.clauses.specs.Walked.{Walks}
 use Rattle.clauses.proofs.Laws.{walks-same, walks-nothing, only-true, only-false}
 use Rattle.clauses.proofs.Turns.{Ahead, ahead-start, turn, turned}
-use Rattle.run_tables.proofs.Answers.{least-held, ending-held}
+use Rattle.tables.specs.Ready.{RunsHeld}
+use Rattle.tables.proofs.Small.{intervals-is}
+use Rattle.tables.proofs.Here.{few-trains, departs-here, window-answer}
+use Rattle.layout.specs.Blocks.{BlockHeld}
 use Rattle.formula.specs.Families.{callRuns}
-use Rattle.run_tables.proofs.Small.{intervals-is}
-use Rattle.run_tables.proofs.Here.{few-trains, departs-here, length-here, length-asks, window-answer}
-use Rattle.formula.proofs.Trains.{few-runs, base-asks, base-here}
+use Rattle.formula.proofs.Trains.{of-block}
 use Rattle.formula.proofs.walk.call_runs.Statement.{statement}
 use Rattle.formula.proofs.walk.call_runs.Tie as tie
 
@@ -36,82 +37,42 @@ abbrev words : BookStruct → ℕ → ℕ → ℕ → List ℤ
 words b i c t = only (inWindow (instanceOf (held b)) i c (t + 1)) (serversF (instanceOf (held b)) i c (base (instanceOf (held b)) i t))
 
 abbrev Inv-loop : tie.InvT-loop
-Inv-loop train number c n first rows sizes values out₀ b l next₀ interval₀ out next interval =
-    Ahead values (each (range interval₀ (b .intervals)) (words b train number))
-    (each (range interval (b .intervals)) (words b train number)) next₀ out₀ next out
+Inv-loop first number c runs values out₀ b train intervals next₀ interval₀ out next interval =
+    Ahead values (each (range interval₀ intervals) (words b train number)) (each (range interval intervals) (words b train number))
+    next₀ out₀ next out
 
 abbrev μ-loop : tie.MeasureT-loop
-μ-loop train number c n first rows sizes values out₀ b l next₀ interval₀ out next interval =
-    b .intervals - interval
+μ-loop first number c runs values out₀ b train intervals next₀ interval₀ out next interval = intervals - interval
 
-few : (s : tie.Start Inv-loop μ-loop) → s .args .train < 8
-few s = few-trains (s .args .t1) (s .pre .0 .passed) (s .args .train) (s .pre .0 .known)
+-- the train
+module _ (s : tie.Start Inv-loop μ-loop) where
+  abbrev block : BlockHeld (s .args .t1) (s .args .first)
+  block = s .pre .0 .block .block
 
-mul-t : tie.Need-mul-t Inv-loop μ-loop
-mul-t c = omega (arith, few (c .before .before .before))
-
-element-copy-out-t : tie.Need-element-copy-out-t Inv-loop μ-loop
-element-copy-out-t c = few (c .before .before .before)
-
-length-in-segments-requires : tie.Need-length-in-segments-requires Inv-loop μ-loop
-length-in-segments-requires c κs =
-    let s = c .before .before .before .before in
-    length-asks (s .args .t1) (s .pre .0 .passed) (s .args .train) (s .pre .0 .known)
-
-loop-holds : tie.Need-loop-holds Inv-loop μ-loop
-loop-holds c = ahead-start _ _ _ _
+  few : s .args .first .train < 8
+  few = few-trains (s .args .t1) (block .passed) (s .args .first .train) (block .known)
 
 -- what holds of an interval
 module _ (c : tie.In-loop Inv-loop μ-loop) where
   abbrev start : tie.Start Inv-loop μ-loop
-  start = c .before .before .before .before .before .before .before
+  start = c .before .before .before .before
 
   abbrev t : ℕ
   t = c .before .loop .interval
 
   below : t < 65536
-  below = omega (arith, c .loop-test .taken, start .pre .0 .passed .packed .numbers .intervals)
-
-add-in-window : tie.Need-add-in-window Inv-loop μ-loop
-add-in-window c = omega (arith, below c)
-
-in-window-requires : tie.Need-in-window-requires Inv-loop μ-loop
-in-window-requires c κs = search needs
-
-base-from-requires : tie.Need-base-from-requires Inv-loop μ-loop
-base-from-requires c κs =
-    let d = c .before .before in
-    base-asks (start d .pre .0) (t d) (omega (arith, below d))
+  below = omega (arith, c .loop-test .taken, block start .passed .packed .numbers .intervals)
 
 servers-requires : tie.Need-servers-requires Inv-loop μ-loop
 servers-requires c κs =
     let v = c .before in
-    let d = v .before .before .before in
-    let s = start d in
-    let h = s .pre .0 in
+    let s = start (v .before .before .before) in
     let a = s .args in
-    let l = length-here (a .t1) (h .passed) (a .train) (h .known) (d .before .before .length-in-segments .ensures) in
-    let inside : (r : ℕ) → r < a .n → r < instanceOf (held (a .t1)) .runs (a .train) = λ r m. rw (h .runs) at m in (
-      h .passed,
-      h .known,
-      h .runs,
-      few-runs h,
-      omega (arith, v .base-from .ensures .1, few-runs h),
-      s .pre .1,
-      l .0,
-      l .1,
-      h .tables .rowsLong,
-      h .tables .sizesLong,
-      λ r m. least-held (a .t1) (a .train) r (l .0) (h .tables) (inside r m),
-      λ r m. h .tables .most r (inside r m),
-      λ r m. ending-held (a .t1) (a .train) r (l .0) (h .tables) (inside r m),
+    let k = v .block-at .ensures .0 in (
+      k .block,
+      of-block (λ i. a .c ≡ callAt (held (a .t1)) i (a .number)) k (s .pre .1),
+      of-block (λ i. RunsHeld (held (a .t1)) i (now (a .runs))) k (s .pre .0 .table),
     )
-
-add-interval : tie.Need-add-interval Inv-loop μ-loop
-add-interval c = omega (arith, below (c .before .before))
-
-loop-less : tie.Need-loop-less Inv-loop μ-loop
-loop-less c = let l = c .before .before .loop-test .taken in omega (arith, l)
 
 -- a turn passes the runs of its interval, or nothing where its time is not in the call's window
 module _ (c : tie.Joined1 Inv-loop μ-loop) where
@@ -121,15 +82,16 @@ module _ (c : tie.Joined1 Inv-loop μ-loop) where
   abbrev given : tie.Start Inv-loop μ-loop
   given = start inner
 
-  passed : Walks (now (given .args .values)) (words (given .args .t1) (given .args .train) (given .args .number) (t inner))
+  passed : Walks (now (given .args .values)) (words (given .args .t1) (given .args .first .train) (given .args .number) (t inner))
       (inner .before .loop .next) (inner .before .loop .out) (c .if1 .next) (c .if1 .out)
   passed =
       let a = given .args in
       let I = instanceOf (held (a .t1)) in
-      let answer = window-answer (a .t1) (a .train) (a .number) (given .pre .1) (t inner + 1) (c .before .in-window .ensures) in
+      let answer = window-answer (a .t1) (a .first .train) (a .number) (given .pre .1) (t inner + 1) (c .before .in-window .ensures) in
       ⊎-elim
       (λ w.
-      let same-words = ap (serversF I (a .train) (a .number)) (base-here (given .pre .0) (t inner) (w .1 .ensures .0))
+      let k = w .1 .ensures .0 in
+      let same-words = ap₂ (λ (i x : ℕ). serversF I i (a .number) x) (k .train) (k .base)
       ∙ sym (only-true _ (sym answer ∙ w .0 .taken)) in
       came-to (w .6) (w .5) (walks-same same-words (w .3 .ensures)))
       (λ w. came-to (w .2) (w .1) (walks-nothing (only-false _ (sym answer ∙ w .0 .left))))
@@ -138,17 +100,14 @@ module _ (c : tie.Joined1 Inv-loop μ-loop) where
 loop-again : tie.Need-loop-again Inv-loop μ-loop
 loop-again c = turn _ _ _ (inner c .before .loop .inv) (inner c .loop-test .taken) (passed c)
 
-same-length : tie.Need-same-length Inv-loop μ-loop
-same-length c = c .before .loop .inv .size
-
 returns : tie.Need-returns Inv-loop μ-loop
 unfolding callRuns
 returns c =
-    let s = c .before .before .before .before .before .before .before in
+    let s = c .before .before .before .before in
     let a = s .args in
-    walks-same (ap₂ (λ (d z : ℕ). each (range d z) (words (a .t1) (a .train) (a .number)))
-    (departs-here (a .t1) (s .pre .0 .passed) (a .train) (s .pre .0 .known))
-    (sym (intervals-is (a .t1) (s .pre .0 .passed))))
+    walks-same (ap₂ (λ (d z : ℕ). each (range d z) (words (a .t1) (a .first .train) (a .number)))
+    (departs-here (a .t1) (block s .passed) (a .first .train) (block s .known))
+    (sym (intervals-is (a .t1) (block s .passed))))
     (turned _ _ _ (c .before .loop .inv) (c .loop-test .left))
 
 pub call-runs-spec : {M : Type 1} → statement M
@@ -157,16 +116,15 @@ call-runs-spec =
     (tie.spec
     Inv-loop
     μ-loop
-    mul-t
-    element-copy-out-t
-    length-in-segments-requires
-    loop-holds
-    add-in-window
-    in-window-requires
-    base-from-requires
+    (λ c. omega (arith, few (c .before .before)))
+    (λ c. few (c .before .before))
+    (λ c. ahead-start _ _ _ _)
+    (λ c. omega (arith, below c))
+    (λ c κs. search needs)
+    (λ c κs. let i = c .before .before in (start i .pre .0 .block, omega (arith, i .loop-test .taken)))
     servers-requires
-    add-interval
-    loop-less
+    (λ c. omega (arith, below (c .before .before)))
+    (λ c. omega (arith, c .before .before .loop-test .taken))
     loop-again
-    same-length
+    (λ c. c .before .loop .inv .size)
     returns)

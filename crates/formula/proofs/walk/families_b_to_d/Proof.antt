@@ -10,30 +10,18 @@ use Rattle.formula.proofs.Groups.{both}
 use Rattle.formula.proofs.walk.families_b_to_d.Statement.{statement}
 use Rattle.formula.proofs.walk.families_b_to_d.Tie as tie
 
-by-train-requires : tie.Need-by-train-requires
-by-train-requires c κs = search needs
-
-by-train-requires-2 : tie.Need-by-train-requires-2
-by-train-requires-2 c κs = search needs
-
-by-train-requires-3 : tie.Need-by-train-requires-3
-by-train-requires-3 c κs = search needs
-
 returns : tie.Need-returns
 returns c =
     let d = c .before in
     let k = d .before .before .before in
     let b = k .before .before .before in
-    let start = b .before .before .before .before .before .before .before .before in
+    let start = b .before .before .before .before .before .before in
     let I : Instance = instanceOf (held (start .args .b)) in
     both _ _ (walks-same (ap wordsOf (shape-b I)) (b .by-train .ensures))
     (both _ _ (walks-same (ap wordsOf (shape-c I)) (k .by-train2 .ensures))
     (walks-same (ap wordsOf (shape-d I)) (d .by-train3 .ensures)))
 
-same-length : tie.Need-same-length
-same-length c = walks-length (returns c)
-
 pub families-b-to-d-spec : {M : Type 1} → statement M
 families-b-to-d-spec =
     tie.close
-    (tie.spec by-train-requires by-train-requires-2 by-train-requires-3 same-length returns)
+    (tie.spec (λ c κs. search needs) (λ c κs. search needs) (λ c κs. search needs) (λ c. walks-length (returns c)) returns)

@@ -10,23 +10,14 @@ use Rattle.formula.proofs.Groups.{both}
 use Rattle.formula.proofs.walk.families_e_and_f.Statement.{statement}
 use Rattle.formula.proofs.walk.families_e_and_f.Tie as tie
 
-by-train-requires : tie.Need-by-train-requires
-by-train-requires c κs = search needs
-
-family-f-requires : tie.Need-family-f-requires
-family-f-requires c κs = search needs
-
 returns : tie.Need-returns
 returns c =
     let f = c .before in
     let e = f .before .before .before in
-    let start = e .before .before .before .before .before .before .before .before in
+    let start = e .before .before .before .before .before .before in
     let I : Instance = instanceOf (held (start .args .b)) in
     both _ _ (walks-same (ap wordsOf (shape-e I)) (e .by-train .ensures)) (f .family-f .ensures)
 
-same-length : tie.Need-same-length
-same-length c = walks-length (returns c)
-
 pub families-e-and-f-spec : {M : Type 1} → statement M
 families-e-and-f-spec =
-    tie.close (tie.spec by-train-requires family-f-requires same-length returns)
+    tie.close (tie.spec (λ c κs. search needs) (λ c κs. search needs) (λ c. walks-length (returns c)) returns)

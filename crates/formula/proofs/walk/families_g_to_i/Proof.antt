@@ -10,16 +10,10 @@ use Rattle.formula.proofs.Groups.{both}
 use Rattle.formula.proofs.walk.families_g_to_i.Statement.{statement}
 use Rattle.formula.proofs.walk.families_g_to_i.Tie as tie
 
-by-train-requires : tie.Need-by-train-requires
-by-train-requires c κs = search needs
-
-by-train-requires-2 : tie.Need-by-train-requires-2
-by-train-requires-2 c κs = search needs
-
 family-i-requires : tie.Need-family-i-requires
 family-i-requires c κs =
     let g = c .before .before .before .before .before in
-    let start = g .before .before .before .before .before .before .before .before in
+    let start = g .before .before .before .before .before .before in
     start .pre .0 .counted
 
 returns : tie.Need-returns
@@ -27,15 +21,12 @@ returns c =
     let i = c .before in
     let h = i .before .before .before in
     let g = h .before .before .before in
-    let start = g .before .before .before .before .before .before .before .before in
+    let start = g .before .before .before .before .before .before in
     let I : Instance = instanceOf (held (start .args .b)) in
     both _ _ (walks-same (ap wordsOf (shape-g I)) (g .by-train .ensures))
     (both _ _ (walks-same (ap wordsOf (shape-h I)) (h .by-train2 .ensures)) (i .family-i .ensures))
 
-same-length : tie.Need-same-length
-same-length c = walks-length (returns c)
-
 pub families-g-to-i-spec : {M : Type 1} → statement M
 families-g-to-i-spec =
     tie.close
-    (tie.spec by-train-requires by-train-requires-2 family-i-requires same-length returns)
+    (tie.spec (λ c κs. search needs) (λ c κs. search needs) family-i-requires (λ c. walks-length (returns c)) returns)

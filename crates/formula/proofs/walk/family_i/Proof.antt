@@ -12,10 +12,10 @@ use Rattle.spec.specs.Formula.{familyI, wordsOf}
 use Rattle.spec.specs.Held.{held}
 use Rattle.clauses.proofs.Laws.{walks-same}
 use Rattle.clauses.proofs.Turns.{words-rows, Ahead, ahead-start, turn, turned}
-use Rattle.run_tables.specs.Tables.{Passed}
+use Rattle.tables.specs.Tables.{Passed}
 use Rattle.formula.specs.Families.{pairsBehind}
 use Rattle.formula.proofs.Shapes.{shape-i}
-use Rattle.run_tables.proofs.Small.{intervals-is}
+use Rattle.tables.proofs.Small.{intervals-is}
 use Rattle.formula.proofs.walk.family_i.Statement.{statement}
 use Rattle.formula.proofs.walk.family_i.Tie as tie
 
@@ -29,14 +29,11 @@ intervals b p =
     ap (λ (n : ℕ). each (range 0 n) (words b)) (sym (intervals-is b p)) ∙ words-rows _ _ ∙ ap wordsOf (shape-i (instanceOf (held b)))
 
 abbrev Inv-loop : tie.InvT-loop
-Inv-loop b runs values out₀ intervals next₀ t₀ out next t =
+Inv-loop b counts values out₀ intervals next₀ t₀ out next t =
     Ahead values (each (range 0 intervals) (words b)) (each (range t intervals) (words b)) next₀ out₀ next out
 
 abbrev μ-loop : tie.MeasureT-loop
-μ-loop b runs values out₀ intervals next₀ t₀ out next t = intervals - t
-
-loop-holds : tie.Need-loop-holds Inv-loop μ-loop
-loop-holds c = ahead-start _ _ _ _
+μ-loop b counts values out₀ intervals next₀ t₀ out next t = intervals - t
 
 interval-pairs-requires : tie.Need-interval-pairs-requires Inv-loop μ-loop
 interval-pairs-requires c κs = (c .before .before .before .before .pre, c .before .loop-test .taken)
@@ -54,9 +51,6 @@ loop-again c =
     let t = c .before .before .before in
     turn _ _ _ (t .before .loop .inv) (t .loop-test .taken) (c .before .interval-pairs .ensures)
 
-same-length : tie.Need-same-length Inv-loop μ-loop
-same-length c = c .before .loop .inv .size
-
 returns : tie.Need-returns Inv-loop μ-loop
 returns c =
     walks-same (intervals _ (c .before .before .before .pre .passed)) (turned _ _ _ (c .before .loop .inv) (c .loop-test .left))
@@ -67,10 +61,10 @@ family-i-spec =
     (tie.spec
     Inv-loop
     μ-loop
-    loop-holds
+    (λ c. ahead-start _ _ _ _)
     interval-pairs-requires
     add-t
     loop-less
     loop-again
-    same-length
+    (λ c. c .before .loop .inv .size)
     returns)

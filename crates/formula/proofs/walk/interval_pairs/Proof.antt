@@ -12,9 +12,9 @@ use Rattle.spec.specs.Formula.{wordsOf}
 use Rattle.spec.specs.Held.{held}
 use Rattle.clauses.proofs.Laws.{walks-same}
 use Rattle.clauses.proofs.Turns.{words-rows, Ahead, ahead-start, turn, turned}
-use Rattle.run_tables.specs.Tables.{Passed}
+use Rattle.tables.specs.Tables.{Passed}
 use Rattle.formula.specs.Families.{pairsBehind}
-use Rattle.run_tables.proofs.Small.{trains-is}
+use Rattle.tables.proofs.Small.{trains-is}
 use Rattle.formula.proofs.walk.interval_pairs.Statement.{statement}
 use Rattle.formula.proofs.walk.interval_pairs.Tie as tie
 
@@ -29,14 +29,11 @@ pairs : (b : BookStruct) → Passed b → (t : ℕ)
 pairs b p t = ap (λ (n : ℕ). each (range 0 n) (words b t)) (sym (trains-is b p)) ∙ words-rows _ _
 
 abbrev Inv-loop : tie.InvT-loop
-Inv-loop b runs interval values out₀ trains next₀ i₀ out next i =
+Inv-loop b counts interval values out₀ trains next₀ i₀ out next i =
     Ahead values (each (range 0 trains) (words b interval)) (each (range i trains) (words b interval)) next₀ out₀ next out
 
 abbrev μ-loop : tie.MeasureT-loop
-μ-loop b runs interval values out₀ trains next₀ i₀ out next i = trains - i
-
-loop-holds : tie.Need-loop-holds Inv-loop μ-loop
-loop-holds c = ahead-start _ _ _ _
+μ-loop b counts interval values out₀ trains next₀ i₀ out next i = trains - i
 
 pairs-behind-requires : tie.Need-pairs-behind-requires Inv-loop μ-loop
 pairs-behind-requires c κs =
@@ -56,9 +53,6 @@ loop-again c =
     let t = c .before .before .before in
     turn _ _ _ (t .before .loop .inv) (t .loop-test .taken) (c .before .pairs-behind .ensures)
 
-same-length : tie.Need-same-length Inv-loop μ-loop
-same-length c = c .before .loop .inv .size
-
 returns : tie.Need-returns Inv-loop μ-loop
 returns c =
     walks-same (pairs _ (c .before .before .before .pre .0 .passed) _) (turned _ _ _ (c .before .loop .inv) (c .loop-test .left))
@@ -69,10 +63,10 @@ interval-pairs-spec =
     (tie.spec
     Inv-loop
     μ-loop
-    loop-holds
+    (λ c. ahead-start _ _ _ _)
     pairs-behind-requires
     add-i
     loop-less
     loop-again
-    same-length
+    (λ c. c .before .loop .inv .size)
     returns)

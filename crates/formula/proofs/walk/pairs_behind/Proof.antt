@@ -1,4 +1,4 @@
--- `walk::pairs_behind` meets its contract. The loop's invariant: what is left to pass are the rows of the trains from j on. Assumes
+-- `walk::pairs_behind` meets its contract. The loop's invariant: what is left to pass are the clauses of the trains from j on. Assumes
 -- nothing.
 use native.Mathlib.Omega.{arith}
 use mathlib.Core.Path.{_≡_, sym, ap, _∙_}
@@ -12,10 +12,10 @@ use Rattle.spec.specs.Formula.{claimVar, clausesI, wordsOf}
 use Rattle.spec.specs.Held.{held}
 use Rattle.clauses.proofs.Laws.{walks-same}
 use Rattle.clauses.proofs.Turns.{words-each, Ahead, ahead-start, turn, turned}
-use Rattle.run_tables.specs.Tables.{Passed}
+use Rattle.tables.specs.Tables.{Passed}
 use Rattle.formula.specs.Families.{pairsBehind}
 use Rattle.formula.proofs.Shapes.{pairs-from}
-use Rattle.run_tables.proofs.Small.{segments-is, trains-is}
+use Rattle.tables.proofs.Small.{segments-is, trains-is}
 use Rattle.formula.proofs.walk.pairs_behind.Statement.{statement}
 use Rattle.formula.proofs.walk.pairs_behind.Tie as tie
 
@@ -40,29 +40,23 @@ module _ (b : BookStruct) (p : Passed b) (t i : ℕ) where
   pairs = ap (λ (n : ℕ). each (range (i + 1) n) (words b t i)) (sym (trains-is b p)) ∙ sym (words-each _ _)
 
 abbrev Inv-loop : tie.InvT-loop
-Inv-loop b runs interval train values out₀ lower trains next₀ j₀ out next j =
+Inv-loop b counts interval train values out₀ lower trains next₀ j₀ out next j =
     Ahead values (each (range (train + 1) trains) (words b interval train)) (each (range j trains) (words b interval train))
     next₀ out₀ next out
 
 abbrev μ-loop : tie.MeasureT-loop
-μ-loop b runs interval train values out₀ lower trains next₀ j₀ out next j = trains - j
-
-first-claim-requires : tie.Need-first-claim-requires Inv-loop μ-loop
-first-claim-requires c κs = c .before .pre
+μ-loop b counts interval train values out₀ lower trains next₀ j₀ out next j = trains - j
 
 add-j : tie.Need-add-j Inv-loop μ-loop
 add-j c = let k = c .before .before .pre in omega (arith, k .1, k .0 .passed .packed .counts .trains)
-
-loop-holds : tie.Need-loop-holds Inv-loop μ-loop
-loop-holds c = ahead-start _ _ _ _
 
 first-claim-requires-2 : tie.Need-first-claim-requires-2 Inv-loop μ-loop
 first-claim-requires-2 c κs =
     let k = c .before .before .before .before .pre in
     (k .0, c .loop-test .taken, k .2)
 
-rows-i-requires : tie.Need-rows-i-requires Inv-loop μ-loop
-rows-i-requires c κs =
+clauses-i-requires : tie.Need-clauses-i-requires Inv-loop μ-loop
+clauses-i-requires c κs =
     let s = c .before .before .before .before .before .before .pre .0 .passed .packed .counts .segments in (
       omega (arith, c .before .before .before .before .first-claim .ensures .1),
       omega (arith, c .before .first-claim2 .ensures .1),
@@ -82,10 +76,7 @@ loop-again c =
     let l = t .before in
     let p = l .before .before .before .pre .0 .passed in
     let e = pair _ p _ _ _ _ _ (l .before .first-claim .ensures .0) (c .before .before .before .first-claim2 .ensures .0) in
-    turn _ _ _ (l .loop .inv) (t .loop-test .taken) (walks-same e (c .before .rows-i .ensures))
-
-same-length : tie.Need-same-length Inv-loop μ-loop
-same-length c = c .before .loop .inv .size
+    turn _ _ _ (l .loop .inv) (t .loop-test .taken) (walks-same e (c .before .clauses-i .ensures))
 
 returns : tie.Need-returns Inv-loop μ-loop
 returns c =
@@ -98,13 +89,13 @@ pairs-behind-spec =
     (tie.spec
     Inv-loop
     μ-loop
-    first-claim-requires
+    (λ c κs. c .before .pre)
     add-j
-    loop-holds
+    (λ c. ahead-start _ _ _ _)
     first-claim-requires-2
-    rows-i-requires
+    clauses-i-requires
     add-j-2
     loop-less
     loop-again
-    same-length
+    (λ c. c .before .loop .inv .size)
     returns)

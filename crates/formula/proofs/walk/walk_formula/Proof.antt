@@ -16,23 +16,11 @@ from : {values : Bytes} {ls : List ℤ} {w₀ w w′ : Walk} {out out′ : List 
     → Walks values ls w₀ out w′ out′
 from {values} {ls} {w′ = w′} {out} {out′} e h = subst (λ (x : Walk). Walks values ls x out w′ out′) e h
 
-begin-requires : tie.Need-begin-requires
-begin-requires c κs = search needs
-
-family-a-requires : tie.Need-family-a-requires
-family-a-requires c κs = search needs
-
-families-b-to-d-requires : tie.Need-families-b-to-d-requires
-families-b-to-d-requires c κs = search needs
-
-families-e-and-f-requires : tie.Need-families-e-and-f-requires
-families-e-and-f-requires c κs = search needs
-
 families-g-to-i-requires : tie.Need-families-g-to-i-requires
 families-g-to-i-requires c κs =
     let d = c .before .before .before .before .before in
     let a = d .before .before .before in
-    a .before .before .before .before .before .before .before .before .before .pre
+    a .before .before .before .before .before .before .before .pre
 
 returns : tie.Need-returns
 returns c =
@@ -44,17 +32,14 @@ returns c =
     (both _ _ (from (a .before .before .begin .ensures) (a .family-a .ensures))
     (both _ _ (d .families-b-to-d .ensures) (both _ _ (e .families-e-and-f .ensures) (g .families-g-to-i .ensures))))
 
-same-length : tie.Need-same-length
-same-length c = walks-length (returns c)
-
 pub walk-formula-spec : {M : Type 1} → statement M
 walk-formula-spec =
     tie.close
     (tie.spec
-    begin-requires
-    family-a-requires
-    families-b-to-d-requires
-    families-e-and-f-requires
+    (λ c κs. search needs)
+    (λ c κs. search needs)
+    (λ c κs. search needs)
+    (λ c κs. search needs)
     families-g-to-i-requires
-    same-length
+    (λ c. walks-length (returns c))
     returns)

@@ -2,54 +2,73 @@
 -- nothing.
 use borrow.Author.Needs.{needs}
 use native.Mathlib.Omega.{arith}
+use mathlib.Core.Path.{sym}
+use Prim.Native.Nat.{ℕ, _≤_}
 use denote.Ref.{now}
-use lib.ListN.{length}
+use lib.ListN.{length, take, length-replicate}
+use lib.Seq.{length-take-le}
 use Rattle.spec.specs.Lists.{Bytes, Verdict}
 use Rattle.spec.specs.Instance.{Instance}
 use Rattle.spec.specs.Library.{labelledFor, labelSections, labelsOutput}
-use Rattle.run_tables.proofs.Instances.{passed, went-on, stopped}
+use Rattle.listing.specs.Listed.{tableBytes}
+use Rattle.tables.specs.Meets.{meetRoom}
+use Rattle.tables.specs.Ready.{RunsReady, MeetsReady}
+use Rattle.tables.specs.declared.preparing.Prepared.{Prepared}
+use Rattle.tables.proofs.Instances.{went-on, stopped}
 use Rattle.gentupag.proofs.Labelled.{left-refused, left-same}
 use Rattle.gentupag.proofs.labels.label_book.Statement.{statement}
 use Rattle.gentupag.proofs.labels.label_book.Tie as tie
 
 -- the answer to the book's bytes
-module _ (c : tie.After-read-book) where
+module _ (c : tie.After-prepare) where
   abbrev start : tie.Start
-  start = c .before .before .before .before
+  start = c .before .before .before .before .before .before
 
   -- what is done with an instance
   abbrev onward : Instance → Verdict Bytes
   onward I = labelledFor I (now (start .args .borders)) (length (now (start .args .out)))
 
-label-for-requires : tie.Need-label-for-requires
-label-for-requires c κs =
-    let r = c .before .before .before .before in
-    passed _ _ (r .read-book .ensures) (c .before .enum-told .given .1) (λ i. omega (arith, r .before .before .before .shared-slice-known .given i))
+-- the book is accepted
+module _ (c : tie.After-enum-told) where
+  abbrev prepared : tie.After-prepare
+  prepared = c .before .before .before .before .before .before
+
+  abbrev p : Prepared
+  p = prepared .prepare .result
+
+  ready : RunsReady (p .read .book) (p .read .counts) (prepared .prepare .last .1 .0)
+      × (p .meets ≤ length (prepared .prepare .last .1 .1 .0))
+      × MeetsReady (p .read .book) (take (p .meets) (prepared .prepare .last .1 .1 .0))
+  ready = prepared .prepare .ensures .1 (c .enum-told .given .1)
 
 returns : tie.Need-returns
 unfolding labelSections labelsOutput
 returns c =
-    let k = c .before in
-    let r = k .before .before .before .before in
-    left-refused _ (stopped _ _ (r .read-book .ensures) (onward r) (k .before .answer .given .1)) (c .refuse .ensures)
+    let k = c .before .before in
+    let r = k .before .before .before .before .before .before in
+    left-refused _ (stopped _ _ (r .prepare .ensures .0) (onward r) (k .answer .given .1)) (c .refuse .ensures)
 
 returns-2 : tie.Need-returns-2
 unfolding labelSections labelsOutput
 returns-2 c =
     let d = c .before .before in
-    let t = d .before .before in
-    let r = t .before .before .before in
-    left-same _ (went-on _ _ (r .read-book .ensures) (t .enum-told .given .1) (onward r)) (d .label-for .ensures)
+    let t = d .before .before .before in
+    let r = prepared t in
+    left-same _ (went-on _ _ (r .prepare .ensures .0) (t .enum-told .given .1) (onward r)) (d .label-for .ensures)
 
 pub label-book-spec : {M : Type 1} → statement M
 label-book-spec =
     tie.close
     (tie.spec
-    (λ c κs. search needs)
+    (λ c. sym (length-replicate {A = ℕ} tableBytes 0))
+    (λ c. sym (length-replicate {A = ℕ} meetRoom 0))
+    (λ c κs. (length-replicate {A = ℕ} tableBytes 0, length-replicate {A = ℕ} meetRoom 0))
     (λ c. search needs)
     (λ c κs. search needs)
     (λ c. search needs)
-    label-for-requires
+    (λ c. omega (arith, ready c .1))
+    (λ c. let a = c .before in sym (length-take-le (p a .meets) (prepared a .prepare .last .1 .1 .0) (ready a .1)))
+    (λ c κs. let a = c .before .before in (ready a .0 .counted .passed, ready a .2))
     returns
     (λ c. search needs)
     returns-2)

@@ -11,9 +11,7 @@ use Rattle.spec.specs.Instance.{instanceOf}
 use Rattle.spec.specs.Held.{held}
 use Rattle.spec.specs.Entry.{overwrite}
 use Rattle.spec.specs.Library.{bordersFit}
-use Rattle.run_tables.proofs.Small.{segments-is}
-use Rattle.reader.proofs.Packing.{segments-counted}
-use Rattle.sections.proofs.Ready.{meets-ready}
+use Rattle.tables.proofs.Small.{segments-is}
 use Rattle.gentupag.proofs.Labelled.{fit-size, labels-long, labels-small, first-labels}
 use Rattle.gentupag.proofs.Labelled.{labelled-short, labelled-unfit, labelled-done}
 use Rattle.gentupag.proofs.labels.label_for.Statement.{statement}
@@ -21,16 +19,16 @@ use Rattle.gentupag.proofs.labels.label_for.Tie as tie
 
 returns : tie.Need-returns
 returns c =
-    let s = c .before .before .before .before in
-    labelled-short _ _ _ (omega (arith, c .before .if1 .taken, segments-is (s .args .b) (s .pre))) (c .refuse .ensures)
+    let s = c .before .before .before .before .before in
+    labelled-short _ _ _ (omega (arith, c .before .if1 .taken, segments-is (s .args .b) (s .pre .0))) (c .refuse .ensures)
 
 -- there is room
 module _ (c : tie.Else1) where
   abbrev start : tie.Start
-  start = c .before .before .before
+  start = c .before .before .before .before
 
   room : instanceOf (held (start .args .b)) .segments ≤ length (now (start .args .out))
-  room = omega (arith, c .if1 .left, segments-is (start .args .b) (start .pre))
+  room = omega (arith, c .if1 .left, segments-is (start .args .b) (start .pre .0))
 
 returns-2 : tie.Need-returns-2
 returns-2 c =
@@ -47,21 +45,14 @@ module _ (c : tie.Else2) where
 
 label-sections-requires : tie.Need-label-sections-requires
 label-sections-requires c κs =
-    let m = c .before .before .before in
-    let e = m .before .before in
+    let e = c .before in
     let s = begun e in
-    let p = s .pre in
-    let k = m .list-meets .ensures in (
-      p,
-      meets-ready (s .args .b) (omega (arith, segments-counted (p .packed), p .packed .counts .segments)) _ refl (k .0) (k .1),
-      omega (arith, fit-size (s .args .b) p _ (fits e)),
-      refl,
-    )
+    (s .pre .0, s .pre .1, omega (arith, fit-size (s .args .b) (s .pre .0) _ (fits e)), refl)
 
 -- the labels are found
 module _ (c : tie.After-label-sections) where
   abbrev fitted : tie.Else2
-  fitted = c .before .before .before .before .before .before
+  fitted = c .before .before
 
 write-labels-requires : tie.Need-write-labels-requires
 write-labels-requires c κs =
@@ -70,9 +61,9 @@ write-labels-requires c κs =
     let s = begun e in
     let b = s .args .b in
     let g = l .label-sections .ensures in (
-      omega (arith, labels-long b (s .pre) _ _ refl g, s .pre .packed .counts .segments),
-      omega (arith, room (e .before .before), segments-is b (s .pre)),
-      labels-small b (s .pre) _ _ refl g,
+      omega (arith, labels-long b (s .pre .0) _ _ refl g, s .pre .0 .packed .counts .segments),
+      omega (arith, room (e .before .before), segments-is b (s .pre .0)),
+      labels-small b (s .pre .0) _ _ refl g,
     )
 
 returns-3 : tie.Need-returns-3
@@ -82,8 +73,8 @@ returns-3 c =
     let e = fitted l in
     let s = begun e in
     let b = s .args .b in
-    labelled-done _ _ _ (room (e .before .before)) (fits e) (segments-is b (s .pre))
-    (w .write-labels .ensures ∙ ap (overwrite (now (s .args .out))) (first-labels b (s .pre) _ _ refl (l .label-sections .ensures)))
+    labelled-done _ _ _ (room (e .before .before)) (fits e) (segments-is b (s .pre .0))
+    (w .write-labels .ensures ∙ ap (overwrite (now (s .args .out))) (first-labels b (s .pre .0) _ _ refl (l .label-sections .ensures)))
 
 pub label-for-spec : {M : Type 1} → statement M
 label-for-spec =
@@ -94,9 +85,6 @@ label-for-spec =
     (λ c κs. search needs)
     (λ c κs. search needs)
     returns-2
-    (λ c. search needs)
-    (λ c κs. search needs)
-    (λ c. search needs)
     (λ c. search needs)
     label-sections-requires
     (λ c. search needs)

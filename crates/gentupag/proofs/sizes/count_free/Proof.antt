@@ -15,7 +15,7 @@ use Rattle.spec.specs.Library.{freeNodesOf}
 use Rattle.spec.specs.Held.{held}
 use Rattle.clauses.proofs.Turns.{upTo-range, range-next, range-end}
 use Rattle.reader.proofs.Packing.{nodes-counted}
-use Rattle.run_tables.proofs.Answers.{denied-held, forced-held}
+use Rattle.tables.proofs.Answers.{denied-held, forced-held}
 use Rattle.gentupag.proofs.sizes.count_free.Statement.{statement}
 use Rattle.gentupag.proofs.sizes.count_free.Tie as tie
 

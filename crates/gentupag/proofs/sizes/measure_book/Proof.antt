@@ -3,40 +3,66 @@
 use borrow.Author.Needs.{needs}
 use native.Mathlib.Omega.{arith}
 use mathlib.Core.Path.{sym, ap, _∙_}
+use Prim.Native.Nat.{ℕ, _≤_}
+use lib.ListN.{length, take, length-replicate}
+use lib.Seq.{length-take-le}
 use Rattle.spec.specs.Lists.{accepted}
 use Rattle.spec.specs.Library.{sizesOf, measureBook}
-use Rattle.run_tables.proofs.Instances.{passed, went-on, stopped}
+use Rattle.listing.specs.Listed.{tableBytes}
+use Rattle.tables.specs.Tables.{allChains}
+use Rattle.tables.specs.Meets.{meetRoom}
+use Rattle.tables.specs.Ready.{RunsReady, MeetsReady}
+use Rattle.tables.specs.declared.preparing.Prepared.{Prepared}
+use Rattle.tables.proofs.Instances.{went-on, stopped}
 use Rattle.gentupag.specs.Answers.{sizesAnswer}
 use Rattle.gentupag.proofs.sizes.measure_book.Statement.{statement}
 use Rattle.gentupag.proofs.sizes.measure_book.Tie as tie
 
-measure-for-requires : tie.Need-measure-for-requires
-measure-for-requires c κs =
-    let r = c .before .before .before in
-    passed _ _ (r .read-book .ensures) (c .enum-told .given .1) (λ i. omega (arith, r .before .shared-slice-known .given i))
+-- the book is accepted
+module _ (c : tie.After-enum-told) where
+  abbrev prepared : tie.After-prepare-chains
+  prepared = c .before .before .before .before .before .before .before .before
+
+  abbrev p : Prepared
+  p = prepared .prepare-chains .result
+
+  ready : RunsReady (p .read .book) (p .read .counts) (prepared .prepare-chains .last .1 .0)
+      × (p .meets ≤ length (prepared .prepare-chains .last .1 .1 .1 .0))
+      × MeetsReady (p .read .book) (take (p .meets) (prepared .prepare-chains .last .1 .1 .1 .0))
+  ready = prepared .prepare-chains .ensures .1 (c .enum-told .given .1)
 
 returns : tie.Need-returns
 unfolding measureBook
 returns c =
     let k = c .before .before in
-    let r = k .before .before .before in
-    c .refused-sizes .ensures ∙ ap sizesAnswer (sym (stopped _ _ (r .read-book .ensures) (λ I. accepted (sizesOf I)) (k .answer .given .1)))
+    let r = k .before .before .before .before .before .before .before .before in
+    c .refused-sizes .ensures
+    ∙ ap sizesAnswer (sym (stopped _ _ (r .prepare-chains .ensures .0) (λ I. accepted (sizesOf I)) (k .answer .given .1)))
 
 returns-2 : tie.Need-returns-2
 unfolding measureBook
 returns-2 c =
-    let e = c .before in
-    let r = e .before .before .before in
-    c .measure-for .ensures ∙ ap sizesAnswer (went-on _ _ (r .read-book .ensures) (e .enum-told .given .1) (λ I. accepted (sizesOf I)))
+    let a = c .before .before .before .before in
+    c .measure-by .ensures
+    ∙ ap sizesAnswer (went-on _ _ (prepared a .prepare-chains .ensures .0) (a .enum-told .given .1) (λ I. accepted (sizesOf I)))
 
 pub measure-book-spec : {M : Type 1} → statement M
 measure-book-spec =
     tie.close
     (tie.spec
-    (λ c κs. search needs)
+    (λ c. sym (length-replicate {A = ℕ} tableBytes 0))
+    (λ c. sym (length-replicate {A = ℕ} allChains 0))
+    (λ c. sym (length-replicate {A = ℕ} meetRoom 0))
+    (λ c κs. (length-replicate {A = ℕ} tableBytes 0, length-replicate {A = ℕ} allChains 0, length-replicate {A = ℕ} meetRoom 0))
     (λ c. search needs)
     (λ c κs. search needs)
     (λ c. search needs)
-    measure-for-requires
+    (λ c. search needs)
+    (λ c. search needs)
+    (λ c. omega (arith, ready (c .before .before) .1))
+    (λ c. let a = c .before .before .before in sym (length-take-le (p a .meets) (prepared a .prepare-chains .last .1 .1 .1 .0) (ready a .1)))
+    (λ c κs.
+    let a = c .before .before .before in
+    (ready a .0, prepared a .prepare-chains .ensures .2 (a .enum-told .given .1), ready a .2))
     returns
     returns-2)

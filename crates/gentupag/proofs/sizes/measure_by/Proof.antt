@@ -10,7 +10,7 @@ use Rattle.gentupag.proofs.sizes.measure_by.Statement.{statement}
 use Rattle.gentupag.proofs.sizes.measure_by.Tie as tie
 
 abbrev start : tie.After-nowhere2 → tie.Start
-start c = c .before .before .before .before .before .before .before .before .before
+start c = c .before .before .before .before .before .before .before
 
 returns : tie.Need-returns
 unfolding sizesOf instanceOf compile held

@@ -6,8 +6,8 @@ use Prim.Native.Nat.{_≤_, _<_}
 use lib.ListN.{getD}
 use Rattle.spec.specs.Instance.{Instance, instanceOf}
 use Rattle.spec.specs.Held.{held}
-use Rattle.run_tables.specs.Ready.{Counted}
-use Rattle.run_tables.proofs.Small.{intervals-is, passed-few, base-small, known, few-runs}
+use Rattle.tables.specs.Ready.{Counted}
+use Rattle.tables.proofs.Small.{intervals-is, passed-few, base-small, known, few-runs}
 use Rattle.gentupag.proofs.Standing.{answered, run-at, gone-at, claim-at}
 use Rattle.gentupag.proofs.variables.in_interval.Statement.{statement}
 use Rattle.gentupag.proofs.variables.in_interval.Tie as tie

@@ -7,7 +7,7 @@ use lib.ListN.{getD}
 use Rattle.spec.specs.Instance.{instanceOf}
 use Rattle.spec.specs.Formula.{width, firstVar, base}
 use Rattle.spec.specs.Held.{held}
-use Rattle.run_tables.proofs.Small.{few-runs, few-segments, same-width, first-below, first-then, base-here}
+use Rattle.tables.proofs.Small.{few-runs, few-segments, same-width, first-below, first-then, base-here}
 use Rattle.gentupag.proofs.Standing.{row-inside, row-from, row-to}
 use Rattle.gentupag.proofs.variables.in_train.Statement.{statement}
 use Rattle.gentupag.proofs.variables.in_train.Tie as tie

@@ -9,7 +9,7 @@ use Rattle.spec.specs.Instance.{Instance, instanceOf}
 use Rattle.spec.specs.Formula.{firstVar}
 use Rattle.spec.specs.Held.{held}
 use Rattle.spec.specs.Library.{meaningOf}
-use Rattle.run_tables.proofs.Small.{nodes-is, trains-is, first-none}
+use Rattle.tables.proofs.Small.{nodes-is, trains-is, first-none}
 use Rattle.gentupag.specs.Answers.{variableAnswer}
 use Rattle.gentupag.proofs.Standing.{answered, none-at, none-behind, border-at}
 use Rattle.gentupag.proofs.variables.variable_by.Statement.{statement}

@@ -8,7 +8,7 @@ use Rattle.spec.specs.Numbers.{field}
 use Rattle.spec.specs.Instance.{instanceOf}
 use Rattle.spec.specs.Plan.{moveOf}
 use Rattle.spec.specs.Held.{held}
-use Rattle.run_tables.proofs.Small.{trains-is, intervals-is}
+use Rattle.tables.proofs.Small.{trains-is, intervals-is}
 use Rattle.layout.proofs.Places.{move-fits, move-is}
 use Rattle.layout.proofs.moves.move_at.Statement.{statement}
 use Rattle.layout.proofs.moves.move_at.Tie as tie

@@ -11,7 +11,7 @@ use Rattle.spec.specs.Plan.{isMove, planOf}
 use Rattle.spec.specs.Held.{held}
 use borrow.Author.Tests.{not-true, not-false}
 use Rattle.laws.proofs.Loops.{all-start, all-turn, all-broken, all-done}
-use Rattle.run_tables.proofs.Small.{trains-is}
+use Rattle.tables.proofs.Small.{trains-is}
 use Rattle.layout.proofs.moves.moves_fit.Statement.{statement}
 use Rattle.layout.proofs.moves.moves_fit.Tie as tie
 

@@ -12,7 +12,7 @@ use Rattle.spec.specs.Lists.{all, upTo}
 use Rattle.spec.specs.Instance.{instanceOf}
 use Rattle.spec.specs.Plan.{isBit, planLength}
 use Rattle.spec.specs.Held.{held}
-use Rattle.run_tables.proofs.Small.{nodes-is}
+use Rattle.tables.proofs.Small.{nodes-is}
 use Rattle.layout.proofs.Places.{nodes-fit, bits-are, fits-long, fits-bits, fits-moves}
 use Rattle.layout.proofs.moves.plan_fits.Statement.{statement}
 use Rattle.layout.proofs.moves.plan_fits.Tie as tie

@@ -5,7 +5,7 @@ use Prim.Native.Nat.{ℕ}
 use Rattle.spec.specs.Instance.{instanceOf}
 use Rattle.spec.specs.Plan.{moveAt}
 use Rattle.spec.specs.Held.{held}
-use Rattle.run_tables.proofs.Small.{trains-is}
+use Rattle.tables.proofs.Small.{trains-is}
 use Rattle.layout.proofs.Places.{place-end}
 use Rattle.layout.proofs.moves.plan_length.Statement.{statement}
 use Rattle.layout.proofs.moves.plan_length.Tie as tie

@@ -12,7 +12,7 @@ use Rattle.spec.specs.Plan.{Move, run, absent, gone, ifRun, isMove, planOf}
 use Rattle.spec.specs.Held.{held}
 use borrow.Author.Tests.{not-true, not-false}
 use Rattle.laws.proofs.Loops.{all-start, all-turn, all-broken, all-done}
-use Rattle.run_tables.proofs.Small.{intervals-is}
+use Rattle.tables.proofs.Small.{intervals-is}
 use Rattle.layout.proofs.moves.train_fits.Statement.{statement}
 use Rattle.layout.proofs.moves.train_fits.Tie as tie
 

@@ -4,7 +4,7 @@ use native.Mathlib.Omega.{arith}
 use mathlib.Core.Path.{_≡_, sym, ap, _∙_, subst}
 use Prim.Native.Nat.{ℕ, _+_, _*_, _≤_}
 use lib.ListN.{getD}
-use Rattle.run_tables.proofs.Small.{few-runs, few-segments, first-below, base-here}
+use Rattle.tables.proofs.Small.{few-runs, few-segments, first-below, base-here}
 use Rattle.layout.proofs.numbering.base_of.Statement.{statement}
 use Rattle.layout.proofs.numbering.base_of.Tie as tie
 

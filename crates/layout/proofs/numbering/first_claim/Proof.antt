@@ -6,7 +6,7 @@ use Prim.Native.Nat.{ℕ, _+_, _≤_}
 use lib.ListN.{getD}
 use Rattle.spec.specs.Instance.{Instance}
 use Rattle.spec.specs.Formula.{base, claimVar}
-use Rattle.run_tables.proofs.Small.{few-runs}
+use Rattle.tables.proofs.Small.{few-runs}
 use Rattle.layout.proofs.numbering.first_claim.Statement.{statement}
 use Rattle.layout.proofs.numbering.first_claim.Tie as tie
 

@@ -8,8 +8,8 @@ use Rattle.model.specs.declared.Book.{Book as BookStruct}
 use Rattle.spec.specs.Instance.{instanceOf}
 use Rattle.spec.specs.Held.{held}
 use Rattle.spec.specs.Formula.{firstVar}
-use Rattle.run_tables.specs.Ready.{Counted}
-use Rattle.run_tables.proofs.Small.{first-none, nodes-is, few-trains, few-runs, few-segments, first-below, first-then}
+use Rattle.tables.specs.Ready.{Counted}
+use Rattle.tables.proofs.Small.{first-none, nodes-is, few-trains, few-runs, few-segments, first-below, first-then}
 use Rattle.layout.proofs.numbering.first_variable.Statement.{statement}
 use Rattle.layout.proofs.numbering.first_variable.Tie as tie
 

@@ -4,7 +4,7 @@ use mathlib.Core.Path.{sym, ap, _∙_}
 use Rattle.spec.specs.Instance.{instanceOf}
 use Rattle.spec.specs.Formula.{firstVar}
 use Rattle.spec.specs.Held.{held}
-use Rattle.run_tables.proofs.Small.{trains-is, all-variables}
+use Rattle.tables.proofs.Small.{trains-is, all-variables}
 use Rattle.layout.proofs.numbering.variable_count.Statement.{statement}
 use Rattle.layout.proofs.numbering.variable_count.Tie as tie
 

@@ -9,17 +9,8 @@ use Rattle.plan_coding.proofs.Codes.{run-code, gone-code, absent-code}
 use Rattle.plan_coding.proofs.decoding.code_of.Statement.{statement}
 use Rattle.plan_coding.proofs.decoding.code_of.Tie as tie
 
-first-run-requires : tie.Need-first-run-requires
-first-run-requires c κs = search needs
-
 returns : tie.Need-returns
 returns c = (run-code _ (c .before .first-run .ensures) _ (c .if1 .taken), omega arith)
-
-gone-variable-requires : tie.Need-gone-variable-requires
-gone-variable-requires c κs = search needs
-
-value-requires : tie.Need-value-requires
-value-requires c κs = search needs
 
 -- whether gone's variable is 1
 gone : (c : tie.After-value) → let s = c .before .before .before .before .before in
@@ -42,4 +33,4 @@ returns-3 c =
 
 pub code-of-spec : {M : Type 1} → statement M
 code-of-spec =
-    tie.close (tie.spec first-run-requires returns gone-variable-requires value-requires returns-2 returns-3)
+    tie.close (tie.spec (λ c κs. search needs) returns (λ c κs. search needs) (λ c κs. search needs) returns-2 returns-3)

@@ -4,10 +4,10 @@ use mathlib.Core.Path.{_≡_, ap, _∙_}
 use Prim.Native.Nat.{ℕ, _-_, _≤_}
 use denote.Ref.{now}
 use lib.ListN.{length}
-use lib.Seq.{sets, length-sets}
+use lib.Seq.{length-sets}
 use Rattle.spec.specs.Instance.{instanceOf}
 use Rattle.spec.specs.Held.{held}
-use Rattle.run_tables.proofs.Small.{trains-is}
+use Rattle.tables.proofs.Small.{trains-is}
 use Rattle.layout.proofs.Places.{nodes-fit, place-first}
 use Rattle.plan_coding.specs.Decoded.{trainBytes}
 use Rattle.plan_coding.proofs.Rows.{Rows, rows-none, rows-next, rows-kept, plan-stored, train-length}
@@ -15,20 +15,17 @@ use Rattle.plan_coding.proofs.decoding.decode.Statement.{statement}
 use Rattle.plan_coding.proofs.decoding.decode.Tie as tie
 
 abbrev Inv-loop : tie.InvT-loop
-Inv-loop b runs values out₀ trains train₀ out train =
+Inv-loop b counts values out₀ trains train₀ out train =
     (train ≤ trains) × Rows (trainBytes (instanceOf (held b)) values) out₀ (instanceOf (held b) .nodes) train out
 
 abbrev μ-loop : tie.MeasureT-loop
-μ-loop b runs values out₀ trains train₀ out train = trains - train
+μ-loop b counts values out₀ trains train₀ out train = trains - train
 
 decode-borders-requires : tie.Need-decode-borders-requires Inv-loop μ-loop
 decode-borders-requires c κs =
     let s = c .before .before .before in
     let p = s .pre .0 .passed in
     (p, omega (arith, s .pre .1, nodes-fit (s .args .b) p))
-
-loop-holds : tie.Need-loop-holds Inv-loop μ-loop
-loop-holds c = (omega arith, rows-none)
 
 -- before a train, or after the last one
 module _ (k : tie.At-loop Inv-loop μ-loop) where
@@ -62,13 +59,8 @@ loop-again c =
     let a = s .args in
     let I = instanceOf (held (a .b)) in (
       omega (arith, t .loop-test .taken),
-      rows-next _ _ (λ i. train-length I (now (a .values)) i) (t .before .loop .inv .1)
-          (c .before .before .decode-train .ensures
-          ∙ ap (λ (at : ℕ). sets (t .before .loop .out) at (trainBytes I (now (a .values)) (train (t .before)))) (place-first I _)),
+      rows-next _ _ (λ i. train-length I (now (a .values)) i) (t .before .loop .inv .1) (place-first I _) (c .before .before .decode-train .ensures),
     )
-
-same-length : tie.Need-same-length Inv-loop μ-loop
-same-length c = kept (c .before)
 
 returns : tie.Need-returns Inv-loop μ-loop
 returns c =
@@ -88,10 +80,10 @@ decode-spec =
     Inv-loop
     μ-loop
     decode-borders-requires
-    loop-holds
+    (λ c. (omega arith, rows-none))
     decode-train-requires
     add-train
     loop-less
     loop-again
-    same-length
+    (λ c. kept (c .before))
     returns)

@@ -5,7 +5,7 @@ use mathlib.Core.Bool.{Bool}
 use Prim.Native.Nat.{ℕ, _+_, _-_, _≤_}
 use Rattle.spec.specs.Lists.{Bytes}
 use Rattle.spec.specs.Assignment.{assigned}
-use Rattle.run_tables.specs.Tables.{leastFrom}
+use Rattle.tables.specs.Tables.{leastFrom}
 use Rattle.laws.proofs.Least.{least-here, least-next, least-end}
 use Rattle.plan_coding.proofs.decoding.first_run.Statement.{statement}
 use Rattle.plan_coding.proofs.decoding.first_run.Tie as tie
@@ -15,30 +15,18 @@ abbrev runs : Bytes → ℕ → ℕ → Bool
 runs values base k = assigned values (base + k)
 
 abbrev Inv-loop : tie.InvT-loop
-Inv-loop values base n r₀ r = (r ≤ n) × (leastFrom (runs values base) 0 n ≡ leastFrom (runs values base) r (n - r))
+Inv-loop base n values r₀ r = (r ≤ n) × (leastFrom (runs values base) 0 n ≡ leastFrom (runs values base) r (n - r))
 
 abbrev μ-loop : tie.MeasureT-loop
-μ-loop values base n r₀ r = n - r
+μ-loop base n values r₀ r = n - r
 
 loop-holds : tie.Need-loop-holds Inv-loop μ-loop
 loop-holds c = let e : c .before .args .n - 0 ≡ c .before .args .n = omega arith in (omega arith, rw e)
-
-add-value : tie.Need-add-value Inv-loop μ-loop
-add-value c = omega arith
-
-value-requires : tie.Need-value-requires Inv-loop μ-loop
-value-requires c κs = tt
 
 returns : tie.Need-returns Inv-loop μ-loop
 returns c =
     let t = c .before .before in
     sym (t .before .loop .inv .1 ∙ least-here _ _ _ (t .loop-test .taken) (sym (c .before .value .ensures) ∙ c .if1 .taken))
-
-add-r : tie.Need-add-r Inv-loop μ-loop
-add-r c = omega arith
-
-loop-less : tie.Need-loop-less Inv-loop μ-loop
-loop-less c = omega arith
 
 loop-again : tie.Need-loop-again Inv-loop μ-loop
 loop-again c =
@@ -57,10 +45,10 @@ first-run-spec =
     Inv-loop
     μ-loop
     loop-holds
-    add-value
-    value-requires
+    (λ c. omega arith)
+    (λ c κs. tt)
     returns
-    add-r
-    loop-less
+    (λ c. omega arith)
+    (λ c. omega arith)
     loop-again
     returns-2)

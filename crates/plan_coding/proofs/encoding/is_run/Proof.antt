@@ -9,15 +9,6 @@ use Rattle.layout.specs.Moves.{heldMove}
 use Rattle.plan_coding.proofs.encoding.is_run.Statement.{statement}
 use Rattle.plan_coding.proofs.encoding.is_run.Tie as tie
 
-enum-known-m : tie.Need-enum-known-m
-enum-known-m c = search needs
-
-enum-told : tie.Need-enum-told
-enum-told c = search needs
-
-enum-told-2 : tie.Need-enum-told-2
-enum-told-2 c = search needs
-
 -- the answer for the case that it is
 told : {m m′ : Move} (r : ℕ) → m ≡ m′ → runs (heldMove m′) (eqb r) ≡ runs (heldMove m) (eqb r)
 told r e = ap (λ (o : Move). runs (heldMove o) (eqb r)) (sym e)
@@ -35,4 +26,4 @@ unfolding runs
 returns-3 c = told (c .before .before .args .r) (c .enum-told2 .given .1)
 
 pub is-run-spec : {M : Type 1} → statement M
-is-run-spec = tie.close (tie.spec enum-known-m enum-told enum-told-2 returns returns-2 returns-3)
+is-run-spec = tie.close (tie.spec (λ c. search needs) (λ c. search needs) (λ c. search needs) returns returns-2 returns-3)

@@ -4,25 +4,26 @@ use mathlib.Core.Path.{_≡_, sym, ap, ap₂, _∙_, subst}
 use mathlib.Core.List.{map}
 use Prim.Native.Nat.{ℕ, _+_, _≤_, _<_}
 use denote.Ref.{now}
-use lib.ListN.{length, getD, replicate}
+use lib.ListN.{length, getD}
 use lib.Seq.{sets, length-sets}
-use lib.Dec.{T, ltb}
 use Rattle.spec.specs.Lists.{Bytes, upTo}
 use Rattle.spec.specs.Instance.{Instance, instanceOf}
-use Rattle.spec.specs.Plan.{Plan, Move, ifRun, bit, planOf}
+use Rattle.spec.specs.Plan.{Plan, bit, planOf}
+use Rattle.spec.specs.Formula as formula
 use Rattle.spec.specs.Held.{held}
-use Rattle.layout.specs.Moves.{heldMove}
-use Rattle.run_tables.proofs.Small.{segments-is}
-use Rattle.plan_rules.specs.declared.apart.Row.{Row}
-use Rattle.plan_rules.specs.Marks.{RowFits, rowOf, labelsOf, isMarked, marking}
-use Rattle.plan_rules.proofs.Rows.{plan-long, run-few}
+use Rattle.tables.proofs.Here.{few-trains}
+use Rattle.tables.proofs.Small.{segments-is}
+use Rattle.plan_rules.specs.Kept.{Planned}
+use Rattle.plan_rules.specs.Marks.{stretchOf, isMarked}
+use Rattle.plan_rules.proofs.Ready.{move-asks, few-own}
 use Rattle.plan_rules.proofs.Sharing.{fits-here}
-use Rattle.plan_coding.specs.Encoded.{claimBytes, intervalBytes}
-use Rattle.plan_coding.proofs.Claims.{claims-marked, length-interval, interval-written}
+use Rattle.plan_coding.specs.Encoded.{intervalBytes}
+use Rattle.plan_coding.proofs.Blocks.{block-end}
+use Rattle.plan_coding.proofs.Claims.{claims-marked, interval-written}
 use Rattle.plan_coding.proofs.encoding.write_interval.Statement.{statement}
 use Rattle.plan_coding.proofs.encoding.write_interval.Tie as tie
 
--- the numbers of the train and of the interval
+-- the train and its plan
 module _ (s : tie.Start) where
   abbrev I : Instance
   I = instanceOf (held (s .args .b))
@@ -30,84 +31,64 @@ module _ (s : tie.Start) where
   abbrev p : Plan
   p = planOf I (now (s .args .plan))
 
-  abbrev move : Move
-  move = p .move (s .args .train) (s .args .interval)
+  abbrev train : ℕ
+  train = s .args .block .train
 
-  few : s .args .train < 8
-  few = omega (arith, s .pre .1, s .pre .0 .0 .counted .passed .packed .counts .trains)
+  abbrev known : train < s .args .b .«train_count»
+  known = s .pre .1 .block .known
 
-  runs-are : getD (s .args .t2) (s .args .train) 0 ≡ I .runs (s .args .train)
-  runs-are = s .pre .0 .0 .counted .runs (s .args .train) (s .pre .1)
+  planned : Planned (s .args .b) train (now (s .args .plan))
+  planned = record { passed = s .pre .0 .0 .counted .passed; known = known; fits = s .pre .0 .1 }
 
-  segments-are : I .segments ≡ s .args .b .«segment_count»
-  segments-are = segments-is (s .args .b) (s .pre .0 .0 .counted .passed)
+  -- the output has room for the block
+  room : s .args .block .base + (s .args .block .runs + 1 + s .args .b .«segment_count») ≤ length (now (s .args .out))
+  room = omega (arith, block-end (s .pre .1), s .pre .3)
 
-  -- how many bytes are written
-  long : length (intervalBytes I p (s .args .train) (s .args .interval)) ≡ getD (s .args .t2) (s .args .train) 0 + 1 + s .args .b .«segment_count»
-  long = length-interval I p (s .args .train) (s .args .interval) ∙ ap₂ (λ (n m : ℕ). n + 1 + m) (sym runs-are) segments-are
-
-  room : s .args .at + getD (s .args .t2) (s .args .train) 0 + 1 + s .args .b .«segment_count» ≤ length (now (s .args .out))
-  room = omega (arith, s .pre .3, long)
-
-mul-n : tie.Need-mul-n
-mul-n c = omega (arith, few (c .before .before .before .before .before))
-
-array-read-n : tie.Need-array-read-n
-array-read-n c = few (c .before .before .before .before .before)
-
-move-at-requires : tie.Need-move-at-requires
-move-at-requires c κs =
-    let s = c .before .before .before .before .before in
-    (s .pre .0 .0 .counted .passed, plan-long _ _ (s .pre .0 .1), s .pre .1, s .pre .2)
-
-write-move-requires : tie.Need-write-move-requires
-write-move-requires c κs = omega (arith, room (c .before .before .before .before .before .before .before))
-
-row-of-requires : tie.Need-row-of-requires
-row-of-requires c κs =
+stretch-of-requires : tie.Need-stretch-of-requires
+stretch-of-requires c κs =
     let m = c .before .before .before .before in
-    let s = m .before .before .before .before .before .before in
-    let a = s .args in (
-      few s,
-      s .pre .0 .0 .sizesLong,
-      subst (λ (o : Move). T (ifRun o (λ r. ltb r 256))) (sym (m .move-at .ensures))
-          (run-few (a .b) (s .pre .0 .0 .counted .passed) (now (a .plan)) (s .pre .0 .1) (a .train) (a .interval) (s .pre .1) (s .pre .2)),
+    let s = m .before .before .before .before .before in (
+      few-trains (s .args .b) (s .pre .0 .0 .counted .passed) (train s) (known s),
+      s .pre .0 .0 .long,
+      few-own (planned s) (m .move-at .result) (s .args .interval) (s .pre .2) (m .move-at .ensures),
     )
 
--- the row of the train's run
-module _ (c : tie.After-row-of) where
+-- the stretch of the train's run
+module _ (c : tie.After-stretch-of) where
+  abbrev wrote : tie.After-write-move
+  wrote = c .before .before .before
+
+  abbrev asked : tie.After-move-at
+  asked = wrote .before .before
+
   abbrev start : tie.Start
-  start = c .before .before .before .before .before .before .before .before .before .before .before
+  start = asked .before .before .before .before .before
 
-  moved : heldMove (c .before .before .before .before .before .move-at .result) ≡ move start
-  moved = c .before .before .before .before .before .move-at .ensures
+  stretch-is : c .stretch-of .result ≡ stretchOf (now (start .args .runs)) (train start) (p start .move (train start) (start .args .interval))
+  stretch-is = c .stretch-of .ensures ∙ ap (stretchOf (now (start .args .runs)) (train start)) (asked .move-at .ensures)
 
-  row-is : c .row-of .result ≡ rowOf (now (start .args .sizes)) (start .args .train) (move start)
-  row-is = c .row-of .ensures ∙ ap (rowOf (now (start .args .sizes)) (start .args .train)) moved
+  -- what the move's bytes left, as long as it was
+  abbrev half : Bytes
+  half = wrote .write-move .last .1 .1 .1 .0
 
-  fits : RowFits (now (start .args .labels)) (now (start .args .rows)) (c .row-of .result)
-  fits =
-      let a = start .args in
-      subst (RowFits (now (a .labels)) (now (a .rows))) (sym row-is)
-      (fits-here (a .b) (a .t2) (now (a .rows)) (now (a .sizes)) (now (a .labels)) (now (a .plan)) (start .pre .0) (a .interval) (start .pre .2)
-      (a .train) (start .pre .1))
-
-  -- the output keeps its length
-  sized : length (c .before .before .before .write-move .last .1 .1 .1 .0) ≡ length (now (start .args .out))
-  sized = ap length (c .before .before .before .write-move .ensures) ∙ simp length-sets
+  sized : length half ≡ length (now (start .args .out))
+  sized = ap length (wrote .write-move .ensures) ∙ simp length-sets
 
 mark-requires : tie.Need-mark-requires
-mark-requires c κs = fits (c .before)
+mark-requires c κs =
+    let r = c .before in
+    let s = start r in
+    fits-here _ (s .pre .0) (s .args .interval) (s .pre .2) (train s) (known s) (stretch-is r)
 
 claims-from-requires : tie.Need-claims-from-requires
-claims-from-requires c κs = let r = c .before .before .before in omega (arith, room (start r), start r .good)
+claims-from-requires c κs = let s = start (c .before .before) in omega (arith, room s, s .good)
 
 write-marked-requires : tie.Need-write-marked-requires
 write-marked-requires c κs =
-    let f = c .before in
-    let r = f .before .before .before .before in
+    let f = c .before .before in
+    let r = f .before .before .before in
     let s = start r in
-    let e = segments-are s in
+    let e = segments-is (s .args .b) (s .pre .0 .0 .counted .passed) in
     let most : s .args .b .«segment_count» ≤ 64 = s .pre .0 .0 .counted .passed .packed .counts .segments in (
       omega (arith, s .pre .0 .2 .long, most),
       (λ k l. omega (arith, s .pre .0 .2 .below k (subst (λ (n : ℕ). k < n) (sym e) l), e, most)),
@@ -116,58 +97,38 @@ write-marked-requires c κs =
 
 -- both parts are written
 module _ (c : tie.After-write-marked) where
-  abbrev at-row : tie.After-row-of
-  at-row = c .before .before .before .before .before .before
+  abbrev f : tie.After-claims-from
+  f = c .before .before .before
 
-  abbrev place : ℕ
-  place = start at-row .args .at + getD (start at-row .args .t2) (start at-row .args .train) 0 + 1
-
-  -- what the move's bytes left
-  abbrev half : Bytes
-  half = at-row .before .before .before .write-move .last .1 .1 .1 .0
+  abbrev r : tie.After-stretch-of
+  r = f .before .before .before
 
   written : c .write-marked .last .1 .1 .1 .1 .0
-      ≡ sets (now (start at-row .args .out)) (start at-row .args .at)
-      (intervalBytes (I (start at-row)) (p (start at-row)) (start at-row .args .train) (start at-row .args .interval))
+      ≡ sets (now (start r .args .out)) (formula.base (I (start r)) (train (start r)) (start r .args .interval))
+      (intervalBytes (I (start r)) (p (start r)) (train (start r)) (start r .args .interval))
   written =
-      let s = start at-row in
+      let s = start r in
       let a = s .args in
-      let f = c .before .before in
-      let claims : f .claims-from .result ≡ place = omega (arith, f .claims-from .ensures) in
       c .write-marked .ensures
-      ∙ ap₂ (λ (at : ℕ) (marks : Bytes). sets half at (map (λ k. bit (isMarked marks (getD (now (a .labels)) k 0))) (upTo (a .b .«segment_count»))))
-      claims
-      (f .before .before .mark .ensures
-      ∙ ap (λ (row : Row). marking (replicate 64 0) (labelsOf (now (a .labels)) (now (a .rows)) row)) (row-is at-row))
-      ∙ ap (sets half place)
-      (claims-marked (a .b) (a .t2) (now (a .rows)) (now (a .sizes)) (now (a .labels)) (now (a .plan)) (s .pre .0) (a .interval) (s .pre .2)
-      (a .train) (s .pre .1))
-      ∙ ap (λ (out : Bytes). sets out place (claimBytes (I s) (p s) (a .train) (a .interval))) (at-row .before .before .before .write-move .ensures)
-      ∙ interval-written (I s) (p s) (a .train) (a .interval) (a .at) _ _ (now (a .out)) (runs-are s) (moved at-row)
-
-next-interval-requires : tie.Need-next-interval-requires
-next-interval-requires c κs = let s = start (at-row (c .before .before)) in omega (arith, room s, s .good)
-
-same-length : tie.Need-same-length
-same-length c = ap length (written (c .before .before .before)) ∙ simp length-sets
-
-returns : tie.Need-returns
-returns c =
-    let w = c .before .before .before in
-    (omega (arith, long (start (at-row w)), c .next-interval .ensures), written w)
+      ∙ ap₂ (λ (at : ℕ) (marks : Bytes).
+      sets (half r) at (map (λ k. bit (isMarked marks (getD (now (a .labels)) k 0))) (upTo (a .b .«segment_count»))))
+      (f .claims-from .ensures)
+      (f .before .mark .ensures)
+      ∙ ap₂ (λ (out claims : Bytes). sets out (a .block .base + (a .block .runs + 1)) claims)
+      (wrote r .write-move .ensures)
+      (claims-marked _ (s .pre .0) (a .interval) (s .pre .2) (train s) (known s) (stretch-is r))
+      ∙ interval-written (I s) (p s) (train s) (a .interval) (a .block .base) _ _ (now (a .out)) (s .pre .1 .block .runs) (asked r .move-at .ensures)
+      ∙ ap (λ (at : ℕ). sets (now (a .out)) at (intervalBytes (I s) (p s) (train s) (a .interval))) (s .pre .1 .base)
 
 pub write-interval-spec : {M : Type 1} → statement M
 write-interval-spec =
     tie.close
     (tie.spec
-    mul-n
-    array-read-n
-    move-at-requires
-    write-move-requires
-    row-of-requires
+    (λ c κs. let s = c .before .before .before .before in move-asks (planned s) (s .args .interval) (s .pre .2))
+    (λ c κs. omega (arith, room (c .before .before .before .before .before .before)))
+    stretch-of-requires
     mark-requires
     claims-from-requires
     write-marked-requires
-    next-interval-requires
-    same-length
-    returns)
+    (λ c. ap length (written (c .before .before)) ∙ simp length-sets)
+    (λ c. written (c .before .before)))

@@ -1,6 +1,6 @@
 -- `encoding::write_move` meets its contract. The loop's invariant: the bytes of the first r runs were stored. Assumes nothing.
 use native.Mathlib.Omega.{arith}
-use mathlib.Core.Path.{_≡_, sym, ap, ap₂, _∙_}
+use mathlib.Core.Path.{_≡_, refl, sym, ap, ap₂, _∙_}
 use mathlib.Core.Logic.{⊎-elim}
 use mathlib.Core.List.{map}
 use Prim.Native.Nat.{ℕ, _+_, _-_}
@@ -24,28 +24,10 @@ abbrev own : Move → ℕ → ℕ
 own m r = bit (runs (heldMove m) (eqb r))
 
 abbrev Inv-loop : tie.InvT-loop
-Inv-loop m n at out₀ r₀ out r = Stored (own m) n at out₀ out r
+Inv-loop at n m out₀ r₀ out r = Stored (own m) n at out₀ out r
 
 abbrev μ-loop : tie.MeasureT-loop
-μ-loop m n at out₀ r₀ out r = n - r
-
-loop-holds : tie.Need-loop-holds Inv-loop μ-loop
-loop-holds c = stored-start _ _ _ _
-
-is-run-requires : tie.Need-is-run-requires Inv-loop μ-loop
-is-run-requires c κs = tt
-
-add-out : tie.Need-add-out Inv-loop μ-loop
-add-out c = omega arith
-
-slice-write-out : tie.Need-slice-write-out Inv-loop μ-loop
-slice-write-out c = omega arith
-
-add-r : tie.Need-add-r Inv-loop μ-loop
-add-r c = omega arith
-
-loop-less : tie.Need-loop-less Inv-loop μ-loop
-loop-less c = omega arith
+μ-loop at n m out₀ r₀ out r = n - r
 
 loop-again : tie.Need-loop-again Inv-loop μ-loop
 unfolding bit
@@ -54,16 +36,7 @@ loop-again c =
     let h = c .before .is-run .ensures in
     let byte : c .if1 .out ≡ own (t .before .before .args .m) (t .loop .r) =
     ⊎-elim (λ w. w .1 ∙ ap bit (sym (w .0 .taken) ∙ h)) (λ w. w .1 ∙ ap bit (sym (w .0 .left) ∙ h)) (c .if1 .came) in
-    stored-next (t .loop .inv) (c .before .before .loop-test .taken) byte
-
-gone-variable-requires : tie.Need-gone-variable-requires Inv-loop μ-loop
-gone-variable-requires c κs = omega arith
-
-is-gone-requires : tie.Need-is-gone-requires Inv-loop μ-loop
-is-gone-requires c κs = tt
-
-slice-write-out-2 : tie.Need-slice-write-out-2 Inv-loop μ-loop
-slice-write-out-2 c = omega arith
+    stored-next (t .loop .inv) (c .before .before .loop-test .taken) refl byte
 
 same-length : tie.Need-same-length Inv-loop μ-loop
 same-length c = simp length-set (c .before .before .before .before .loop .inv .size)
@@ -89,15 +62,15 @@ write-move-spec =
     (tie.spec
     Inv-loop
     μ-loop
-    loop-holds
-    is-run-requires
-    add-out
-    slice-write-out
-    add-r
-    loop-less
+    (λ c. stored-start _ _ _ _)
+    (λ c κs. tt)
+    (λ c. omega arith)
+    (λ c. omega arith)
+    (λ c. omega arith)
+    (λ c. omega arith)
     loop-again
-    gone-variable-requires
-    is-gone-requires
-    slice-write-out-2
+    (λ c κs. omega arith)
+    (λ c κs. tt)
+    (λ c. omega arith)
     same-length
     returns)

@@ -1,67 +1,86 @@
--- `encoding::write_train` meets its contract. The loop's invariant: what is left to write are the bytes of the intervals from
--- `interval` on. Assumes nothing.
+-- `encoding::write_train` meets its contract. The loop's invariant: the bytes of the first intervals stand from the train's first
+-- variable on. Assumes nothing.
 use native.Mathlib.Omega.{arith}
-use mathlib.Core.Path.{ap, _∙_}
-use Prim.Native.Nat.{ℕ, _-_}
+use mathlib.Core.Path.{_≡_, sym, ap, _∙_, subst}
+use Prim.Native.Nat.{ℕ, _+_, _-_, _≤_, _<_}
 use denote.Ref.{now}
+use lib.ListN.{length}
+use lib.Seq.{sets}
 use Rattle.model.specs.declared.Book.{Book as BookStruct}
-use Rattle.spec.specs.Lists.{Bytes, upTo, range, each}
+use Rattle.spec.specs.Lists.{Bytes}
 use Rattle.spec.specs.Instance.{instanceOf}
 use Rattle.spec.specs.Plan.{planOf}
+use Rattle.spec.specs.Formula.{width, firstVar, base}
 use Rattle.spec.specs.Held.{held}
-use Rattle.run_tables.proofs.Small.{intervals-is}
+use Rattle.tables.proofs.Small.{intervals-is}
 use Rattle.plan_coding.specs.Encoded.{intervalBytes, trainBytes}
-use Rattle.plan_coding.proofs.Writing.{Left, left-start, left-same, turn-room, turn, turned, each-start}
+use Rattle.plan_coding.proofs.Blocks.{block-of, interval-place, interval-fits}
+use Rattle.plan_coding.proofs.Claims.{length-interval}
+use Rattle.plan_coding.proofs.Rows.{Rows, rows-none, rows-next, rows-kept, rows-all}
 use Rattle.plan_coding.proofs.encoding.write_train.Statement.{statement}
 use Rattle.plan_coding.proofs.encoding.write_train.Tie as tie
 
--- the bytes of an interval, and of the train
+-- the bytes of an interval
 abbrev part : BookStruct → Bytes → ℕ → ℕ → Bytes
 part b plan i t = intervalBytes (instanceOf (held b)) (planOf (instanceOf (held b)) plan) i t
 
-abbrev whole : BookStruct → Bytes → ℕ → Bytes
-whole b plan i = trainBytes (instanceOf (held b)) (planOf (instanceOf (held b)) plan) i
-
 abbrev Inv-loop : tie.InvT-loop
-Inv-loop b runs rows sizes labels plan train at out₀ intervals next₀ interval₀ out next interval =
-    Left out₀ at (whole b plan train) out next (each (range interval intervals) (part b plan train))
+Inv-loop b counts train runs labels plan out₀ first intervals interval₀ out interval =
+    (interval ≤ intervals) × Rows (part b plan train) out₀ (firstVar (instanceOf (held b)) train) interval out
 
 abbrev μ-loop : tie.MeasureT-loop
-μ-loop b runs rows sizes labels plan train at out₀ intervals next₀ interval₀ out next interval = intervals - interval
+μ-loop b counts train runs labels plan out₀ first intervals interval₀ out interval = intervals - interval
 
-loop-holds : tie.Need-loop-holds Inv-loop μ-loop
-unfolding trainBytes
-loop-holds c =
-    let s = c .before .before .before .before .before in
-    let a = s .args in
-    let f = part (a .b) (now (a .plan)) (a .train) in
-    left-same
-    (ap (λ (n : ℕ). each (upTo n) f) (intervals-is (a .b) (s .pre .0 .0 .counted .passed)) ∙ each-start f (a .b .intervals))
-    (left-start (now (a .out)) (a .at) (whole (a .b) (now (a .plan)) (a .train)))
+-- an interval of the train
+module _ (t : tie.In-loop Inv-loop μ-loop) where
+  abbrev given : tie.Start Inv-loop μ-loop
+  given = t .before .before .before .before .before .before .before
+
+  room : base (instanceOf (held (given .args .b))) (given .args .train) (t .before .loop .interval + 1) ≤ length (t .before .loop .out)
+  room =
+      let b = given .args .b in
+      let inside : t .before .loop .interval < instanceOf (held b) .intervals
+      = omega (arith, t .loop-test .taken, intervals-is b (given .pre .0 .0 .counted .passed)) in
+      omega (arith, interval-fits (instanceOf (held b)) (given .args .train) _ inside, rows-kept (t .before .loop .inv .1), given .pre .2)
+
+-- its block is the train's
+own : (c : tie.After-block-at Inv-loop μ-loop) → c .block-at .result .train ≡ given (c .before) .args .train
+own c = c .block-at .ensures .1 ∙ c .before .before .before .train-block .ensures .train
 
 write-interval-requires : tie.Need-write-interval-requires Inv-loop μ-loop
 write-interval-requires c κs =
-    let t = c .before in
-    let s = t .before .before .before .before .before .before .before in
-    (s .pre .0, s .pre .1, t .loop-test .taken, turn-room _ _ _ (t .before .loop .inv) (t .loop-test .taken) (s .pre .2))
-
-add-interval : tie.Need-add-interval Inv-loop μ-loop
-add-interval c = omega (arith, c .before .before .before .before .loop-test .taken)
-
-loop-less : tie.Need-loop-less Inv-loop μ-loop
-loop-less c = omega (arith, c .before .before .before .before .loop-test .taken)
+    let k = c .before in
+    let t = k .before in
+    let p = given t .pre in
+    let e = k .block-at .ensures .0 in
+    let I = instanceOf (held (given t .args .b)) in (
+      p .0,
+      block-of (sym (e .train)) e,
+      t .loop-test .taken,
+      subst (λ (i : ℕ). base I i (t .before .loop .interval + 1) ≤ length (t .before .loop .out)) (sym (own k)) (room t),
+    )
 
 loop-again : tie.Need-loop-again Inv-loop μ-loop
 loop-again c =
-    let t = c .before .before .before .before in
-    let w = c .before .before .write-interval .ensures in
-    turn _ _ _ (t .before .loop .inv) (t .loop-test .taken) (w .0) (w .1)
-
-same-length : tie.Need-same-length Inv-loop μ-loop
-same-length c = c .before .loop .inv .size
+    let k = c .before .before .before .before in
+    let t = k .before in
+    let a = given t .args in
+    let I = instanceOf (held (a .b)) in
+    let n = t .before .loop .interval in (
+      omega (arith, t .loop-test .taken),
+      rows-next _ (width I (a .train)) (length-interval I _ (a .train)) (t .before .loop .inv .1) (interval-place I (a .train) n)
+          (c .before .before .write-interval .ensures
+          ∙ ap (λ (i : ℕ). sets (t .before .loop .out) (base I i n) (part (a .b) (now (a .plan)) i n)) (own k)),
+    )
 
 returns : tie.Need-returns Inv-loop μ-loop
-returns c = turned _ _ _ (c .before .loop .inv) (c .loop-test .left)
+unfolding trainBytes
+returns c =
+    let l = c .before .loop in
+    let s = c .before .before .before .before .before .before .before in
+    let done : l .interval ≡ instanceOf (held (s .args .b)) .intervals
+    = omega (arith, c .loop-test .left, l .inv .0, intervals-is (s .args .b) (s .pre .0 .0 .counted .passed)) in
+    rows-all (l .inv .1) done
 
 pub write-train-spec : {M : Type 1} → statement M
 write-train-spec =
@@ -69,10 +88,12 @@ write-train-spec =
     (tie.spec
     Inv-loop
     μ-loop
-    loop-holds
+    (λ c κs. let p = c .before .before .before .before .pre in (p .0 .0 .counted, p .1))
+    (λ c. (omega arith, rows-none))
+    (λ c κs. let e = c .before .before .train-block .ensures in (block-of (sym (e .train)) e, omega (arith, c .loop-test .taken)))
     write-interval-requires
-    add-interval
-    loop-less
+    (λ c. omega (arith, c .before .before .before .before .before .loop-test .taken))
+    (λ c. omega (arith, c .before .before .before .before .before .loop-test .taken))
     loop-again
-    same-length
+    (λ c. rows-kept (c .before .loop .inv .1))
     returns)

@@ -1,22 +1,22 @@
 -- `apart::interval_apart` meets its contract. The loop's invariant: the answer for all trains is that for those from i on, and the
 -- labels that the trains before touch are marked. Assumes nothing.
 use native.Mathlib.Omega.{arith}
-use mathlib.Core.Path.{_≡_, sym, ap, _∙_, subst}
+use mathlib.Core.Path.{_≡_, sym, ap, _∙_}
 use mathlib.Core.Bool.{Bool, not}
-use Prim.Native.Nat.{ℕ, _+_, _-_}
+use Prim.Native.Nat.{ℕ, _-_, _<_}
 use mathlib.Core.List.{map}
 use denote.Ref.{now}
 use lib.ListN.{getD}
-use lib.Dec.{T, ltb}
 use Rattle.model.specs.declared.Book.{Book as BookStruct}
 use Rattle.spec.specs.Lists.{Bytes, all, any, upTo, range}
 use Rattle.spec.specs.Instance.{instanceOf}
-use Rattle.spec.specs.Plan.{Move, ifRun, planOf}
+use Rattle.spec.specs.Plan.{planOf}
 use Rattle.spec.specs.Held.{held}
 use Rattle.laws.proofs.Loops.{all-start, all-turn, all-broken, all-done}
-use Rattle.run_tables.proofs.Small.{trains-is}
-use Rattle.plan_rules.specs.Marks.{RowFits, rowOf, labelsOf, isMarked, marking, touched, sharesBefore, intervalApart}
-use Rattle.plan_rules.proofs.Rows.{plan-long, run-few}
+use Rattle.tables.proofs.Small.{trains-is}
+use Rattle.plan_rules.specs.Kept.{Planned}
+use Rattle.plan_rules.specs.Marks.{StretchFits, stretchOf, labelsOf, isMarked, touched, sharesBefore, intervalApart}
+use Rattle.plan_rules.proofs.Ready.{move-asks, few-own}
 use Rattle.plan_rules.proofs.Sharing.{Marked, labels-here, fits-here, marked-none, marked-next, touch-is}
 use Rattle.plan_rules.proofs.apart.interval_apart.Statement.{statement}
 use Rattle.plan_rules.proofs.apart.interval_apart.Tie as tie
@@ -26,112 +26,90 @@ abbrev alone : BookStruct → Bytes → ℕ → ℕ → Bool
 alone b plan t j = not (sharesBefore (instanceOf (held b)) (planOf (instanceOf (held b)) plan) t j)
 
 abbrev Inv-loop : tie.InvT-loop
-Inv-loop b rows sizes labels plan interval trains marks₀ i₀ marks i =
+Inv-loop b interval runs labels plan trains marks₀ i₀ marks i =
     (intervalApart (instanceOf (held b)) (planOf (instanceOf (held b)) plan) interval ≡ all (alone b plan interval) (range i trains))
     × Marked (instanceOf (held b)) (planOf (instanceOf (held b)) plan) interval labels i marks
 
 abbrev μ-loop : tie.MeasureT-loop
-μ-loop b rows sizes labels plan interval trains marks₀ i₀ marks i = trains - i
+μ-loop b interval runs labels plan trains marks₀ i₀ marks i = trains - i
 
 loop-holds : tie.Need-loop-holds Inv-loop μ-loop
 unfolding intervalApart
 loop-holds c =
-    let s = c .before .before .before .before in
+    let s = c .before .before .before in
     let a = s .args in (
       ap (λ (n : ℕ). all (alone (a .b) (now (a .plan)) (a .interval)) (upTo n)) (trains-is (a .b) (s .pre .0 .0 .counted .passed))
           ∙ all-start _ _,
-      marked-none (a .b) (a .runs) (now (a .rows)) (now (a .sizes)) (now (a .labels)) (now (a .plan)) (s .pre .0) (a .interval) (s .pre .1),
+      marked-none _ (s .pre .0) (a .interval) (s .pre .1),
     )
 
-move-at-requires : tie.Need-move-at-requires Inv-loop μ-loop
-move-at-requires c κs =
-    let p = c .before .before .before .before .before .before .pre in
-    (p .0 .0 .counted .passed, plan-long _ _ (p .0 .1), c .loop-test .taken, p .1)
-
-row-of-requires : tie.Need-row-of-requires Inv-loop μ-loop
-row-of-requires c κs =
-    let t = c .before in
-    let s = t .before .before .before .before .before .before in
-    let passed = s .pre .0 .0 .counted .passed in (
-      omega (arith, t .loop-test .taken, passed .packed .counts .trains),
-      s .pre .0 .0 .sizesLong,
-      subst (λ (m : Move). T (ifRun m (λ r. ltb r 256))) (sym (c .move-at .ensures))
-          (run-few (s .args .b) passed (now (s .args .plan)) (s .pre .0 .1) (t .before .loop .i) (s .args .interval) (t .loop-test .taken) (s .pre .1)),
-    )
-
--- the row of the train that the loop is at
-module _ (c : tie.After-row-of Inv-loop μ-loop) where
+-- the train that the loop is at
+module _ (c : tie.In-loop Inv-loop μ-loop) where
   abbrev start : tie.Start Inv-loop μ-loop
-  start = c .before .before .before .before .before .before .before .before
+  start = c .before .before .before .before .before
 
+  abbrev train : ℕ
+  train = c .before .loop .i
+
+  planned : Planned (start .args .b) train (now (start .args .plan))
+  planned = record { passed = start .pre .0 .0 .counted .passed; known = c .loop-test .taken; fits = start .pre .0 .1 }
+
+  few : train < 8
+  few = omega (arith, c .loop-test .taken, start .pre .0 .0 .counted .passed .packed .counts .trains)
+
+stretch-of-requires : tie.Need-stretch-of-requires Inv-loop μ-loop
+stretch-of-requires c κs =
+    let t = c .before in
+    let s = start t in
+    (few t, s .pre .0 .0 .long, few-own (planned t) (c .move-at .result) (s .args .interval) (s .pre .1) (c .move-at .ensures))
+
+-- the stretch of its run
+module _ (c : tie.After-stretch-of Inv-loop μ-loop) where
   abbrev loop : tie.In-loop Inv-loop μ-loop
   loop = c .before .before
 
-  abbrev train : ℕ
-  train = loop .before .loop .i
+  abbrev given : tie.Start Inv-loop μ-loop
+  given = start loop
 
-  row-is : c .row-of .result ≡ rowOf (now (start .args .sizes)) train
-      (planOf (instanceOf (held (start .args .b))) (now (start .args .plan)) .move train (start .args .interval))
-  row-is = c .row-of .ensures ∙ ap (rowOf (now (start .args .sizes)) train) (c .before .move-at .ensures)
+  stretch-is : c .stretch-of .result ≡ stretchOf (now (given .args .runs)) (train loop)
+      (planOf (instanceOf (held (given .args .b))) (now (given .args .plan)) .move (train loop) (given .args .interval))
+  stretch-is = c .stretch-of .ensures ∙ ap (stretchOf (now (given .args .runs)) (train loop)) (c .before .move-at .ensures)
 
-  fits : RowFits (now (start .args .labels)) (now (start .args .rows)) (c .row-of .result)
-  fits =
-      let a = start .args in
-      subst (RowFits (now (a .labels)) (now (a .rows))) (sym row-is)
-      (fits-here (a .b) (a .runs) (now (a .rows)) (now (a .sizes)) (now (a .labels)) (now (a .plan)) (start .pre .0) (a .interval) (start .pre .1)
-      train (loop .loop-test .taken))
+  fits : StretchFits (now (given .args .labels)) (now (given .args .runs)) (c .stretch-of .result)
+  fits = fits-here _ (given .pre .0) (given .args .interval) (given .pre .1) (train loop) (loop .loop-test .taken) stretch-is
 
-  labels : labelsOf (now (start .args .labels)) (now (start .args .rows)) (c .row-of .result)
-      ≡ map (λ s. getD (now (start .args .labels)) s 0)
-      (touched (instanceOf (held (start .args .b))) (planOf (instanceOf (held (start .args .b))) (now (start .args .plan))) (start .args .interval) train)
-  labels =
-      let a = start .args in
-      ap (labelsOf (now (a .labels)) (now (a .rows))) row-is
-      ∙ labels-here (a .b) (a .runs) (now (a .rows)) (now (a .sizes)) (now (a .labels)) (now (a .plan)) (start .pre .0) (a .interval) (start .pre .1)
-      train (loop .loop-test .taken)
-
-touches-requires : tie.Need-touches-requires Inv-loop μ-loop
-touches-requires c κs = fits (c .before)
+  labels : labelsOf (now (given .args .labels)) (now (given .args .runs)) (c .stretch-of .result)
+      ≡ map (λ s. getD (now (given .args .labels)) s 0)
+      (touched (instanceOf (held (given .args .b))) (planOf (instanceOf (held (given .args .b))) (now (given .args .plan)))
+      (given .args .interval) (train loop))
+  labels = labels-here _ (given .pre .0) (given .args .interval) (given .pre .1) (train loop) (loop .loop-test .taken) stretch-is
 
 -- the answer about this train
-shares : (c : tie.After-touches Inv-loop μ-loop)
-    → let s = start (c .before .before) in
-    c .touches .result ≡ sharesBefore (instanceOf (held (s .args .b))) (planOf (instanceOf (held (s .args .b))) (now (s .args .plan)))
-    (s .args .interval) (train (c .before .before))
+shares : (c : tie.After-touches Inv-loop μ-loop) → let r = c .before .before in let a = given r .args in
+    c .touches .result
+    ≡ sharesBefore (instanceOf (held (a .b))) (planOf (instanceOf (held (a .b))) (now (a .plan))) (a .interval) (train (loop r))
 shares c =
     let r = c .before .before in
-    let a = start r .args in
+    let k = loop r .before .loop in
     c .touches .ensures
-    ∙ ap (any (isMarked (loop r .before .loop .marks))) (labels r)
-    ∙ touch-is (a .b) (a .runs) (now (a .rows)) (now (a .sizes)) (now (a .labels)) (now (a .plan)) (start r .pre .0) (a .interval) (start r .pre .1)
-    (train r) (loop r .loop-test .taken) (loop r .before .loop .marks) (loop r .before .loop .inv .1)
+    ∙ ap (any (isMarked (k .marks))) (labels r)
+    ∙ touch-is _ (given r .pre .0) (given r .args .interval) (given r .pre .1) (train (loop r)) (loop r .loop-test .taken) (k .marks) (k .inv .1)
 
 returns : tie.Need-returns Inv-loop μ-loop
 returns c =
-    let r = c .before .before .before in
-    all-broken _ (loop r .before .loop .inv .0) (loop r .loop-test .taken) (ap not (sym (shares (c .before)) ∙ c .if1 .taken))
-
-mark-requires : tie.Need-mark-requires Inv-loop μ-loop
-mark-requires c κs = fits (c .before .before .before .before)
-
-add-i : tie.Need-add-i Inv-loop μ-loop
-add-i c =
-    let r = c .before .before .before .before .before in
-    omega (arith, loop r .loop-test .taken, start r .pre .0 .0 .counted .passed .packed .counts .trains)
-
-loop-less : tie.Need-loop-less Inv-loop μ-loop
-loop-less c = let r = c .before .before .before .before .before in omega (arith, loop r .loop-test .taken)
+    let t = loop (c .before .before .before) in
+    all-broken _ (t .before .loop .inv .0) (t .loop-test .taken) (ap not (sym (shares (c .before)) ∙ c .if1 .taken))
 
 loop-again : tie.Need-loop-again Inv-loop μ-loop
 loop-again c =
     let e = c .before .before in
     let r = e .before .before .before in
-    let a = start r .args in
-    let next = marked-next (a .b) (a .runs) (now (a .rows)) (now (a .sizes)) (now (a .labels)) (now (a .plan)) (start r .pre .0) (a .interval)
-    (start r .pre .1) (train r) (loop r .loop-test .taken) (loop r .before .loop .marks) (loop r .before .loop .inv .1) in (
-      all-turn _ (loop r .before .loop .inv .0) (loop r .loop-test .taken) (ap not (sym (shares (e .before)) ∙ e .if1 .left)),
-      subst (Marked (instanceOf (held (a .b))) (planOf (instanceOf (held (a .b))) (now (a .plan))) (a .interval) (now (a .labels)) (train r + 1))
-          (sym (c .mark .ensures ∙ ap (marking (loop r .before .loop .marks)) (labels r))) next,
+    let s = given r in
+    let t = loop r in
+    let k = t .before .loop in (
+      all-turn _ (k .inv .0) (t .loop-test .taken) (ap not (sym (shares (e .before)) ∙ e .if1 .left)),
+      rw (c .mark .ensures, labels r)
+          (marked-next _ (s .pre .0) (s .args .interval) (s .pre .1) (train t) (t .loop-test .taken) (k .marks) (k .inv .1)),
     )
 
 returns-2 : tie.Need-returns-2 Inv-loop μ-loop
@@ -144,12 +122,12 @@ interval-apart-spec =
     Inv-loop
     μ-loop
     loop-holds
-    move-at-requires
-    row-of-requires
-    touches-requires
+    (λ c κs. move-asks (planned c) (start c .args .interval) (start c .pre .1))
+    stretch-of-requires
+    (λ c κs. fits (c .before))
     returns
-    mark-requires
-    add-i
-    loop-less
+    (λ c κs. fits (c .before .before .before .before))
+    (λ c. omega (arith, few (loop (c .before .before .before .before .before))))
+    (λ c. omega (arith, loop (c .before .before .before .before .before) .loop-test .taken))
     loop-again
     returns-2)

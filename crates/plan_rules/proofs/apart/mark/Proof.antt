@@ -1,4 +1,4 @@
--- `apart::mark` meets its contract. The loop's invariant: marking the whole row is marking what stands from k on. Assumes nothing.
+-- `apart::mark` meets its contract. The loop's invariant: marking the whole stretch is marking what stands from k on. Assumes nothing.
 use borrow.Author.Needs.{needs}
 use native.Mathlib.Omega.{arith}
 use mathlib.Core.Path.{_≡_, refl, sym, ap, _∙_}
@@ -8,7 +8,7 @@ use denote.Ref.{now}
 use lib.ListN.{length, getD, set}
 use lib.Seq.{slice}
 use Rattle.spec.specs.Book.{segmentOf}
-use Rattle.run_tables.specs.Placed.{placeAt}
+use Rattle.tables.specs.Placed.{placeAt}
 use Rattle.plan_rules.specs.Marks.{labelsOf, marking}
 use Rattle.plan_rules.proofs.Marking.{label-here, marking-next, marking-end}
 use Rattle.plan_rules.proofs.apart.mark.Statement.{statement}
@@ -19,28 +19,16 @@ abbrev labelled : List ℕ → ℕ → ℕ
 labelled labels d = getD labels (segmentOf d) 0
 
 abbrev Inv-loop : tie.InvT-loop
-Inv-loop labels rows marks₀ end k₀ marks k =
-    (k₀ ≤ k) × (marking marks₀ (map (labelled labels) (slice k₀ end rows)) ≡ marking marks (map (labelled labels) (slice k end rows)))
+Inv-loop runs labels marks₀ end k₀ marks k =
+    (k₀ ≤ k) × (marking marks₀ (map (labelled labels) (slice k₀ end runs)) ≡ marking marks (map (labelled labels) (slice k end runs)))
 
 abbrev μ-loop : tie.MeasureT-loop
-μ-loop labels rows marks₀ end k₀ marks k = end - k
-
-add-end : tie.Need-add-end Inv-loop μ-loop
-add-end c = omega arith
+μ-loop runs labels marks₀ end k₀ marks k = end - k
 
 loop-holds : tie.Need-loop-holds Inv-loop μ-loop
 loop-holds c = (omega arith, refl)
 
-shared-slice-read-wide : tie.Need-shared-slice-read-wide Inv-loop μ-loop
-shared-slice-read-wide c = omega arith
-
-wide-requires : tie.Need-wide-requires Inv-loop μ-loop
-wide-requires c κs = search needs
-
-mul-label : tie.Need-mul-label Inv-loop μ-loop
-mul-label c = omega (arith, c .wide .ensures .1)
-
--- the label at k is that of a segment of the row
+-- the label at k is that of a segment of the stretch
 module _ (c : tie.After-wide Inv-loop μ-loop) where
   abbrev start : tie.Start Inv-loop μ-loop
   start = c .before .before .before .before .before .before .before
@@ -57,12 +45,6 @@ shared-slice-read-label c = label (c .before) .0
 element-write-marks : tie.Need-element-write-marks Inv-loop μ-loop
 element-write-marks c = label (c .before) .1
 
-add-k : tie.Need-add-k Inv-loop μ-loop
-add-k c = omega arith
-
-loop-less : tie.Need-loop-less Inv-loop μ-loop
-loop-less c = omega arith
-
 loop-again : tie.Need-loop-again Inv-loop μ-loop
 unfolding segmentOf
 loop-again c =
@@ -71,9 +53,9 @@ loop-again c =
     let labels = now (start w .args .labels) in (
       omega arith,
       inv .1
-          ∙ marking-next (labelled labels) _ (now (start w .args .rows)) (here w) _ (w .before .before .loop-test .taken) (start w .pre .fits)
+          ∙ marking-next (labelled labels) _ (now (start w .args .runs)) (here w) _ (w .before .before .loop-test .taken) (start w .pre .fits)
           ∙ ap (λ (d : ℕ). marking (set (w .before .before .before .loop .marks) (getD labels (d / 2) 0) 1)
-          (map (labelled labels) (slice (here w + 1) (start w .args .row .at + start w .args .row .size) (now (start w .args .rows)))))
+          (map (labelled labels) (slice (here w + 1) (start w .args .stretch .at + start w .args .stretch .size) (now (start w .args .runs)))))
           (sym (w .wide .ensures .0)),
     )
 
@@ -87,14 +69,14 @@ mark-spec =
     (tie.spec
     Inv-loop
     μ-loop
-    add-end
+    (λ c. omega arith)
     loop-holds
-    shared-slice-read-wide
-    wide-requires
-    mul-label
+    (λ c. omega arith)
+    (λ c κs. search needs)
+    (λ c. omega (arith, c .wide .ensures .1))
     shared-slice-read-label
     element-write-marks
-    add-k
-    loop-less
+    (λ c. omega arith)
+    (λ c. omega arith)
     loop-again
     returns)

@@ -13,7 +13,7 @@ use Rattle.spec.specs.Plan.{Plan, ofRun, planOf, rule6}
 use Rattle.spec.specs.Held.{held}
 use borrow.Author.Tests.{not-true, not-false}
 use Rattle.laws.proofs.Loops.{all-start, all-turn, all-broken, all-done}
-use Rattle.run_tables.proofs.Small.{intervals-is}
+use Rattle.tables.proofs.Small.{intervals-is}
 use Rattle.plan_rules.proofs.Sharing.{apart-iff}
 use Rattle.plan_rules.proofs.apart.rule_6.Statement.{statement}
 use Rattle.plan_rules.proofs.apart.rule_6.Tie as tie
@@ -29,33 +29,27 @@ abbrev keeps : BookStruct → Bytes → ℕ → Bool
 keeps b plan t = kept (instanceOf (held b)) (planOf (instanceOf (held b)) plan) t
 
 abbrev Inv-loop : tie.InvT-loop
-Inv-loop b rows sizes labels plan runs intervals interval₀ interval =
+Inv-loop b counts runs labels plan intervals interval₀ interval =
     rule6 (instanceOf (held b)) (planOf (instanceOf (held b)) plan) ≡ all (keeps b plan) (range interval intervals)
 
 abbrev μ-loop : tie.MeasureT-loop
-μ-loop b rows sizes labels plan runs intervals interval₀ interval = intervals - interval
+μ-loop b counts runs labels plan intervals interval₀ interval = intervals - interval
 
 loop-holds : tie.Need-loop-holds Inv-loop μ-loop
 unfolding rule6
 loop-holds c =
-    let s = c .before .before .before .before in
+    let s = c .before .before .before in
     ap (λ (n : ℕ). all (keeps (s .args .b) (now (s .args .plan))) (upTo n)) (intervals-is (s .args .b) (s .pre .0 .counted .passed))
     ∙ all-start _ _
 
 interval-apart-requires : tie.Need-interval-apart-requires Inv-loop μ-loop
-interval-apart-requires c κs = (c .before .before .before .before .before .before .pre, c .loop-test .taken)
+interval-apart-requires c κs = (c .before .before .before .before .before .pre, c .loop-test .taken)
 
 returns : tie.Need-returns Inv-loop μ-loop
 returns c =
     let t = c .before .before in
     all-broken _ (t .before .loop .inv) (t .loop-test .taken)
     (apart-iff _ _ _ ∙ sym (c .before .interval-apart .ensures) ∙ not-true _ (c .if1 .taken))
-
-add-interval : tie.Need-add-interval Inv-loop μ-loop
-add-interval c = omega (arith, c .before .before .loop-test .taken)
-
-loop-less : tie.Need-loop-less Inv-loop μ-loop
-loop-less c = omega (arith, c .before .before .loop-test .taken)
 
 loop-again : tie.Need-loop-again Inv-loop μ-loop
 loop-again c =
@@ -75,7 +69,7 @@ rule-6-spec =
     loop-holds
     interval-apart-requires
     returns
-    add-interval
-    loop-less
+    (λ c. omega (arith, c .before .before .loop-test .taken))
+    (λ c. omega (arith, c .before .before .loop-test .taken))
     loop-again
     returns-2)

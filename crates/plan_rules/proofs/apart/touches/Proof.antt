@@ -1,4 +1,4 @@
--- `apart::touches` meets its contract. The loop's invariant: the answer for the whole row is that for what stands from k on. Assumes
+-- `apart::touches` meets its contract. The loop's invariant: the answer for the whole stretch is that for what stands from k on. Assumes
 -- nothing.
 use borrow.Author.Needs.{needs}
 use borrow.Author.Tests.{eq-eqb, ne-eqb}
@@ -14,7 +14,7 @@ use Rattle.spec.specs.Lists.{Bytes, any}
 use Rattle.spec.specs.Book.{segmentOf}
 use Rattle.laws.proofs.Rows.{any-map}
 use Rattle.network.proofs.Walks.{any-next, any-end}
-use Rattle.run_tables.specs.Placed.{placeAt}
+use Rattle.tables.specs.Placed.{placeAt}
 use Rattle.plan_rules.specs.Marks.{labelsOf, isMarked}
 use Rattle.plan_rules.proofs.Marking.{label-here}
 use Rattle.plan_rules.proofs.apart.touches.Statement.{statement}
@@ -25,28 +25,16 @@ abbrev marked : Bytes → List ℕ → ℕ → Bool
 marked marks labels d = isMarked marks (getD labels (segmentOf d) 0)
 
 abbrev Inv-loop : tie.InvT-loop
-Inv-loop labels marks rows end k₀ k =
-    (k₀ ≤ k) × (any (marked marks labels) (slice k₀ end rows) ≡ any (marked marks labels) (slice k end rows))
+Inv-loop runs labels marks end k₀ k =
+    (k₀ ≤ k) × (any (marked marks labels) (slice k₀ end runs) ≡ any (marked marks labels) (slice k end runs))
 
 abbrev μ-loop : tie.MeasureT-loop
-μ-loop labels marks rows end k₀ k = end - k
-
-add-end : tie.Need-add-end Inv-loop μ-loop
-add-end c = omega arith
+μ-loop runs labels marks end k₀ k = end - k
 
 loop-holds : tie.Need-loop-holds Inv-loop μ-loop
 loop-holds c = (omega arith, refl)
 
-shared-slice-read-wide : tie.Need-shared-slice-read-wide Inv-loop μ-loop
-shared-slice-read-wide c = omega arith
-
-wide-requires : tie.Need-wide-requires Inv-loop μ-loop
-wide-requires c κs = search needs
-
-mul-label : tie.Need-mul-label Inv-loop μ-loop
-mul-label c = omega (arith, c .wide .ensures .1)
-
--- the label at k is that of a segment of the row
+-- the label at k is that of a segment of the stretch
 module _ (c : tie.After-wide Inv-loop μ-loop) where
   abbrev start : tie.Start Inv-loop μ-loop
   start = c .before .before .before .before .before .before .before
@@ -60,10 +48,10 @@ module _ (c : tie.After-wide Inv-loop μ-loop) where
   abbrev behind : ℕ → Bool
   behind k =
       any (marked (now (start .args .marks)) (now (start .args .labels)))
-      (slice k (start .args .row .at + start .args .row .size) (now (start .args .rows)))
+      (slice k (start .args .stretch .at + start .args .stretch .size) (now (start .args .runs)))
 
   -- a turn: this segment's label, or those behind it
-  turn : behind (start .args .row .at)
+  turn : behind (start .args .stretch .at)
       ≡ (isMarked (now (start .args .marks)) (getD (now (start .args .labels)) (c .wide .result / 2) 0) || behind (here + 1))
   unfolding segmentOf
   turn =
@@ -78,9 +66,9 @@ shared-slice-read-label c = label (c .before) .0
 element-copy-out-if1 : tie.Need-element-copy-out-if1 Inv-loop μ-loop
 element-copy-out-if1 c = label (c .before) .1
 
--- the answer for the row
-whole : (c : tie.After-wide Inv-loop μ-loop) → behind c (start c .args .row .at)
-    ≡ any (isMarked (now (start c .args .marks))) (labelsOf (now (start c .args .labels)) (now (start c .args .rows)) (start c .args .row))
+-- the answer for the stretch
+whole : (c : tie.After-wide Inv-loop μ-loop) → behind c (start c .args .stretch .at)
+    ≡ any (isMarked (now (start c .args .marks))) (labelsOf (now (start c .args .labels)) (now (start c .args .runs)) (start c .args .stretch))
 unfolding labelsOf placeAt
 whole c = sym (any-map _ _ _)
 
@@ -89,12 +77,6 @@ unfolding isMarked
 returns c =
     let w = c .before .before .before in
     sym (sym (whole w) ∙ turn w ∙ ap (λ (t : Bool). t || behind w (here w + 1)) (eq-eqb _ _ (c .if1 .taken)))
-
-add-k : tie.Need-add-k Inv-loop μ-loop
-add-k c = omega arith
-
-loop-less : tie.Need-loop-less Inv-loop μ-loop
-loop-less c = omega arith
 
 loop-again : tie.Need-loop-again Inv-loop μ-loop
 unfolding isMarked
@@ -112,15 +94,15 @@ touches-spec =
     (tie.spec
     Inv-loop
     μ-loop
-    add-end
+    (λ c. omega arith)
     loop-holds
-    shared-slice-read-wide
-    wide-requires
-    mul-label
+    (λ c. omega arith)
+    (λ c κs. search needs)
+    (λ c. omega (arith, c .wide .ensures .1))
     shared-slice-read-label
     element-copy-out-if1
     returns
-    add-k
-    loop-less
+    (λ c. omega arith)
+    (λ c. omega arith)
     loop-again
     returns-2)

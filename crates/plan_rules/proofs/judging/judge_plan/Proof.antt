@@ -2,23 +2,19 @@
 use borrow.Author.Needs.{needs}
 use borrow.Author.Tests.{not-true, not-false}
 use native.Mathlib.Omega.{arith}
-use mathlib.Core.Path.{_≡_, refl, sym, ap, _∙_}
+use mathlib.Core.Path.{_≡_, refl, sym, _∙_}
 use mathlib.Core.Bool.{true}
-use lib.Dec.{T}
 use denote.Ref.{now}
 use Rattle.spec.specs.Instance.{instanceOf}
 use Rattle.spec.specs.Plan.{planFits}
 use Rattle.spec.specs.Held.{held}
 use Rattle.laws.proofs.Tests.{from-true}
-use Rattle.run_tables.proofs.Small.{nodes-is}
+use Rattle.tables.proofs.Small.{nodes-is}
 use Rattle.plan_rules.proofs.Ready.{nodes-inside}
 use Rattle.sections.proofs.Same.{plan-labelled}
 use Rattle.plan_rules.proofs.Answers.{answer-unfit, answer-early, answer-sixth, answer-kept}
 use Rattle.plan_rules.proofs.judging.judge_plan.Statement.{statement}
 use Rattle.plan_rules.proofs.judging.judge_plan.Tie as tie
-
-plan-fits-requires : tie.Need-plan-fits-requires
-plan-fits-requires c κs = search needs
 
 returns : tie.Need-returns
 returns c = answer-unfit _ _ (sym (c .before .plan-fits .ensures) ∙ not-true _ (c .if1 .taken))
@@ -26,7 +22,7 @@ returns c = answer-unfit _ _ (sym (c .before .plan-fits .ensures) ∙ not-true _
 -- the bytes are a plan's
 module _ (c : tie.Else1) where
   abbrev start : tie.Start
-  start = c .before .before .before .before .before .before
+  start = c .before .before .before .before .before
 
   fits : planFits (instanceOf (held (start .args .b))) (now (start .args .plan)) ≡ true
   fits = sym (c .before .plan-fits .ensures) ∙ not-false _ (c .if1 .left)
@@ -37,18 +33,12 @@ first-broken-requires c κs = (start c .pre .0, from-true (fits c))
 returns-2 : tie.Need-returns-2
 returns-2 c = let e = c .before .before in answer-early _ _ (fits e) _ (c .before .first-broken .ensures) (c .if2 .taken)
 
-slice-aggregate-label-sections : tie.Need-slice-aggregate-label-sections
-slice-aggregate-label-sections c = search needs
-
 label-sections-requires : tie.Need-label-sections-requires
 label-sections-requires c κs =
     let e = c .before .before .before in
     let s = start e in
     let p = s .pre .0 .counted .passed in
     (p, s .pre .1, omega (arith, nodes-inside _ _ (from-true (fits e)), nodes-is (s .args .b) p), refl)
-
-slice-aggregate-rule-6 : tie.Need-slice-aggregate-rule-6
-slice-aggregate-rule-6 c = search needs
 
 rule-6-requires : tie.Need-rule-6-requires
 rule-6-requires c κs =
@@ -60,24 +50,26 @@ rule-6-requires c κs =
 returns-3 : tie.Need-returns-3
 returns-3 c =
     let f = c .before .before .before .before .before .before in
-    answer-sixth _ _ (fits (f .before .before)) _ (f .before .first-broken .ensures) (f .if2 .left) (sym (c .before .rule-6 .ensures) ∙ not-true _ (c .if3 .taken))
+    answer-sixth _ _ (fits (f .before .before)) _ (f .before .first-broken .ensures) (f .if2 .left)
+    (sym (c .before .rule-6 .ensures) ∙ not-true _ (c .if3 .taken))
 
 returns-4 : tie.Need-returns-4
 returns-4 c =
     let f = c .before .before .before .before .before .before in
-    answer-kept _ _ (fits (f .before .before)) _ (f .before .first-broken .ensures) (f .if2 .left) (sym (c .before .rule-6 .ensures) ∙ not-false _ (c .if3 .left))
+    answer-kept _ _ (fits (f .before .before)) _ (f .before .first-broken .ensures) (f .if2 .left)
+    (sym (c .before .rule-6 .ensures) ∙ not-false _ (c .if3 .left))
 
 pub judge-plan-spec : {M : Type 1} → statement M
 judge-plan-spec =
     tie.close
     (tie.spec
-    plan-fits-requires
+    (λ c κs. search needs)
     returns
     first-broken-requires
     returns-2
-    slice-aggregate-label-sections
+    (λ c. search needs)
     label-sections-requires
-    slice-aggregate-rule-6
+    (λ c. search needs)
     rule-6-requires
     returns-3
     returns-4)

@@ -14,8 +14,9 @@ use Rattle.spec.specs.Instance.{instanceOf}
 use Rattle.spec.specs.Plan.{Move, isAbsent, planOf, absentBefore}
 use Rattle.spec.specs.Held.{held}
 use Rattle.laws.proofs.Loops.{all-turn, all-broken, all-done}
-use Rattle.run_tables.proofs.Here.{noTrain, few-trains, departs-here, departs-asks}
-use Rattle.run_tables.proofs.Small.{intervals-is}
+use Rattle.listing.proofs.Trains.{noTrain}
+use Rattle.tables.proofs.Here.{few-trains, departs-here, departs-asks}
+use Rattle.tables.proofs.Small.{intervals-is}
 use Rattle.plan_rules.proofs.Ready.{move-asks}
 use Rattle.plan_rules.proofs.Loops.{absentStep, absent-steps}
 use Rattle.plan_rules.proofs.rules.absent_before.Statement.{statement}
@@ -35,9 +36,6 @@ abbrev μ-loop : tie.MeasureT-loop
 few : (s : tie.Start Inv-loop μ-loop) → s .args .train < 8
 few s = few-trains (s .args .t1) (s .pre .passed) (s .args .train) (s .pre .known)
 
-mul-d : tie.Need-mul-d Inv-loop μ-loop
-mul-d c = omega (arith, few (c .before))
-
 element-copy-out-d : tie.Need-element-copy-out-d Inv-loop μ-loop
 element-copy-out-d c = few (c .before)
 
@@ -51,9 +49,6 @@ loop-holds c =
 
 move-at-requires : tie.Need-move-at-requires Inv-loop μ-loop
 move-at-requires c κs = move-asks (c .before .before .before .pre) (c .before .loop .t) (c .loop-test .taken)
-
-absent-if-requires : tie.Need-absent-if-requires Inv-loop μ-loop
-absent-if-requires c κs = tt
 
 -- the answer about this interval
 module _ (c : tie.After-absent-if Inv-loop μ-loop) where
@@ -74,12 +69,6 @@ returns c =
     let k = c .before in
     all-broken _ (k .before .before .before .loop .inv) (k .before .before .loop-test .taken) (sym (here k) ∙ not-true _ (c .if1 .taken))
 
-add-t : tie.Need-add-t Inv-loop μ-loop
-add-t c = omega arith
-
-loop-less : tie.Need-loop-less Inv-loop μ-loop
-loop-less c = omega arith
-
 loop-again : tie.Need-loop-again Inv-loop μ-loop
 loop-again c =
     let k = c .before in
@@ -94,13 +83,13 @@ absent-before-spec =
     (tie.spec
     Inv-loop
     μ-loop
-    mul-d
+    (λ c. omega (arith, few (c .before)))
     element-copy-out-d
     loop-holds
     move-at-requires
-    absent-if-requires
+    (λ c κs. tt)
     returns
-    add-t
-    loop-less
+    (λ c. omega arith)
+    (λ c. omega arith)
     loop-again
     returns-2)

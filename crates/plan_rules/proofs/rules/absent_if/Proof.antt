@@ -7,15 +7,6 @@ use Rattle.plan_rules.proofs.Ready.{told}
 use Rattle.plan_rules.proofs.rules.absent_if.Statement.{statement}
 use Rattle.plan_rules.proofs.rules.absent_if.Tie as tie
 
-enum-told : tie.Need-enum-told
-enum-told c = search needs
-
-enum-told-2 : tie.Need-enum-told-2
-enum-told-2 c = search needs
-
-enum-told-3 : tie.Need-enum-told-3
-enum-told-3 c = search needs
-
 -- the answer by the move
 abbrev answer : Bool → Move → Bool
 answer before m = cond before (isAbsent m) (not (isAbsent m))
@@ -42,4 +33,4 @@ unfolding isAbsent
 returns-3 c = let b = c .before .before .args .before in there b ∙ told (answer b) (c .enum-told3 .given .1)
 
 pub absent-if-spec : {M : Type 1} → statement M
-absent-if-spec = tie.close (tie.spec enum-told enum-told-2 enum-told-3 returns returns-2 returns-3)
+absent-if-spec = tie.close (tie.spec (λ c. search needs) (λ c. search needs) (λ c. search needs) returns returns-2 returns-3)

@@ -7,12 +7,6 @@ use Rattle.spec.specs.Book.{deniesBorder, forcesBorder}
 use Rattle.plan_rules.proofs.rules.border_fits.Statement.{statement}
 use Rattle.plan_rules.proofs.rules.border_fits.Tie as tie
 
-denies-border-requires : tie.Need-denies-border-requires
-denies-border-requires c κs = search needs
-
-forces-border-requires : tie.Need-forces-border-requires
-forces-border-requires c κs = search needs
-
 -- the answer by the kind and the border
 abbrev answer : ℕ → Bool → Bool
 answer kind border = (not (deniesBorder kind) || not border) && (not (forcesBorder kind) || border)
@@ -40,4 +34,4 @@ returns-2 c =
 
 pub border-fits-spec : {M : Type 1} → statement M
 border-fits-spec =
-    tie.close (tie.spec denies-border-requires forces-border-requires returns returns-2)
+    tie.close (tie.spec (λ c κs. search needs) (λ c κs. search needs) returns returns-2)

@@ -8,17 +8,17 @@ use Rattle.model.specs.declared.Book.{Book as BookStruct}
 use Rattle.spec.specs.Instance.{Instance, instanceOf, servedAtDeparture}
 use Rattle.spec.specs.Plan.{planOf, servedBy}
 use Rattle.spec.specs.Held.{held}
-use Rattle.run_tables.proofs.Here.{few-trains, size-small, departure-answer}
+use Rattle.tables.proofs.Here.{few-trains, size-small, departure-answer}
 use Rattle.plan_rules.proofs.rules.call_served.Statement.{statement}
 use Rattle.plan_rules.proofs.rules.call_served.Tie as tie
 
 call-at-requires : tie.Need-call-at-requires
-call-at-requires c κs = c .before .before .before .pre .0 .passed .packed .counts
+call-at-requires c κs = c .before .before .pre .0 .passed .packed .counts
 
 -- the train is one of the book's
 module _ (c : tie.After-call-at) where
   abbrev start : tie.Start
-  start = c .before .before .before .before
+  start = c .before .before .before
 
   abbrev b : BookStruct
   b = start .args .t1
@@ -28,9 +28,6 @@ module _ (c : tie.After-call-at) where
 
   few : i < 8
   few = few-trains b (start .pre .0 .passed) i (start .pre .0 .known)
-
-mul-served-at-departure : tie.Need-mul-served-at-departure
-mul-served-at-departure c = omega (arith, few c)
 
 element-copy-out-served-at-departure : tie.Need-element-copy-out-served-at-departure
 element-copy-out-served-at-departure c = few c
@@ -77,7 +74,7 @@ call-served-spec =
     tie.close
     (tie.spec
     call-at-requires
-    mul-served-at-departure
+    (λ c. omega (arith, few c))
     element-copy-out-served-at-departure
     served-at-departure-requires
     returns

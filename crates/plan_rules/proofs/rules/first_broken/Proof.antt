@@ -13,7 +13,7 @@ use Rattle.plan_rules.proofs.rules.first_broken.Tie as tie
 -- what is kept where the next rule is asked
 module _ (c : tie.Else1) where
   abbrev start : tie.Start
-  start = c .before .before .before .before .before
+  start = c .before .before .before .before
 
   abbrev I : Instance
   I = instanceOf (held (start .args .b))
@@ -46,7 +46,7 @@ module _ (c : tie.Else4) where
   kept-4 = sym (c .before .rule-4 .ensures) ∙ not-false _ (c .if4 .left)
 
 rule-1-requires : tie.Need-rule-1-requires
-rule-1-requires c κs = let s = c .before .before .before in (s .pre .0 .counted .passed, s .pre .1)
+rule-1-requires c κs = let s = c .before .before in (s .pre .0 .counted .passed, s .pre .1)
 
 returns : tie.Need-returns
 returns c = first-1 _ _ (sym (c .before .rule-1 .ensures) ∙ not-true _ (c .if1 .taken))

@@ -10,25 +10,16 @@ use Rattle.plan_rules.proofs.Ready.{told, run-below, follows-asks, foll
 use Rattle.plan_rules.proofs.rules.goes_from.Statement.{statement}
 use Rattle.plan_rules.proofs.rules.goes_from.Tie as tie
 
-enum-known-m : tie.Need-enum-known-m
-enum-known-m c = search needs
-
 -- the run is one of the train's
 module _ (c : tie.After-known-told) where
   abbrev start : tie.Start
-  start = c .before .before .before .before .before
+  start = c .before .before .before .before
 
   below : c .before .m .given .0 .0 < instanceOf (held (start .args .b)) .runs (start .args .train)
   below = run-below (instanceOf (held (start .args .b))) (start .args .train) (start .pre .2) (c .before .m .given .1)
 
 follows-requires : tie.Need-follows-requires
 follows-requires c κs = follows-asks (start c .pre .0) _ _ (start c .pre .1) (below c)
-
-enum-told : tie.Need-enum-told
-enum-told c = search needs
-
-enum-told-2 : tie.Need-enum-told-2
-enum-told-2 c = search needs
 
 -- the answer by the move
 abbrev answer : tie.Start → Move → Bool
@@ -43,13 +34,13 @@ returns c =
 
 returns-2 : tie.Need-returns-2
 unfolding ifRun
-returns-2 c = told (answer (c .before .before .before .before)) (c .enum-told .given .1)
+returns-2 c = told (answer (c .before .before .before)) (c .enum-told .given .1)
 
 returns-3 : tie.Need-returns-3
 unfolding ifRun
-returns-3 c = told (answer (c .before .before .before .before)) (c .enum-told2 .given .1)
+returns-3 c = told (answer (c .before .before .before)) (c .enum-told2 .given .1)
 
 pub goes-from-spec : {M : Type 1} → statement M
 goes-from-spec =
     tie.close
-    (tie.spec enum-known-m follows-requires enum-told enum-told-2 returns returns-2 returns-3)
+    (tie.spec (λ c. search needs) follows-requires (λ c. search needs) (λ c. search needs) returns returns-2 returns-3)

@@ -10,20 +10,11 @@ use Rattle.plan_rules.proofs.Ready.{told, run-below}
 use Rattle.plan_rules.proofs.rules.goes_on.Statement.{statement}
 use Rattle.plan_rules.proofs.rules.goes_on.Tie as tie
 
-enum-known-before : tie.Need-enum-known-before
-enum-known-before c = search needs
-
 goes-from-requires : tie.Need-goes-from-requires
 goes-from-requires c κs =
-    let s = c .before .before .before .before .before in
+    let s = c .before .before .before .before in
     let I = instanceOf (held (s .args .b)) in
     (s .pre .0, run-below I (s .args .train) (s .pre .1) (c .before .before2 .given .1), s .pre .2)
-
-enum-told : tie.Need-enum-told
-enum-told c = search needs
-
-enum-told-2 : tie.Need-enum-told-2
-enum-told-2 c = search needs
 
 -- the answer by the move before
 abbrev answer : tie.Start → Move → Bool
@@ -31,17 +22,17 @@ answer s before = ifRun before (λ r. ifRun (heldMove (s .args .m)) (λ q. insta
 
 returns : tie.Need-returns
 unfolding ifRun
-returns c = c .goes-from .ensures ∙ told (answer (c .before .before .before .before .before .before)) (c .before .before .before2 .given .1)
+returns c = c .goes-from .ensures ∙ told (answer (c .before .before .before .before .before)) (c .before .before .before2 .given .1)
 
 returns-2 : tie.Need-returns-2
 unfolding ifRun
-returns-2 c = told (answer (c .before .before .before .before)) (c .enum-told .given .1)
+returns-2 c = told (answer (c .before .before .before)) (c .enum-told .given .1)
 
 returns-3 : tie.Need-returns-3
 unfolding ifRun
-returns-3 c = told (answer (c .before .before .before .before)) (c .enum-told2 .given .1)
+returns-3 c = told (answer (c .before .before .before)) (c .enum-told2 .given .1)
 
 pub goes-on-spec : {M : Type 1} → statement M
 goes-on-spec =
     tie.close
-    (tie.spec enum-known-before goes-from-requires enum-told enum-told-2 returns returns-2 returns-3)
+    (tie.spec (λ c. search needs) goes-from-requires (λ c. search needs) (λ c. search needs) returns returns-2 returns-3)

@@ -10,12 +10,6 @@ use Rattle.layout.specs.Moves.{heldMove}
 use Rattle.plan_rules.proofs.rules.gone_fits.Statement.{statement}
 use Rattle.plan_rules.proofs.rules.gone_fits.Tie as tie
 
-is-gone-requires : tie.Need-is-gone-requires
-is-gone-requires c κs = search needs
-
-is-gone-requires-2 : tie.Need-is-gone-requires-2
-is-gone-requires-2 c κs = search needs
-
 -- the answer, by whether the train is gone now, was gone before, and may be gone after the run before
 abbrev answer : Bool → Bool → Bool → Bool → Bool
 answer late gone was leaves = (not gone || (late && (was || leaves))) && (not was || gone)
@@ -31,7 +25,7 @@ goes false = refl
 -- what the two moves are
 module _ (c : tie.After-is-gone2) where
   abbrev start : tie.Start
-  start = c .before .before .before .before
+  start = c .before .before .before
 
   abbrev now : Bool
   now = isGone (heldMove (start .args .m))
@@ -62,9 +56,6 @@ returns-2 c =
     let k = c .before .before in
     c .if2 .left ∙ of-cases k (start k .args .late) (gone-now k (c .if2 .left)) (gone-before k (c .before .if1 .taken))
 
-may-go-requires : tie.Need-may-go-requires
-may-go-requires c κs = search needs
-
 returns-3 : tie.Need-returns-3
 returns-3 c =
     let k = c .before .before in
@@ -92,11 +83,11 @@ pub gone-fits-spec : {M : Type 1} → statement M
 gone-fits-spec =
     tie.close
     (tie.spec
-    is-gone-requires
-    is-gone-requires-2
+    (λ c κs. search needs)
+    (λ c κs. search needs)
     returns
     returns-2
-    may-go-requires
+    (λ c κs. search needs)
     returns-3
     returns-4
     returns-5)

@@ -14,8 +14,8 @@ use Rattle.spec.specs.Instance.{Instance, instanceOf}
 use Rattle.spec.specs.Plan.{Plan, planOf, rule1}
 use Rattle.spec.specs.Held.{held}
 use Rattle.laws.proofs.Loops.{all-start, all-turn, all-broken, all-done}
-use Rattle.run_tables.proofs.Answers.{denied-held, forced-held}
-use Rattle.run_tables.proofs.Small.{nodes-is}
+use Rattle.tables.proofs.Answers.{denied-held, forced-held}
+use Rattle.tables.proofs.Small.{nodes-is}
 use Rattle.plan_rules.proofs.Ready.{nodes-inside}
 use Rattle.plan_rules.proofs.rules.rule_1.Statement.{statement}
 use Rattle.plan_rules.proofs.rules.rule_1.Tie as tie
@@ -50,9 +50,6 @@ shared-slice-read-border-fits c =
     let s = c .before .before .before .before .before in
     omega (arith, c .before .before .loop-test .taken, nodes-is (s .args .t1) (s .pre .0), nodes-inside _ _ (s .pre .1))
 
-border-fits-requires : tie.Need-border-fits-requires Inv-loop μ-loop
-border-fits-requires c κs = tt
-
 -- the answer about this node
 module _ (c : tie.After-border-fits Inv-loop μ-loop) where
   abbrev start : tie.Start Inv-loop μ-loop
@@ -77,12 +74,6 @@ returns c =
     let t = c .before .before .before .before in
     all-broken _ (t .before .loop .inv) (t .loop-test .taken) (sym (here (c .before)) ∙ not-true _ (c .if1 .taken))
 
-add-node : tie.Need-add-node Inv-loop μ-loop
-add-node c = omega arith
-
-loop-less : tie.Need-loop-less Inv-loop μ-loop
-loop-less c = omega arith
-
 loop-again : tie.Need-loop-again Inv-loop μ-loop
 loop-again c =
     let t = c .before .before .before .before in
@@ -100,9 +91,9 @@ rule-1-spec =
     loop-holds
     element-copy-out-border-fits
     shared-slice-read-border-fits
-    border-fits-requires
+    (λ c κs. tt)
     returns
-    add-node
-    loop-less
+    (λ c. omega arith)
+    (λ c. omega arith)
     loop-again
     returns-2)

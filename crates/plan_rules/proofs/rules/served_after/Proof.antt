@@ -11,8 +11,8 @@ use Rattle.spec.specs.Instance.{Instance, instanceOf, inWindow}
 use Rattle.spec.specs.Plan.{Plan, Move, runs, planOf, servedBy}
 use Rattle.spec.specs.Held.{held}
 use Rattle.laws.proofs.Loops.{any-turn, any-found, any-done}
-use Rattle.run_tables.proofs.Here.{few-trains, departs-here, window-answer}
-use Rattle.run_tables.proofs.Small.{intervals-is}
+use Rattle.tables.proofs.Here.{few-trains, departs-here, window-answer}
+use Rattle.tables.proofs.Small.{intervals-is}
 use Rattle.plan_rules.proofs.Ready.{planned, move-asks, move-own}
 use Rattle.plan_rules.proofs.rules.served_after.Statement.{statement}
 use Rattle.plan_rules.proofs.rules.served_after.Tie as tie
@@ -26,21 +26,18 @@ abbrev step : Instance → Plan → ℕ → ℕ → ℕ → Bool
 step I p i c t = inWindow I i c (t + 1) && serving I p i c t
 
 abbrev Inv-loop : tie.InvT-loop
-Inv-loop train number c l rows sizes plan b intervals t₀ t =
+Inv-loop train number c l runs plan b intervals t₀ t =
     servedBy (instanceOf (held b)) (planOf (instanceOf (held b)) plan) train number
     ≡ any (step (instanceOf (held b)) (planOf (instanceOf (held b)) plan) train number) (range t intervals)
 
 abbrev μ-loop : tie.MeasureT-loop
-μ-loop train number c l rows sizes plan b intervals t₀ t = intervals - t
+μ-loop train number c l runs plan b intervals t₀ t = intervals - t
 
 few : (s : tie.Start Inv-loop μ-loop) → s .args .train < 8
 few s = few-trains (s .args .t1) (s .pre .0 .passed) (s .args .train) (s .pre .0 .known)
 
-mul-t : tie.Need-mul-t Inv-loop μ-loop
-mul-t c = omega (arith, few (c .before .before .before))
-
 element-copy-out-t : tie.Need-element-copy-out-t Inv-loop μ-loop
-element-copy-out-t c = few (c .before .before .before)
+element-copy-out-t c = few (c .before .before)
 
 steps : (I : Instance) (p : Plan) (i c : ℕ) {d n : ℕ} → I .departure i ≡ d → I .intervals ≡ n
     → servedBy I p i c ≡ any (step I p i c) (range d n)
@@ -49,7 +46,7 @@ steps I p i c e f = ap₂ (λ (x y : ℕ). any (step I p i c) (range x y)) e f
 
 loop-holds : tie.Need-loop-holds Inv-loop μ-loop
 loop-holds c =
-    let s = c .before .before .before in
+    let s = c .before .before in
     let b = s .args .t1 in
     let p = s .pre .0 in
     let i = s .args .train in
@@ -58,7 +55,7 @@ loop-holds c =
 -- in the loop
 module _ (c : tie.In-loop Inv-loop μ-loop) where
   abbrev start : tie.Start Inv-loop μ-loop
-  start = c .before .before .before .before .before
+  start = c .before .before .before .before
 
   abbrev I : Instance
   I = instanceOf (held (start .args .t1))
@@ -68,12 +65,6 @@ module _ (c : tie.In-loop Inv-loop μ-loop) where
 
   small : c .before .loop .t < 65535
   small = omega (arith, c .loop-test .taken, start .pre .0 .passed .packed .numbers .intervals)
-
-add-in-window : tie.Need-add-in-window Inv-loop μ-loop
-add-in-window c = omega (arith, small c)
-
-in-window-requires : tie.Need-in-window-requires Inv-loop μ-loop
-in-window-requires c κs = tt
 
 move-at-requires : tie.Need-move-at-requires Inv-loop μ-loop
 move-at-requires c κs =
@@ -119,12 +110,6 @@ returns c =
     (sym (c .if2 .taken) ∙ r .run-serves .ensures
     ∙ ap (λ (m : Move). runs m (λ x. I t .serves (start t .args .train) (start t .args .number) x)) (r .before .move-at .ensures)))
 
-add-t : tie.Need-add-t Inv-loop μ-loop
-add-t c = omega (arith, small (k (c .before)))
-
-loop-less : tie.Need-loop-less Inv-loop μ-loop
-loop-less c = omega (arith, k (c .before) .loop-test .taken)
-
 loop-again : tie.Need-loop-again Inv-loop μ-loop
 loop-again c =
     let v = c .before in
@@ -146,15 +131,15 @@ served-after-spec =
     (tie.spec
     Inv-loop
     μ-loop
-    mul-t
+    (λ c. omega (arith, few (c .before .before)))
     element-copy-out-t
     loop-holds
-    add-in-window
-    in-window-requires
+    (λ c. omega (arith, small c))
+    (λ c κs. tt)
     move-at-requires
     run-serves-requires
     returns
-    add-t
-    loop-less
+    (λ c. omega (arith, small (k (c .before))))
+    (λ c. omega (arith, k (c .before) .loop-test .taken))
     loop-again
     returns-2)

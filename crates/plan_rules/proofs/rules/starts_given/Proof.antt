@@ -7,19 +7,16 @@ use Prim.Native.Nat.{_<_}
 use Rattle.spec.specs.Instance.{instanceOf}
 use Rattle.spec.specs.Plan.{Move, runs}
 use Rattle.spec.specs.Held.{held}
-use Rattle.run_tables.proofs.Answers.{given-answer}
-use Rattle.run_tables.proofs.Here.{same-train, size-small, few-trains}
+use Rattle.tables.proofs.Answers.{given-answer}
+use Rattle.tables.proofs.Here.{same-train, size-small, few-trains}
 use Rattle.plan_rules.proofs.Ready.{told, run-below, few, start-inside, starting}
 use Rattle.plan_rules.proofs.rules.starts_given.Statement.{statement}
 use Rattle.plan_rules.proofs.rules.starts_given.Tie as tie
 
-enum-known-m : tie.Need-enum-known-m
-enum-known-m c = search needs
-
 -- the run is one of the train's
 module _ (c : tie.After-known-told) where
   abbrev start : tie.Start
-  start = c .before .before .before .before .before
+  start = c .before .before .before .before
 
   below : c .before .m .given .0 .0 < instanceOf (held (start .args .t1)) .runs (start .args .train)
   below = run-below (instanceOf (held (start .args .t1))) (start .args .train) (start .pre .1) (c .before .m .given .1)
@@ -40,12 +37,6 @@ is-given-requires c κs =
     let p = s .pre .0 in
     (start-inside p _ (below k) (c .start-of .ensures), size-small (s .args .t1) (p .passed) (s .args .train) (p .known))
 
-enum-told : tie.Need-enum-told
-enum-told c = search needs
-
-enum-told-2 : tie.Need-enum-told-2
-enum-told-2 c = search needs
-
 -- the answer by the move
 abbrev answer : tie.Start → Move → Bool
 answer s m = runs m (λ r. instanceOf (held (s .args .t1)) .given (s .args .train) r)
@@ -62,23 +53,23 @@ returns c =
 
 returns-2 : tie.Need-returns-2
 unfolding runs
-returns-2 c = told (answer (c .before .before .before .before)) (c .enum-told .given .1)
+returns-2 c = told (answer (c .before .before .before)) (c .enum-told .given .1)
 
 returns-3 : tie.Need-returns-3
 unfolding runs
-returns-3 c = told (answer (c .before .before .before .before)) (c .enum-told2 .given .1)
+returns-3 c = told (answer (c .before .before .before)) (c .enum-told2 .given .1)
 
 pub starts-given-spec : {M : Type 1} → statement M
 starts-given-spec =
     tie.close
     (tie.spec
-    enum-known-m
+    (λ c. search needs)
     mul-is-given
     element-copy-out-is-given
     start-of-requires
     is-given-requires
-    enum-told
-    enum-told-2
+    (λ c. search needs)
+    (λ c. search needs)
     returns
     returns-2
     returns-3)

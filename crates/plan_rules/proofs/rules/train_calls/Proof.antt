@@ -21,15 +21,15 @@ abbrev step : Instance → Plan → ℕ → ℕ → Bool
 step I p i c = servedAtDeparture I i c || servedBy I p i c
 
 abbrev Inv-loop : tie.InvT-loop
-Inv-loop b train l rows sizes plan calls number₀ number =
+Inv-loop b train l runs plan calls number₀ number =
     keepsCalls (instanceOf (held b)) (planOf (instanceOf (held b)) plan) train
     ≡ all (step (instanceOf (held b)) (planOf (instanceOf (held b)) plan) train) (range number calls)
 
 abbrev μ-loop : tie.MeasureT-loop
-μ-loop b train l rows sizes plan calls number₀ number = calls - number
+μ-loop b train l runs plan calls number₀ number = calls - number
 
 calls-of-requires : tie.Need-calls-of-requires Inv-loop μ-loop
-calls-of-requires c κs = c .before .before .before .pre .0 .passed .packed .counts
+calls-of-requires c κs = c .before .before .pre .0 .passed .packed .counts
 
 steps : (b : BookStruct) (p : Plan) (i : ℕ) {n : ℕ} → n ≡ length (callsOf (held b) i)
     → keepsCalls (instanceOf (held b)) p i ≡ all (step (instanceOf (held b)) p i) (range 0 n)
@@ -37,10 +37,10 @@ unfolding keepsCalls instanceOf compile
 steps b p i {n} e = ap (λ (k : ℕ). all (step (instanceOf (held b)) p i) (upTo k)) (sym e) ∙ all-start (step (instanceOf (held b)) p i) n
 
 loop-holds : tie.Need-loop-holds Inv-loop μ-loop
-loop-holds c = let s = c .before .before .before .before in steps (s .args .b) _ (s .args .train) (c .calls-of .ensures .0)
+loop-holds c = let s = c .before .before .before in steps (s .args .b) _ (s .args .train) (c .calls-of .ensures .0)
 
 call-served-requires : tie.Need-call-served-requires Inv-loop μ-loop
-call-served-requires c κs = let s = c .before .before .before .before .before .before in (s .pre .0, s .pre .1)
+call-served-requires c κs = let s = c .before .before .before .before .before in (s .pre .0, s .pre .1)
 
 returns : tie.Need-returns Inv-loop μ-loop
 returns c =
@@ -51,10 +51,7 @@ add-number : tie.Need-add-number Inv-loop μ-loop
 add-number c =
     let t = c .before .before in
     let k = t .before .before in
-    omega (arith, t .loop-test .taken, k .calls-of .ensures .1, k .before .before .before .before .pre .0 .passed .packed .counts .calls)
-
-loop-less : tie.Need-loop-less Inv-loop μ-loop
-loop-less c = omega (arith, c .before .before .loop-test .taken)
+    omega (arith, t .loop-test .taken, k .calls-of .ensures .1, k .before .before .before .pre .0 .passed .packed .counts .calls)
 
 loop-again : tie.Need-loop-again Inv-loop μ-loop
 loop-again c =
@@ -75,6 +72,6 @@ train-calls-spec =
     call-served-requires
     returns
     add-number
-    loop-less
+    (λ c. omega (arith, c .before .before .loop-test .taken))
     loop-again
     returns-2)

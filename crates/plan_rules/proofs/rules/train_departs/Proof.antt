@@ -9,16 +9,17 @@ use Rattle.model.specs.declared.Book.{Book as BookStruct}
 use Rattle.spec.specs.Instance.{Instance, instanceOf}
 use Rattle.spec.specs.Plan.{Plan, Move, runs, absentBefore, departs}
 use Rattle.spec.specs.Held.{held}
-use Rattle.run_tables.proofs.Here.{noTrain, few-trains, departs-here, departs-asks}
+use Rattle.listing.proofs.Trains.{noTrain}
+use Rattle.tables.proofs.Here.{few-trains, departs-here, departs-asks}
 use Rattle.plan_rules.specs.Kept.{Planned}
 use Rattle.plan_rules.proofs.Ready.{planned, move-asks, move-own}
 use Rattle.plan_rules.proofs.rules.train_departs.Statement.{statement}
 use Rattle.plan_rules.proofs.rules.train_departs.Tie as tie
 
 -- the departure, inside the plan
-module _ (c : tie.After-shared-slice-known3) where
+module _ (c : tie.After-shared-slice-known2) where
   abbrev start : tie.Start
-  start = c .before .before .before
+  start = c .before .before
 
   abbrev b : BookStruct
   b = start .args .t1
@@ -34,9 +35,6 @@ module _ (c : tie.After-shared-slice-known3) where
 
   inside : d < b .intervals
   inside = departs-asks b (start .pre .0 .passed) (start .args .train) (start .pre .0 .known) .0
-
-mul-d : tie.Need-mul-d
-mul-d c = omega (arith, few c)
 
 element-copy-out-d : tie.Need-element-copy-out-d
 element-copy-out-d c = few c
@@ -82,7 +80,7 @@ pub train-departs-spec : {M : Type 1} → statement M
 train-departs-spec =
     tie.close
     (tie.spec
-    mul-d
+    (λ c. omega (arith, few c))
     element-copy-out-d
     move-at-requires
     absent-before-requires

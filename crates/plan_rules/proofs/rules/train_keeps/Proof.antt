@@ -9,7 +9,7 @@ use Rattle.model.specs.declared.Book.{Book as BookStruct}
 use Rattle.spec.specs.Instance.{instanceOf}
 use Rattle.spec.specs.Plan.{planOf}
 use Rattle.spec.specs.Held.{held}
-use Rattle.run_tables.proofs.Here.{few-trains, length-here, length-asks}
+use Rattle.tables.proofs.Here.{few-trains, length-here, length-asks}
 use Rattle.plan_rules.specs.declared.rules.TrainRule.{TrainRule}
 use Rattle.plan_rules.specs.Kept.{TrainReady, trainKeeps}
 use Rattle.plan_rules.proofs.rules.train_keeps.Statement.{statement}
@@ -17,35 +17,32 @@ use Rattle.plan_rules.proofs.rules.train_keeps.Tie as tie
 
 -- the train is one of the book's
 few : (s : tie.Start) → s .args .train < 8
-few s = few-trains (s .args .t2) (s .pre .0 .passed) (s .args .train) (s .pre .0 .known)
-
-mul-length-in-segments : tie.Need-mul-length-in-segments
-mul-length-in-segments c = omega (arith, few (c .before .before .before))
+few s = few-trains (s .args .t1) (s .pre .0 .passed) (s .args .train) (s .pre .0 .known)
 
 element-copy-out-length-in-segments : tie.Need-element-copy-out-length-in-segments
-element-copy-out-length-in-segments c = few (c .before .before .before)
+element-copy-out-length-in-segments c = few (c .before .before)
 
 length-in-segments-requires : tie.Need-length-in-segments-requires
 length-in-segments-requires c κs =
-    let s = c .before .before .before .before in
-    length-asks (s .args .t2) (s .pre .0 .passed) (s .args .train) (s .pre .0 .known)
+    let s = c .before .before .before in
+    length-asks (s .args .t1) (s .pre .0 .passed) (s .args .train) (s .pre .0 .known)
 
--- with its length, its tables are ready
+-- with its length, its table is ready
 module _ (c : tie.After-length-in-segments) where
   abbrev start : tie.Start
-  start = c .before .before .before .before .before
+  start = c .before .before .before .before
 
   abbrev b : BookStruct
-  b = start .args .t2
+  b = start .args .t1
 
   abbrev i : ℕ
   i = start .args .train
 
-  ready : TrainReady b i (c .length-in-segments .result) (now (start .args .rows)) (now (start .args .sizes))
+  ready : TrainReady b i (c .length-in-segments .result) (now (start .args .runs))
   ready =
       let p = start .pre .0 in
       let l = length-here b (p .passed) i (p .known) (c .length-in-segments .ensures) in
-      record { passed = p .passed; known = p .known; reached = l .0; short = l .1; tables = start .pre .1 }
+      record { passed = p .passed; known = p .known; reached = l .0; short = l .1; table = start .pre .1 }
 
   -- the answer by the rule
   abbrev answer : TrainRule → Bool
@@ -54,26 +51,14 @@ module _ (c : tie.After-length-in-segments) where
   told : {rule : TrainRule} → start .args .rule ≡ rule → answer rule ≡ answer (start .args .rule)
   told e = ap answer (sym e)
 
-enum-told : tie.Need-enum-told
-enum-told c = search needs
-
 train-departs-requires : tie.Need-train-departs-requires
 train-departs-requires c κs = let k = c .before .before in (ready k, start k .pre .0 .fits)
-
-enum-told-2 : tie.Need-enum-told-2
-enum-told-2 c = search needs
 
 train-leaves-requires : tie.Need-train-leaves-requires
 train-leaves-requires c κs = let k = c .before .before in (ready k, start k .pre .0 .fits)
 
-enum-told-3 : tie.Need-enum-told-3
-enum-told-3 c = search needs
-
 train-runs-requires : tie.Need-train-runs-requires
 train-runs-requires c κs = let k = c .before .before in (ready k, start k .pre .0 .fits)
-
-enum-told-4 : tie.Need-enum-told-4
-enum-told-4 c = search needs
 
 train-calls-requires : tie.Need-train-calls-requires
 train-calls-requires c κs = let k = c .before .before in (ready k, start k .pre .0 .fits)
@@ -98,16 +83,16 @@ pub train-keeps-spec : {M : Type 1} → statement M
 train-keeps-spec =
     tie.close
     (tie.spec
-    mul-length-in-segments
+    (λ c. omega (arith, few (c .before .before)))
     element-copy-out-length-in-segments
     length-in-segments-requires
-    enum-told
+    (λ c. search needs)
     train-departs-requires
-    enum-told-2
+    (λ c. search needs)
     train-leaves-requires
-    enum-told-3
+    (λ c. search needs)
     train-runs-requires
-    enum-told-4
+    (λ c. search needs)
     train-calls-requires
     returns
     returns-2

@@ -14,8 +14,9 @@ use Rattle.spec.specs.Plan.{runs, planOf, leavesRightly}
 use Rattle.spec.specs.Held.{held}
 use Rattle.laws.proofs.Loops.{all-turn, all-broken, all-done}
 use Rattle.layout.specs.Moves.{heldMove}
-use Rattle.run_tables.proofs.Here.{noTrain, few-trains, departs-here, departs-asks}
-use Rattle.run_tables.proofs.Small.{intervals-is}
+use Rattle.listing.proofs.Trains.{noTrain}
+use Rattle.tables.proofs.Here.{few-trains, departs-here, departs-asks}
+use Rattle.tables.proofs.Small.{intervals-is}
 use Rattle.plan_rules.proofs.Ready.{planned, move-asks, prior-own}
 use Rattle.plan_rules.proofs.Loops.{prior, prior-next, goneStep, leaveStep, leave-steps}
 use Rattle.plan_rules.proofs.rules.train_leaves.Statement.{statement}
@@ -26,28 +27,25 @@ abbrev step : BookStruct → Bytes → ℕ → ℕ → ℕ → Bool
 step b plan train d t = leaveStep (instanceOf (held b)) (planOf (instanceOf (held b)) plan) train d t
 
 abbrev Inv-loop : tie.InvT-loop
-Inv-loop train l rows sizes plan b to d intervals before₀ t₀ before t =
+Inv-loop train l runs plan b to d intervals before₀ t₀ before t =
     (leavesRightly (instanceOf (held b)) (planOf (instanceOf (held b)) plan) train ≡ all (step b plan train d) (range t intervals))
     × (heldMove before ≡ prior (planOf (instanceOf (held b)) plan .move train) t)
 
 abbrev μ-loop : tie.MeasureT-loop
-μ-loop train l rows sizes plan b to d intervals before₀ t₀ before t = intervals - t
+μ-loop train l runs plan b to d intervals before₀ t₀ before t = intervals - t
 
 few : (s : tie.Start Inv-loop μ-loop) → s .args .train < 8
 few s = few-trains (s .args .t1) (s .pre .0 .passed) (s .args .train) (s .pre .0 .known)
 
 goal-requires : tie.Need-goal-requires Inv-loop μ-loop
-goal-requires c κs = c .before .before .before .pre .0 .passed .packed .counts
-
-mul-d : tie.Need-mul-d Inv-loop μ-loop
-mul-d c = omega (arith, few (c .before .before .before .before))
+goal-requires c κs = c .before .before .pre .0 .passed .packed .counts
 
 element-copy-out-d : tie.Need-element-copy-out-d Inv-loop μ-loop
-element-copy-out-d c = few (c .before .before .before .before)
+element-copy-out-d c = few (c .before .before .before)
 
 loop-holds : tie.Need-loop-holds Inv-loop μ-loop
 loop-holds c =
-    let s = c .before .before .before .before in
+    let s = c .before .before .before in
     let b = s .args .t1 in
     let p = s .pre .0 in
     let i = s .args .train in (
@@ -58,7 +56,7 @@ loop-holds c =
 
 module _ (c : tie.In-loop Inv-loop μ-loop) where
   abbrev start : tie.Start Inv-loop μ-loop
-  start = c .before .before .before .before .before .before
+  start = c .before .before .before .before .before
 
 move-at-requires : tie.Need-move-at-requires Inv-loop μ-loop
 move-at-requires c κs = move-asks (planned (start c .pre .0) (start c .pre .1)) (c .before .loop .t) (c .loop-test .taken)
@@ -96,9 +94,6 @@ returns c =
 add-t : tie.Need-add-t Inv-loop μ-loop
 add-t c = omega (arith, k (c .before) .loop-test .taken, start (k (c .before)) .pre .0 .passed .packed .numbers .intervals)
 
-loop-less : tie.Need-loop-less Inv-loop μ-loop
-loop-less c = omega (arith, k (c .before) .loop-test .taken)
-
 loop-again : tie.Need-loop-again Inv-loop μ-loop
 loop-again c =
     let t = k (c .before) in (
@@ -116,13 +111,13 @@ train-leaves-spec =
     Inv-loop
     μ-loop
     goal-requires
-    mul-d
+    (λ c. omega (arith, few (c .before .before .before)))
     element-copy-out-d
     loop-holds
     move-at-requires
     gone-fits-requires
     returns
     add-t
-    loop-less
+    (λ c. omega (arith, k (c .before) .loop-test .taken))
     loop-again
     returns-2)

@@ -13,7 +13,7 @@ use Rattle.spec.specs.Plan.{Plan, planOf, runsOn}
 use Rattle.spec.specs.Held.{held}
 use Rattle.laws.proofs.Loops.{all-turn, all-broken, all-done}
 use Rattle.layout.specs.Moves.{heldMove}
-use Rattle.run_tables.proofs.Small.{intervals-is}
+use Rattle.tables.proofs.Small.{intervals-is}
 use Rattle.plan_rules.proofs.Ready.{planned, move-asks, move-own, prior-own}
 use Rattle.plan_rules.proofs.Loops.{prior, prior-next, runStep, run-steps}
 use Rattle.plan_rules.proofs.rules.train_runs.Statement.{statement}
@@ -28,22 +28,22 @@ step b plan train t =
     runStep (instanceOf (held b)) (choices b plan) train (prior (choices b plan .move train) t) (choices b plan .move train t)
 
 abbrev Inv-loop : tie.InvT-loop
-Inv-loop b train l rows sizes plan intervals before₀ t₀ before t =
+Inv-loop b train l runs plan intervals before₀ t₀ before t =
     (runsOn (instanceOf (held b)) (choices b plan) train ≡ all (step b plan train) (range t intervals))
     × (heldMove before ≡ prior (choices b plan .move train) t)
 
 abbrev μ-loop : tie.MeasureT-loop
-μ-loop b train l rows sizes plan intervals before₀ t₀ before t = intervals - t
+μ-loop b train l runs plan intervals before₀ t₀ before t = intervals - t
 
 loop-holds : tie.Need-loop-holds Inv-loop μ-loop
 loop-holds c =
-    let s = c .before .before .before in
+    let s = c .before .before in
     let b = s .args .b in
     (run-steps (instanceOf (held b)) _ (s .args .train) (intervals-is b (s .pre .0 .passed)), refl)
 
 module _ (c : tie.In-loop Inv-loop μ-loop) where
   abbrev start : tie.Start Inv-loop μ-loop
-  start = c .before .before .before .before .before
+  start = c .before .before .before .before
 
 move-at-requires : tie.Need-move-at-requires Inv-loop μ-loop
 move-at-requires c κs = move-asks (planned (start c .pre .0) (start c .pre .1)) (c .before .loop .t) (c .loop-test .taken)
@@ -79,9 +79,6 @@ returns c =
 add-t : tie.Need-add-t Inv-loop μ-loop
 add-t c = omega (arith, k (c .before) .loop-test .taken, start (k (c .before)) .pre .0 .passed .packed .numbers .intervals)
 
-loop-less : tie.Need-loop-less Inv-loop μ-loop
-loop-less c = omega (arith, k (c .before) .loop-test .taken)
-
 loop-again : tie.Need-loop-again Inv-loop μ-loop
 loop-again c =
     let t = k (c .before) in (
@@ -103,6 +100,6 @@ train-runs-spec =
     goes-on-requires
     returns
     add-t
-    loop-less
+    (λ c. omega (arith, k (c .before) .loop-test .taken))
     loop-again
     returns-2)

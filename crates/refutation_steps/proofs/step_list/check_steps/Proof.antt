@@ -1,5 +1,5 @@
--- `step_list::check_steps` meets its contract. The loop's invariant: the verdict on the whole file is the verdict on what stands from here on, by
--- the clauses so far; those were added to the slices, which are ready for the next step. Assumes nothing.
+-- `step_list::check_steps` meets its contract. The loop's invariant: the verdict on the whole file is the verdict on what stands from
+-- here on, by the clauses so far; those were added to the slices, which are ready for the next step. Assumes nothing.
 use Rattle.refutation_steps.proofs.step_list.check_steps.Statement.{statement}
 use Rattle.refutation_steps.proofs.step_list.check_steps.Tie as tie
 use borrow.Author.Needs.{needs}
@@ -9,18 +9,17 @@ use Prim.Native.Nat.{ℕ, _+_, _-_, _≤_, _<_}
 use lib.ListN.{length, take, drop}
 use Rattle.spec.specs.Refutation.{clausesOf}
 use Rattle.refutation_file.specs.Found.{stepBytes}
-use Rattle.refutation_steps.specs.Checked.{stepChecked, Leaves}
+use Rattle.refutation_steps.specs.Checked.{oneMore, stepChecked, Leaves}
 use Rattle.refutation_steps.specs.declared.one_step.StepAnswer.{StepAnswer}
 use Rattle.refutation_steps.specs.declared.one_step.StepAnswer.the-variants.{Proved}
 use Rattle.refutation_steps.proofs.Along.{Along, sets-out, stopped, next, ended, trailed, went-on, ran-out}
 
 abbrev Inv-loop : tie.InvT-loop
-Inv-loop r words-used clause-count words₀ starts₀ values₀ trail₀ used₀ count₀ at₀ step₀ words starts values trail used count at step =
-    Along r words-used clause-count words₀ starts₀ values₀ trail₀ words starts values trail used count at step
+Inv-loop r words₀ starts₀ values₀ trail₀ filled₀ at₀ step₀ words starts values trail filled at step =
+    Along r filled₀ words₀ starts₀ values₀ trail₀ words starts values trail filled at step
 
 abbrev μ-loop : tie.MeasureT-loop
-μ-loop r words-used clause-count words₀ starts₀ values₀ trail₀ used₀ count₀ at₀ step₀ words starts values trail used count at step =
-    length r - at
+μ-loop r words₀ starts₀ values₀ trail₀ filled₀ at₀ step₀ words starts values trail filled at step = length r - at
 
 loop-holds : tie.Need-loop-holds Inv-loop μ-loop
 loop-holds c = sets-out _ (c .before .before .before .before .pre)
@@ -28,115 +27,121 @@ loop-holds c = sets-out _ (c .before .before .before .before .pre)
 check-step-requires : tie.Need-check-step-requires Inv-loop μ-loop
 check-step-requires c κs = let known = c .before .before .before .before .before .loop .inv in (known .within, known .ready)
 
--- behind the check of a step
-module _ (s : tie.After-check-step Inv-loop μ-loop) where
-  -- the head of the loop, and the function's entry
+-- behind the check of a step, with the slices at hand again
+module _ (c : tie.After-slice-known6 Inv-loop μ-loop) where
+  -- the check, the head of the loop, and the function's entry
+  abbrev check : tie.After-check-step Inv-loop μ-loop
+  check = c .before .before .before .before .before .before .before
+
   abbrev head : tie.At-loop Inv-loop μ-loop
-  head = s .before .before .before .before .before .before
+  head = check .before .before .before .before .before .before
 
   abbrev entry : tie.Start Inv-loop μ-loop
   entry = head .before .before .before .before .before
 
   -- bytes were left
   some : head .loop .at < length (entry .args .r .now)
-  some = s .before .before .before .before .before .loop-test .taken
+  some = check .before .before .before .before .before .loop-test .taken
 
-  module _ {x : StepAnswer} (told : s .check-step .result ≡ x) where
-    -- the answer is the right one
-    answer : let h = head .loop in
-        x ≡ stepChecked (length (h .words)) (length (h .starts)) (length (h .values)) (clausesOf (take (h .used) (h .words)))
-        (drop (h .at) (entry .args .r .now))
-    answer = sym told ∙ s .check-step .ensures .0
+  -- what the check says where its answer is x: that it is the right one, and what the slices are left with
+  abbrev Says : StepAnswer → Type 0
+  Says x =
+      let h = head .loop in
+      let l = check .check-step .last .1 .1 .1 in
+      let s = drop (h .at) (entry .args .r .now) in
+      (x ≡ stepChecked (length (h .words)) (length (h .starts)) (length (h .values)) (clausesOf (take (h .filled .words) (h .words))) s)
+      × Leaves x s (h .filled) (h .words) (h .starts) (h .values) (h .trail) (l .0) (l .1 .0) (l .1 .1 .0) (l .1 .1 .1 .0)
 
-    -- and the slices are left as it says
-    leaves : let h = head .loop in
-        let l = s .check-step .last .1 .1 .1 .1 in
-        Leaves x (drop (h .at) (entry .args .r .now)) (h .used) (h .count) (h .words) (h .starts) (h .values) (h .trail)
-        (l .0) (l .1 .0) (l .1 .1 .0) (l .1 .1 .1 .0)
-    leaves =
-        let h = head .loop in
-        let l = s .check-step .last .1 .1 .1 .1 in
-        subst
-        (λ (a : StepAnswer). Leaves a (drop (h .at) (entry .args .r .now)) (h .used) (h .count) (h .words) (h .starts) (h .values) (h .trail)
-        (l .0) (l .1 .0) (l .1 .1 .0) (l .1 .1 .1 .0))
-        told (s .check-step .ensures .1)
-
-  module _ {n h : ℕ} (told : s .check-step .result ≡ Proved n h) where
-    -- where a proved step ends
-    end : head .loop .at + stepBytes n h ≤ length (entry .args .r .now)
-    end = next (head .loop .inv) some (answer told)
-
-    -- its words and its clause stand in the slices
-    words-room : head .loop .used + (n + 1) ≤ length (entry .args .words .now)
-    words-room =
-        let e : length (s .check-step .last .1 .1 .1 .1 .0) ≡ length (head .loop .words) = search needs in
-        omega (arith, leaves told .0 .wordsRoom, e, head .loop .inv .wordsLength)
-
-    starts-room : head .loop .count + 1 ≤ length (entry .args .starts .now)
-    starts-room =
-        let e : length (s .check-step .last .1 .1 .1 .1 .1 .0) ≡ length (head .loop .starts) = search needs in
-        omega (arith, leaves told .0 .startsRoom, e, head .loop .inv .startsLength)
+  says : {x : StepAnswer} → check .check-step .result ≡ x → Says x
+  says told = subst Says told (check .check-step .ensures)
 
 -- where a step was refused
 returns : tie.Need-returns Inv-loop μ-loop
 returns c =
-    let told = c .before .before .number .given .1 in
-    let s = c .before .before .before .before .before .before .before .before .before .before .before in
-    stopped (head s .loop .inv) (some s) (c .detail-of .ensures) (answer s told) (leaves s told)
+    let n = c .before .before in
+    let s = n .before .before in
+    let said = says s (n .number .given .1) in
+    stopped (head s .loop .inv) (some s) (c .detail-of .ensures) (said .0) (said .1)
 
 -- where it was proved
-abbrev proved : tie.After-literals Inv-loop μ-loop → tie.After-check-step Inv-loop μ-loop
-proved c = c .before .before .before .before .before .before .before .before .before
+module _ (c : tie.After-literals Inv-loop μ-loop) where
+  abbrev here : tie.After-slice-known6 Inv-loop μ-loop
+  here = c .before .before
+
+  abbrev literals : ℕ
+  literals = c .literals .given .0 .0
+
+  abbrev hints : ℕ
+  hints = c .literals .given .0 .1 .0
+
+  said : Says here (Proved literals hints)
+  said = says here (c .literals .given .1)
+
+  -- where it ends
+  end : head here .loop .at + stepBytes literals hints ≤ length (entry here .args .r .now)
+  end = next (head here .loop .inv) (some here) (said .0)
+
+  -- its words and its clause stand in the slices
+  words-room : oneMore (head here .loop .filled) literals .words ≤ length (entry here .args .words .now)
+  words-room =
+      let e : length (check here .check-step .last .1 .1 .1 .0) ≡ length (head here .loop .words) = search needs in
+      omega (arith, said .1 .0 .wordsRoom, e, head here .loop .inv .wordsLength)
+
+  starts-room : oneMore (head here .loop .filled) literals .clauses ≤ length (entry here .args .starts .now)
+  starts-room =
+      let e : length (check here .check-step .last .1 .1 .1 .1 .0) ≡ length (head here .loop .starts) = search needs in
+      omega (arith, said .1 .0 .startsRoom, e, head here .loop .inv .startsLength)
 
 step-end-requires : tie.Need-step-end-requires Inv-loop μ-loop
-step-end-requires c κs = omega (arith, end (proved (c .before)) (c .before .literals .given .1))
+step-end-requires c κs = omega (arith, end (c .before))
 
 -- the empty step
 returns-2 : tie.Need-returns-2 Inv-loop μ-loop
 returns-2 c =
-    let p = c .before .before .before .before in
-    let s = proved p in
-    let told = p .literals .given .1 in
-    ended (head s .loop .inv) (some s) (answer s told) (leaves s told) (c .before .if1 .taken)
-    (sym (c .before .before .step-end .ensures) ∙ c .if2 .taken)
+    let e = c .before .before in
+    let p = e .before .before in
+    let s = here p in
+    ended (head s .loop .inv) (some s) (said p .0) (said p .1) (c .before .if1 .taken) (sym (e .step-end .ensures) ∙ c .if2 .taken)
 
 returns-3 : tie.Need-returns-3 Inv-loop μ-loop
 returns-3 c =
-    let p = c .before .before .before .before in
-    let s = proved p in
-    let told = p .literals .given .1 in
-    trailed (head s .loop .inv) (some s) (answer s told) (leaves s told) (c .before .if1 .taken)
-    (λ e. c .if2 .left (c .before .before .step-end .ensures ∙ e))
+    let e = c .before .before in
+    let p = e .before .before in
+    let s = here p in
+    trailed (head s .loop .inv) (some s) (said p .0) (said p .1) (c .before .if1 .taken) (λ k. c .if2 .left (e .step-end .ensures ∙ k))
 
 -- a step with literals
-abbrev here : tie.Else1 Inv-loop μ-loop → tie.After-literals Inv-loop μ-loop
-here c = c .before .before .before
+abbrev proved : tie.Else1 Inv-loop μ-loop → tie.After-literals Inv-loop μ-loop
+proved c = c .before .before .before
 
-add-used : tie.Need-add-used Inv-loop μ-loop
-add-used c = omega (arith, words-room (proved (here c)) (here c .literals .given .1))
+add-filled : tie.Need-add-filled Inv-loop μ-loop
+add-filled c = omega (arith, words-room (proved c))
 
-add-used-2 : tie.Need-add-used-2 Inv-loop μ-loop
-add-used-2 c = omega (arith, words-room (proved (here c)) (here c .literals .given .1))
+add-filled-2 : tie.Need-add-filled-2 Inv-loop μ-loop
+add-filled-2 c = omega (arith, words-room (proved (c .before)))
 
-add-count : tie.Need-add-count Inv-loop μ-loop
-add-count c = omega (arith, starts-room (proved (here c)) (here c .literals .given .1))
+add-filled-3 : tie.Need-add-filled-3 Inv-loop μ-loop
+add-filled-3 c =
+    let p = proved (c .before .before) in
+    omega (arith, starts-room p, entry (here p) .good .1 .1 .1 .0)
 
 add-step : tie.Need-add-step Inv-loop μ-loop
 add-step c =
-    let s = proved (here c) in
-    omega (arith, end s (here c .literals .given .1), head s .loop .inv .steps)
+    let p = proved (c .before .before) in
+    omega (arith, end p, head (here p) .loop .inv .steps)
 
 loop-less : tie.Need-loop-less Inv-loop μ-loop
 loop-less c =
-    let s = proved (here c) in
-    omega (arith, end s (here c .literals .given .1), some s, c .before .step-end .ensures)
+    let x = c .before .before in
+    omega (arith, end (proved x), some (here (proved x)), x .before .step-end .ensures)
 
 loop-again : tie.Need-loop-again Inv-loop μ-loop
 loop-again c =
-    let s = proved (here c) in
-    let told = here c .literals .given .1 in
-    went-on (head s .loop .inv) (some s) (answer s told) (leaves s told) (c .if1 .left) (c .before .step-end .ensures) (search needs)
-    (search needs) (search needs) (search needs)
+    let x = c .before .before in
+    let p = proved x in
+    let s = here p in
+    went-on (head s .loop .inv) (some s) (said p .0) (said p .1) (x .if1 .left) (x .before .step-end .ensures) (search needs) (search needs)
+    (search needs) (search needs)
 
 -- no step is left
 returns-4 : tie.Need-returns-4 Inv-loop μ-loop
@@ -169,9 +174,9 @@ check-steps-spec =
     (λ c. search needs)
     (λ c. search needs)
     returns-3
-    add-used
-    add-used-2
-    add-count
+    add-filled
+    add-filled-2
+    add-filled-3
     add-step
     loop-less
     loop-again

@@ -11,17 +11,17 @@ use Prim.Native.Nat.{ℕ, _+_, _-_, _≤_, _<_}
 use denote.Ref.{now}
 use lib.ListN.{length, getD}
 use lib.Dec.{eqb}
-use Rattle.run_tables.specs.Placed.{bordersOf}
+use Rattle.tables.specs.Placed.{bordersOf}
 use Rattle.laws.proofs.Tests.{from-true, from-denied}
 use Rattle.sections.proofs.Labelled.{Labelled, labelled-start, labelled-meets, labelled-border, labelled-open, labelled-end}
 use Rattle.sections.proofs.labels.label_sections.Statement.{statement}
 use Rattle.sections.proofs.labels.label_sections.Tie as tie
 
 abbrev Inv-loop : tie.InvT-loop
-Inv-loop b meets end borders labels₀ at₀ labels at = (at ≤ end) × Labelled b (bordersOf borders) meets end at labels₀ labels
+Inv-loop b meets borders labels₀ end at₀ labels at = (at ≤ end) × Labelled b (bordersOf borders) meets at labels₀ labels
 
 abbrev μ-loop : tie.MeasureT-loop
-μ-loop b meets end borders labels₀ at₀ labels at = end - at
+μ-loop b meets borders labels₀ end at₀ labels at = end - at
 
 number-labels-requires : tie.Need-number-labels-requires Inv-loop μ-loop
 number-labels-requires c κs =
@@ -32,7 +32,7 @@ loop-holds : tie.Need-loop-holds Inv-loop μ-loop
 loop-holds c =
     let d = c .before .before in
     let g = d .before .before .before .before .before in
-    (omega arith, labelled-start (g .args .b) (g .pre .0) _ _ (g .args .end) (g .pre .1) _ _ (g .pre .3) (d .number-labels .ensures))
+    (omega arith, labelled-start (g .args .b) (g .pre .0) _ _ (g .pre .1) _ _ (g .pre .3) (d .number-labels .ensures))
 
 add-loop : tie.Need-add-loop Inv-loop μ-loop
 add-loop c = omega arith
@@ -49,12 +49,12 @@ module _ (c : tie.In-loop Inv-loop μ-loop) where
   at = c .before .loop .at
 
   room : at + 2 < length meets
-  room = omega (arith, c .loop-test .taken, given .pre .1 .room)
+  room = omega (arith, c .loop-test .taken, c .loop-test .taken)
 
   met : (getD meets at 0 < given .args .b .«node_count») × (getD meets (at + 1) 0 < given .args .b .«segment_count»)
       × (getD meets (at + 2) 0 < given .args .b .«segment_count»)
   met =
-      labelled-meets (given .args .b) (given .pre .0) _ meets (given .args .end) (given .pre .1) at _ _ (c .before .loop .inv .1)
+      labelled-meets (given .args .b) (given .pre .0) _ meets (given .pre .1) at _ _ (c .before .loop .inv .1)
       (c .loop-test .taken)
 
 shared-slice-read-wide : tie.Need-shared-slice-read-wide Inv-loop μ-loop
@@ -114,17 +114,17 @@ module _ (c : tie.Joined1 Inv-loop μ-loop) where
   unfolding bordersOf
   node-is x e = rw (← c .before .before .wide .ensures .0) e
 
-  turn : Labelled (start .args .b) (bordersOf (now (start .args .borders))) (meets inside) (start .args .end) (at inside + 3)
+  turn : Labelled (start .args .b) (bordersOf (now (start .args .borders))) (meets inside) (at inside + 3)
       (inside .before .before .before .before .number-labels .last .0) (c .if1 .labels)
   turn =
       let i = inside .before .loop .inv .1 in
       let t = inside .loop-test .taken in
       ⊎-elim
       (λ w.
-      labelled-open (start .args .b) (start .pre .0) _ _ (start .args .end) (start .pre .1) (at inside) _ _ i t
+      labelled-open (start .args .b) (start .pre .0) _ _ (start .pre .1) (at inside) _ _ i t
       (from-denied (node-is _ (ne-eqb _ _ (w .0 .taken)))) _ _ _ (w .3 .ensures .0) (w .5 .ensures .0) (w .9 ∙ w .6 .ensures))
       (λ w.
-      labelled-border (start .args .b) (start .pre .0) _ _ (start .args .end) (start .pre .1) (at inside) _ _ i t
+      labelled-border (start .args .b) (start .pre .0) _ _ (start .pre .1) (at inside) _ _ i t
       (from-true (node-is _ (eq-eqb _ _ (w .0 .left)))) _ (w .1))
       (c .if1 .came)
 
@@ -139,7 +139,7 @@ returns : tie.Need-returns Inv-loop μ-loop
 returns c =
     let d = c .before .before .before .before in
     let g = d .before .before .before .before .before in
-    labelled-end (g .args .b) (g .pre .0) _ _ (g .args .end) (g .pre .1) _ _ (g .pre .3) (d .number-labels .ensures)
+    labelled-end (g .args .b) (g .pre .0) _ _ (g .pre .1) _ _ (g .pre .3) (d .number-labels .ensures)
     _ _ (c .before .loop .inv .1) (c .loop-test .left)
 
 pub label-sections-spec : {M : Type 1} → statement M

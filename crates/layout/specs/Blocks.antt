@@ -1,0 +1,35 @@
+-- Blocks of variables, as the code holds them by value. Assumes nothing.
+use mathlib.Core.Path.{_≡_}
+use Prim.Native.Nat.{ℕ, _≤_, _<_}
+use Rattle.model.specs.declared.Book.{Book as BookStruct}
+use Rattle.spec.specs.Instance.{instanceOf, trainLength}
+use Rattle.spec.specs.Formula as formula
+use Rattle.spec.specs.Held.{held}
+use Rattle.tables.specs.Tables.{Passed}
+use Rattle.layout.specs.declared.blocks.Block.{Block}
+
+-- a block begins below this, and its claims do, which leaves room for all literals
+abbrev pub blockRoom : ℕ
+blockRoom = 900000000
+
+-- the first variable of a train is at most 96 + 8 · 65536 · 321, and of a block 65536 · 321 more
+abbrev pub firstMost : ℕ
+firstMost = 168296544
+
+abbrev pub baseMost : ℕ
+baseMost = 189333600
+
+-- the block of some interval of a train: the train's numbers, and its first variable
+pub record BlockHeld (b : BookStruct) (k : Block) : Type 0 where
+  pub passed : Passed b
+  pub known : k .train < b .«train_count»
+  pub runs : k .runs ≡ instanceOf (held b) .runs (k .train)
+  pub length : k .length ≡ trainLength (held b) (k .train)
+  pub short : k .length ≤ 8
+  pub small : k .base < blockRoom
+
+-- the block of train i in interval t
+pub record BlockOf (b : BookStruct) (i t : ℕ) (k : Block) : Type 0 where
+  pub block : BlockHeld b k
+  pub train : k .train ≡ i
+  pub base : k .base ≡ formula.base (instanceOf (held b)) i t

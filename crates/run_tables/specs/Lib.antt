@@ -1,3 +1,0 @@
-pub mod Placed
-pub mod Tables
-pub mod Ready

@@ -1,0 +1,47 @@
+-- From the answer to a book's bytes: the struct holds a book that passed, and a check of it goes on from its instance; or the check
+-- stops with the book's refusal. Assumes nothing.
+use mathlib.Core.Path.{_≡_, sym, ap, _∙_, subst}
+use Prim.Native.Nat.{ℕ, _<_}
+use lib.ListN.{getD}
+use Rattle.spec.specs.Lists.{Bytes, Verdict, accepted, refused, andThen}
+use Rattle.spec.specs.Book.{Book}
+use Rattle.spec.specs.Read.{readBook}
+use Rattle.spec.specs.Instance.{Instance, instanceOf}
+use Rattle.spec.specs.Held.{held, packed}
+use Rattle.spec.specs.Entry.{readInstance}
+use Rattle.listing.specs.Listed.{runCounts}
+use Rattle.reader.proofs.Packing.{held-packed}
+use Rattle.reader.specs.declared.reading.Answer.the-variants.{Accepted, Refused}
+use Rattle.reader.specs.declared.reading.BookRead.{BookRead}
+use Rattle.reader.specs.BookAnswers.{bookReadOf}
+use Rattle.reader.proofs.Accepted.{accepted-by, refused-by}
+use Rattle.reader.proofs.Verdicts.{goes-on, stops}
+use Rattle.reader.proofs.Way.{bytes-of}
+use Rattle.tables.specs.Tables.{Passed}
+use Rattle.tables.proofs.Passing.{passed-read}
+
+module _ (bytes : Bytes) (r : BookRead) (e : r ≡ bookReadOf (readBook bytes)) where
+  -- an accepted book
+  module _ (told : r .answer ≡ Accepted) where
+    found : (b : Book) × (readBook bytes ≡ accepted b) × (r .book ≡ packed b)
+    found = accepted-by r (readBook bytes) e told
+
+    same-book : held (r .book) ≡ found .0
+    same-book = ap held (found .2) ∙ held-packed (found .0)
+
+    pub passed : ((i : ℕ) → getD bytes i 0 < 256) → Passed (r .book)
+    passed known = subst Passed (sym (found .2)) (passed-read bytes (found .0) (bytes-of bytes known) (found .1))
+
+    pub counted : r .counts ≡ runCounts (held (r .book))
+    counted =
+        ap (λ (x : BookRead). x .counts) e
+        ∙ ap (λ (v : Verdict Book). bookReadOf v .counts) (found .1)
+        ∙ ap runCounts (sym same-book)
+
+    pub went-on : {A : Type 0} (f : Instance → Verdict A) → f (instanceOf (held (r .book))) ≡ andThen (readInstance bytes) f
+    went-on f =
+        ap (λ (b : Book). f (instanceOf b)) same-book ∙ sym (goes-on bytes f (found .0) (found .1))
+
+  -- a refusal
+  pub stopped : {A : Type 0} {n d : ℕ} (f : Instance → Verdict A) → r .answer ≡ Refused n d → andThen (readInstance bytes) f ≡ refused n d
+  stopped {n = n} {d} f told = stops bytes f n d (refused-by r (readBook bytes) e told)

@@ -1,0 +1,15 @@
+pub mod Rests
+pub mod PlaceRows
+pub mod Trains
+pub mod Passing
+pub mod Small
+pub mod Answers
+pub mod Held
+pub mod Here
+pub mod Links
+pub mod MeetRows
+pub mod MeetsFew
+pub mod MeetTables
+pub mod Triples
+pub mod Filled
+pub mod Instances

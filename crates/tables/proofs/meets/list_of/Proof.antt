@@ -1,0 +1,135 @@
+-- `meets::list_of` meets its contract. The loop's invariant: the pairs of the first u second segments stand in the table from
+-- `at` on, and `end` is where they end. Assumes nothing.
+use borrow.Author.Needs.{needs}
+use native.Mathlib.Omega.{arith}
+use mathlib.Core.Path.{_≡_, ap, _∙_}
+use mathlib.Core.Logic.{⊎-elim}
+use Prim.Native.Nat.{ℕ, _+_, _*_, _-_, _≤_}
+use denote.Ref.{now}
+use lib.ListN.{length, set}
+use Rattle.spec.specs.Lists.{Bytes}
+use Rattle.spec.specs.Held.{held}
+use Rattle.network.proofs.Held.{share-at}
+use Rattle.network.proofs.Walks.{length-of-map}
+use Rattle.tables.proofs.MeetRows.{Listed, listed-none, listed-next, listed-same, listed-length, listed-all, stored-three}
+use Rattle.tables.proofs.MeetRows.{pair, pair-listed, pair-none, pairs-most, meets-of}
+use Rattle.tables.proofs.meets.list_of.Statement.{statement}
+use Rattle.tables.proofs.meets.list_of.Tie as tie
+
+abbrev Inv-loop : tie.InvT-loop
+Inv-loop node s table₀ at b n first end₀ u₀ table end u = (u ≤ n) × (end ≤ at + u * 3) × Listed (pair (held b) node s) table₀ at u table end
+
+abbrev μ-loop : tie.MeasureT-loop
+μ-loop node s table₀ at b n first end₀ u₀ table end u = n - u
+
+mul-first : tie.Need-mul-first Inv-loop μ-loop
+mul-first c = omega arith
+
+element-copy-out-first : tie.Need-element-copy-out-first Inv-loop μ-loop
+element-copy-out-first c = omega arith
+
+loop-holds : tie.Need-loop-holds Inv-loop μ-loop
+loop-holds c = (omega arith, omega arith, listed-none _ _ _)
+
+full : (c : tie.Start Inv-loop μ-loop) → length (c .args .t1 .segments) ≡ 64
+full c = search (needs, length-of-map)
+
+mul-meet : tie.Need-mul-meet Inv-loop μ-loop
+mul-meet c = omega arith
+
+element-copy-out-meet : tie.Need-element-copy-out-meet Inv-loop μ-loop
+element-copy-out-meet c = omega arith
+
+meet-requires : tie.Need-meet-requires Inv-loop μ-loop
+meet-requires c κs = search needs
+
+store-byte-requires : tie.Need-store-byte-requires Inv-loop μ-loop
+store-byte-requires c κs = search needs
+
+add-store-byte : tie.Need-add-store-byte Inv-loop μ-loop
+add-store-byte c = omega arith
+
+store-byte-requires-2 : tie.Need-store-byte-requires-2 Inv-loop μ-loop
+store-byte-requires-2 c κs = search needs
+
+add-store-byte-2 : tie.Need-add-store-byte-2 Inv-loop μ-loop
+add-store-byte-2 c = omega arith
+
+store-byte-requires-3 : tie.Need-store-byte-requires-3 Inv-loop μ-loop
+store-byte-requires-3 c κs = search needs
+
+add-end : tie.Need-add-end Inv-loop μ-loop
+add-end c = omega arith
+
+add-u : tie.Need-add-u Inv-loop μ-loop
+add-u c = omega arith
+
+loop-less : tie.Need-loop-less Inv-loop μ-loop
+loop-less c = omega arith
+
+-- a turn lists the pair where it meets
+module _ (c : tie.Joined1 Inv-loop μ-loop) where
+  abbrev given : tie.Start Inv-loop μ-loop
+  given = c .before .before .before .before .before .before .before
+
+  abbrev u : ℕ
+  u = c .before .before .before .before .loop .u
+
+  turn : Listed (pair (held (given .args .t1)) (given .args .node) (given .args .s)) (now (given .args .table)) (given .args .at)
+      (u + 1) (c .if1 .table) (c .if1 .end)
+  turn =
+      let a = given .args in
+      let before = c .before .before .before .before .loop in
+      let room = c .before .before .before .loop-test .taken in
+      let flag = share-at (a .t1) (a .node) (a .s) u (given .pre .2) room (c .before .meet .ensures) in
+      ⊎-elim
+      (λ w.
+      let row = pair-listed (held (a .t1)) (a .node) (a .s) u flag (w .0 .taken) in
+      let first = w .2 .ensures in
+      let second = w .6 .ensures ∙ ap (λ (t : Bytes). set t (before .end + 1) (a .s)) first in
+      let third = w .10 .ensures ∙ ap (λ (t : Bytes). set t (before .end + 2) u) second in
+      listed-next _ _ _ (before .inv .2) (rw row (w .14))
+      (rw row (w .13 ∙ third ∙ stored-three (before .table) (before .end) (a .node) (a .s) u)))
+      (λ w. listed-same _ _ _ (before .inv .2) (pair-none (held (a .t1)) (a .node) (a .s) u flag (w .0 .left)) (w .2) (w .1))
+      (c .if1 .came)
+
+loop-again : tie.Need-loop-again Inv-loop μ-loop
+loop-again c =
+    let a = given c .args in
+    let l = turn c in
+    (omega arith, omega (arith, l .ends, pairs-most (held (a .t1)) (a .node) (a .s) (u c + 1)), l)
+
+same-length : tie.Need-same-length Inv-loop μ-loop
+same-length c = listed-length _ _ _ (c .before .loop .inv .2)
+
+returns : tie.Need-returns Inv-loop μ-loop
+returns c =
+    let k = c .before in
+    let g = k .before .before .before in
+    let a = g .args in
+    let done : k .loop .u ≡ a .t1 .«segment_count» = omega arith in
+    listed-all _ _ _ (k .loop .inv .2) done (meets-of (a .t1) (g .pre .0) (full g) (a .node) (a .s))
+
+pub list-of-spec : {M : Type 1} → statement M
+list-of-spec =
+    tie.close
+    (tie.spec
+    Inv-loop
+    μ-loop
+    mul-first
+    element-copy-out-first
+    loop-holds
+    mul-meet
+    element-copy-out-meet
+    meet-requires
+    store-byte-requires
+    add-store-byte
+    store-byte-requires-2
+    add-store-byte-2
+    store-byte-requires-3
+    add-end
+    add-u
+    loop-less
+    loop-again
+    same-length
+    returns)

@@ -1,0 +1,92 @@
+-- `places::same_places` meets its contract. The loop's invariant: the two places are the same where what stands from i on is.
+-- Assumes nothing.
+use borrow.Author.Tests.{eq-eqb, ne-eqb}
+use native.Mathlib.Omega.{arith}
+use native.Mathlib.Nat.{add-zero}
+use mathlib.Core.Path.{_≡_, sym, _∙_}
+use mathlib.Core.Bool.{_&&_}
+use mathlib.Core.List.{List}
+use Prim.Native.Nat.{ℕ, _+_, _-_, _≤_}
+use denote.Ref.{now}
+use lib.ListN.{getD}
+use lib.Dec.{eqb}
+use Rattle.spec.specs.Lists.{same}
+use Rattle.tables.specs.Placed.{placeAt}
+use Rattle.tables.proofs.Rests.{behind, same-next, same-end}
+use Rattle.tables.proofs.places.same_places.Statement.{statement}
+use Rattle.tables.proofs.places.same_places.Tie as tie
+
+abbrev Inv-loop : tie.InvT-loop
+Inv-loop table at others from l i₀ i =
+    (i ≤ l)
+    × (same (placeAt table at l) (placeAt others from l) ≡ same (behind table at l i) (behind others from l i))
+
+abbrev μ-loop : tie.MeasureT-loop
+μ-loop table at others from l i₀ i = l - i
+
+loop-holds : tie.Need-loop-holds Inv-loop μ-loop
+unfolding placeAt
+loop-holds c = (omega arith, simp add-zero)
+
+add-if1 : tie.Need-add-if1 Inv-loop μ-loop
+add-if1 c = omega arith
+
+shared-slice-read-if1 : tie.Need-shared-slice-read-if1 Inv-loop μ-loop
+shared-slice-read-if1 c = omega arith
+
+add-if1-2 : tie.Need-add-if1-2 Inv-loop μ-loop
+add-if1-2 c = omega arith
+
+shared-slice-read-if1-2 : tie.Need-shared-slice-read-if1-2 Inv-loop μ-loop
+shared-slice-read-if1-2 c = omega arith
+
+-- a turn: this pair of elements, and those behind it
+module _ (c : tie.In-loop Inv-loop μ-loop) where
+  abbrev given : tie.Start Inv-loop μ-loop
+  given = c .before .before
+
+  abbrev table : List ℕ
+  table = now (given .args .table)
+
+  abbrev others : List ℕ
+  others = now (given .args .others)
+
+  abbrev i : ℕ
+  i = c .before .loop .i
+
+  turn : same (placeAt table (given .args .at) (given .args .l)) (placeAt others (given .args .from) (given .args .l))
+      ≡ (eqb (getD table (given .args .at + i) 0) (getD others (given .args .from + i) 0)
+      && same (behind table (given .args .at) (given .args .l) (i + 1)) (behind others (given .args .from) (given .args .l) (i + 1)))
+  turn = c .before .loop .inv .1 ∙ same-next _ _ _ _ _ _ (c .loop-test .taken) (given .pre .0) (given .pre .1)
+
+returns : tie.Need-returns Inv-loop μ-loop
+returns c = let h = ne-eqb _ _ (c .if1 .taken) in sym (turn (c .before .before .before) ∙ simp h)
+
+add-i : tie.Need-add-i Inv-loop μ-loop
+add-i c = omega arith
+
+loop-less : tie.Need-loop-less Inv-loop μ-loop
+loop-less c = omega arith
+
+loop-again : tie.Need-loop-again Inv-loop μ-loop
+loop-again c = let h = eq-eqb _ _ (c .if1 .left) in (omega arith, turn (c .before .before .before) ∙ simp h)
+
+returns-2 : tie.Need-returns-2 Inv-loop μ-loop
+returns-2 c = sym (c .before .loop .inv .1 ∙ same-end _ _ _ _ _ _ (c .loop-test .left))
+
+pub same-places-spec : {M : Type 1} → statement M
+same-places-spec =
+    tie.close
+    (tie.spec
+    Inv-loop
+    μ-loop
+    loop-holds
+    add-if1
+    shared-slice-read-if1
+    add-if1-2
+    shared-slice-read-if1-2
+    returns
+    add-i
+    loop-less
+    loop-again
+    returns-2)

@@ -1,0 +1,4 @@
+pub mod Placed
+pub mod Tables
+pub mod Meets
+pub mod Ready

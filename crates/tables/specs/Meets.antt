@@ -1,0 +1,20 @@
+-- Which segments meet at which node, as bytes, in the order of family H. Assumes nothing.
+use Prim.Native.Nat.{ℕ}
+use mathlib.Core.List.{[], _∷_}
+use Rattle.spec.specs.Lists.{Bytes, upTo, each, only}
+use Rattle.spec.specs.Instance.{Instance}
+
+-- three bytes for each second segment that meets the first at the node
+unfoldable pub meetsOf : Instance → ℕ → ℕ → Bytes
+meetsOf I n s = each (upTo (I .segments)) λ u. only (I .meet n s u) (n ∷ s ∷ u ∷ [])
+
+unfoldable pub meetsAt : Instance → ℕ → Bytes
+meetsAt I n = each (upTo (I .segments)) λ s. meetsOf I n s
+
+-- "by node, then ordered pair of segments of one TTD there"
+unfoldable pub meetBytes : Instance → Bytes
+meetBytes I = each (upTo (I .nodes)) λ n. meetsAt I n
+
+-- how many bytes it has at most
+abbrev pub meetRoom : ℕ
+meetRoom = 24192

@@ -1,0 +1,59 @@
+-- What the tables of a book that passed hold: how many runs each train has, its runs, and which of them follow a run. Assumes
+-- nothing.
+use mathlib.Core.Path.{_≡_}
+use Prim.Native.Nat.{ℕ, _+_, _*_, _-_, _≤_, _<_}
+use mathlib.Core.List.{List}
+use lib.ListN.{length, getD}
+use lib.Seq.{slice}
+use lib.Dec.{T}
+use Rattle.model.specs.declared.Book.{Book as BookStruct}
+use Rattle.spec.specs.Lists.{Bytes}
+use Rattle.spec.specs.Book.{Book}
+use Rattle.spec.specs.Runs.{startPlace, endPlace}
+use Rattle.spec.specs.Instance.{instanceOf, runLists, runAt, trainLength}
+use Rattle.spec.specs.Held.{held}
+use Rattle.listing.specs.Listed.{trainBytes, tableBytes}
+use Rattle.tables.specs.Placed.{placeAt, sizeAt, startAt, endAt, runHeld}
+use Rattle.tables.specs.Tables.{Passed, leastFrom, trainChains, allChains}
+use Rattle.tables.specs.Meets.{meetBytes}
+
+-- of each train: its number of runs
+pub record Counted (b : BookStruct) (counts : List ℕ) : Type 0 where
+  pub passed : Passed b
+  pub runs : (i : ℕ) → i < b .«train_count» → getD counts i 0 ≡ instanceOf (held b) .runs i
+
+-- of one train: each run, its length, and the places that it starts at and ends at
+pub record RunsHeld (b : Book) (i : ℕ) (runs : Bytes) : Type 0 where
+  pub long : length runs ≡ trainBytes
+  pub few : instanceOf b .runs i ≤ 256
+  pub run : (r : ℕ) → r < instanceOf b .runs i → runHeld runs r ≡ runAt (runLists b) i r
+  pub size : (r : ℕ) → r < instanceOf b .runs i → sizeAt runs r ≡ length (runAt (runLists b) i r)
+  pub least : (r : ℕ) → r < instanceOf b .runs i → trainLength b i ≤ sizeAt runs r
+  pub most : (r : ℕ) → r < instanceOf b .runs i → sizeAt runs r ≤ 16
+  pub starting : (r : ℕ) → r < instanceOf b .runs i
+      → placeAt runs (startAt r) (trainLength b i) ≡ startPlace (trainLength b i) (runAt (runLists b) i r)
+  pub ending : (r : ℕ) → r < instanceOf b .runs i
+      → placeAt runs (endAt runs r (trainLength b i)) (trainLength b i) ≡ endPlace (trainLength b i) (runAt (runLists b) i r)
+
+-- and the runs that follow a run, as a chain: two numbers a run, the first that follows it and, behind it in such a chain, the
+-- next; the number of runs stands at the end
+pub record ChainsHeld (b : Book) (i : ℕ) (chains : List ℕ) : Type 0 where
+  pub long : length chains ≡ trainChains
+  pub first : (r : ℕ) → r < instanceOf b .runs i → getD chains (2 * r) 0 ≡ leastFrom (instanceOf b .follows i r) 0 (instanceOf b .runs i)
+  pub next : (r q : ℕ) → r < instanceOf b .runs i → q < instanceOf b .runs i → T (instanceOf b .follows i r q)
+      → getD chains (2 * q + 1) 0 ≡ leastFrom (instanceOf b .follows i r) (q + 1) (instanceOf b .runs i - (q + 1))
+
+-- every train's runs, each train in its part of the table
+pub record RunsReady (b : BookStruct) (counts : List ℕ) (runs : Bytes) : Type 0 where
+  pub counted : Counted b counts
+  pub long : length runs ≡ tableBytes
+  pub held′ : (i : ℕ) → i < b .«train_count» → RunsHeld (held b) i (slice (i * trainBytes) (i * trainBytes + trainBytes) runs)
+
+-- and every train's chains
+pub record ChainsReady (b : BookStruct) (chains : List ℕ) : Type 0 where
+  pub long : length chains ≡ allChains
+  pub held′ : (i : ℕ) → i < b .«train_count» → ChainsHeld (held b) i (slice (i * trainChains) (i * trainChains + trainChains) chains)
+
+-- what meets
+abbrev pub MeetsReady : BookStruct → Bytes → Type 0
+MeetsReady b meets = meets ≡ meetBytes (instanceOf (held b))
