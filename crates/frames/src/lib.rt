@@ -18,6 +18,9 @@ pub const OPENING: usize = 4;
 // How many bytes a literal or a hint has.
 pub const NUMBER: usize = 4;
 
+// How many bytes a time has.
+pub const TIME: usize = 1;
+
 // The stretch of a file from `at` up to `end`.
 pub struct Cursor {
     pub at: usize,
@@ -29,7 +32,7 @@ pub struct HeadFrame {}
 impl HeadFrame {
     pub const KIND: usize = 1;
 
-    pub const LEN: usize = 5;
+    pub const LEN: usize = 4 + TIME;
 
     // The payload's stretch, from its place on.
     pub fn cursor(at: usize) -> Cursor
@@ -106,10 +109,10 @@ pub struct TrainFrame {}
 impl TrainFrame {
     pub const KIND: usize = 5;
 
-    pub const LEN: usize = 6;
+    pub const LEN: usize = 5 + TIME;
 
     // Where the count n stands: the fixed part's last byte.
-    pub const COUNT_AT: usize = 5;
+    pub const COUNT_AT: usize = 4 + TIME;
 
     // The stretch of the payload's fixed part, from the payload's place on.
     pub fn cursor(at: usize) -> Cursor
@@ -128,7 +131,7 @@ pub struct CallFrame {}
 impl CallFrame {
     pub const KIND: usize = 6;
 
-    pub const LEN: usize = 4;
+    pub const LEN: usize = 2 + 2 * TIME;
 
     // The payload's stretch, from its place on.
     pub fn cursor(at: usize) -> Cursor
@@ -208,6 +211,14 @@ pub fn pair(s: &[u8], at: usize) -> usize
     let low = s[at] as usize;
     let high = s[at + 1] as usize;
     low + 256 * high
+}
+
+// The time at a place.
+pub fn time(s: &[u8], at: usize) -> usize
+    requires { ⌜ at + frames.timeWidth ≤ length (now s) ⌝ }
+    ensures { λ r. ⌜ (r ≡ field (now (s .entry)) at frames.timeWidth) × (r < 65536) ⌝ }
+{
+    s[at] as usize
 }
 
 // What stands at a place of a file: a whole frame, with its kind and its payload's length, or no

@@ -2,7 +2,7 @@
 use mathlib.Core.Path.{_≡_}
 use mathlib.Core.Bool.{true, false}
 use mathlib.Core.Option.{none, some}
-use Prim.Native.Nat.{_≤_, _<_}
+use Prim.Native.Nat.{ℕ, _+_, _≤_, _<_}
 use native.Mathlib.Omega.{arith}
 use lib.ListN.{length, getD}
 use borrow.Author.Tests.{lt-leb, le-leb, lt-ltb, le-ltb}
@@ -10,7 +10,7 @@ use Rattle.laws.proofs.Numbers.{field-one}
 use Rattle.laws.proofs.Tests.{and-iff, leb-iff, false-of}
 use Rattle.spec.specs.Lists.{Bytes, firstFault}
 use Rattle.spec.specs.Numbers.{field}
-use Rattle.spec.specs.Frames.{Kind, headKind, nodeKind, segmentKind, joinKind, trainKind, callKind, unbreakableKind}
+use Rattle.spec.specs.Frames.{Kind, headKind, nodeKind, segmentKind, joinKind, trainKind, callKind, unbreakableKind, timeWidth}
 use Rattle.spec.specs.Book.{Book, greatestNodeKind, callsOf}
 use Rattle.spec.specs.Read.{contentFaults, headFits, headOf, segmentFits, segmentIn, joinFits, joinIn, joinRepeats, trainFits, trainIn, reachFits, placeFits, callFits, callIn, someHas, mayDivide, maxNodes, maxSegments, maxJoins, maxTrains, maxCalls, maxIntervals, between}
 
@@ -139,7 +139,7 @@ module _ (p : Bytes) where
   unfolding joinIn
   join-read e = simp (field-one p 0 (omega arith), field-one p 1 (omega arith), field-one p 2 (omega arith))
 
-  pub call-read : length p ≡ 4 → record { train = getD p 0 0; segment = getD p 1 0; first = getD p 2 0; last = getD p 3 0 } ≡ callIn p
+  pub call-read : 4 ≤ length p → {first last : ℕ} → first ≡ field p 2 timeWidth → last ≡ field p (2 + timeWidth) timeWidth
+      → record { train = getD p 0 0; segment = getD p 1 0; first = first; last = last } ≡ callIn p
   unfolding callIn
-  call-read e =
-      simp (field-one p 0 (omega arith), field-one p 1 (omega arith), field-one p 2 (omega arith), field-one p 3 (omega arith))
+  call-read h e f = rw (e, f) (simp (field-one p 0 (omega arith), field-one p 1 (omega arith)))

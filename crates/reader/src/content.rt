@@ -6,12 +6,14 @@ use frames::HeadFrame;
 use frames::JoinFrame;
 use frames::NodeFrame;
 use frames::SegmentFrame;
+use frames::TIME;
 use frames::TrainFrame;
 use frames::UnbreakableFrame;
 use frames::bytes::all_below;
 use frames::bytes::row_of;
 use frames::bytes::wide;
 use frames::pair;
+use frames::time;
 use model::Book;
 use model::Call;
 use model::Join;
@@ -82,7 +84,7 @@ pub fn add_head(b: Book, p: &[u8]) -> Added
 {
     let metres = pair(p, 0);
     let seconds = pair(p, 2);
-    let intervals = wide(p[4]);
+    let intervals = time(p, 4);
     if metres < 1 || seconds < 1 || intervals < 1 || MAX_INTERVALS < intervals {
         return refused(b, 6);
     }
@@ -229,8 +231,8 @@ pub fn add_call(b: Book, p: &[u8]) -> Added
     let c = Call {
         train: p[0],
         segment: p[1],
-        first: wide(p[2]),
-        last: wide(p[3]),
+        first: time(p, 2),
+        last: time(p, 2 + TIME),
     };
     if MAX_CALLS <= calls_of(b, wide(c.train)) {
         return refused(b, 5);
@@ -251,7 +253,7 @@ fn train_fits(b: Book, p: &[u8]) -> bool
     ensures { λ r. ⌜ r ≡ read.trainFits (held b) (read.trainIn (now (p .entry))) ⌝ }
 {
     1 <= pair(p, 0)
-        && wide(p[4]) < b.intervals
+        && time(p, 4) < b.intervals
         && all_below(p, TrainFrame::LEN, 2 * b.segment_count)
 }
 
@@ -263,7 +265,7 @@ fn train_numbers(p: &[u8]) -> Train
     Train {
         metres: pair(p, 0),
         speed: pair(p, 2),
-        departure: wide(p[4]),
+        departure: time(p, 4),
         size: 0,
         place: [0u8; MAX_REACH],
     }

@@ -5,6 +5,7 @@ use borrow.Author.Tests.{not-true, not-false}
 use mathlib.Core.Path.{_≡_, sym, ap, _∙_}
 use mathlib.Core.Bool.{Bool, true, false}
 use Prim.Native.Nat.{ℕ, _<_}
+use native.Mathlib.Omega.{arith}
 use lib.ListN.{length, getD}
 use Rattle.laws.proofs.Tests.{and-iff, ltb-iff, from-true}
 use Rattle.spec.specs.Frames.{callKind}
@@ -17,21 +18,23 @@ use Rattle.reader.proofs.Tables.{call-full, call-wrong, call-fine, call
 use Rattle.reader.proofs.content.add_call.Statement.{statement}
 use Rattle.reader.proofs.content.add_call.Tie as tie
 
-abbrev start : tie.After-wide2 → tie.Start
-start c = c .before .before .before .before .before .before .before
+abbrev start : tie.After-time2 → tie.Start
+start c = c .before .before .before .before .before
 
 -- the call that the code makes
-abbrev made : tie.After-wide2 → Call
+abbrev made : tie.After-time2 → Call
 made c =
     let p = start c .args .p .now in
-    record { train = getD p 0 0; segment = getD p 1 0; first = c .before .before .wide .result; last = c .wide2 .result }
+    record { train = getD p 0 0; segment = getD p 1 0; first = c .before .time .result; last = c .time2 .result }
 
 -- is the payload's
-made-is : (c : tie.After-wide2) → made c ≡ callIn (start c .args .p .now)
-made-is c = simp (c .before .before .wide .ensures .0, c .wide2 .ensures .0) (call-read (start c .args .p .now) (start c .pre .2))
+made-is : (c : tie.After-time2) → made c ≡ callIn (start c .args .p .now)
+made-is c =
+    let s = start c in
+    call-read (s .args .p .now) (omega (arith, s .pre .2)) (c .before .time .ensures .0) (c .time2 .ensures .0)
 
 -- where the call was made, at the two tests
-abbrev first-test : tie.After-calls-of → tie.After-wide2
+abbrev first-test : tie.After-calls-of → tie.After-time2
 first-test c = c .before .before
 
 abbrev second-test : tie.After-call-fits → tie.After-calls-of
@@ -42,7 +45,7 @@ few-is : (c : tie.After-calls-of)
     → let s = start (first-test c) in c .calls-of .result ≡ length (callsOf (held (s .args .b)) (callIn (s .args .p .now) .train))
 few-is c =
     let s = start (first-test c) in
-    let e = c .before .wide3 .ensures .0 ∙ ap {B = ℕ} (λ k. k .train) (made-is (first-test c)) in
+    let e = c .before .wide .ensures .0 ∙ ap {B = ℕ} (λ k. k .train) (made-is (first-test c)) in
     c .calls-of .ensures .0 ∙ ap (λ (i : ℕ). length (callsOf (held (s .args .b)) i)) e
 
 -- whether it fits is what `call_fits` answers
@@ -89,7 +92,6 @@ pub add-call-spec : {M : Type 1} → statement M
 add-call-spec =
     tie.close
     (tie.spec
-    (λ c. search needs)
     (λ c. search needs)
     (λ c. search needs)
     (λ c κs. search needs)

@@ -2,48 +2,41 @@
 -- struct with the Head's numbers is the one of the book with them. Assumes nothing.
 use borrow.Author.Needs.{needs}
 use borrow.Author.Tests.{ltb-true, ltb-false}
-use mathlib.Core.Path.{_≡_, sym, _∙_}
 use mathlib.Core.Logic.{⊎-elim}
 use native.Mathlib.Omega.{arith}
-use Rattle.laws.proofs.Numbers.{field-one}
-use Rattle.spec.specs.Numbers.{field}
-use Rattle.spec.specs.Frames.{headKind, timeWidth}
+use Rattle.spec.specs.Frames.{headKind}
 use Rattle.reader.proofs.Packing.{put-head, refuses, accepts}
 use Rattle.reader.proofs.Tables.{head-wrong, head-fine}
 use Rattle.reader.proofs.content.add_head.Statement.{statement}
 use Rattle.reader.proofs.content.add_head.Tie as tie
 
--- the intervals are the payload's last number
-intervals-is : (c : tie.After-wide) → c .wide .result ≡ field (c .before .before .before .before .before .args .p .now) 4 timeWidth
-intervals-is c = let l = c .before .before .before .before .before .pre .1 in c .wide .ensures .0 ∙ sym (field-one _ 4 (omega arith))
-
 returns : tie.Need-returns
 returns c =
     let a = c .before .before in
-    let s = a .before .before .before .before .before in
-    let m = a .before .before .before .pair .ensures .0 in
-    let n = a .before .before .pair2 .ensures .0 in
-    let t = intervals-is a in
+    let s = a .before .before .before .before in
+    let m = a .before .before .pair .ensures .0 in
+    let n = a .before .pair2 .ensures .0 in
+    let t = a .time .ensures .0 in
     refuses headKind (s .pre .0) _
     (head-wrong _ _ (λ h i j k.
     ⊎-elim (λ w. omega arith)
-    (⊎-elim (λ w. omega (arith, ltb-true (a .before .before .pair2 .result) 1 (w .1 .taken)))
-    (⊎-elim (λ w. omega (arith, ltb-true (a .wide .result) 1 (w .2 .taken)))
-    (λ w. omega (arith, ltb-true 32 (a .wide .result) (w .3 .taken)))))
+    (⊎-elim (λ w. omega (arith, ltb-true (a .before .pair2 .result) 1 (w .1 .taken)))
+    (⊎-elim (λ w. omega (arith, ltb-true (a .time .result) 1 (w .2 .taken)))
+    (λ w. omega (arith, ltb-true 32 (a .time .result) (w .3 .taken)))))
     (c .before .if1 .came)))
     (c .refused .ensures)
 
 returns-2 : tie.Need-returns-2
 returns-2 c =
     let a = c .before .before .before .before .before in
-    let s = a .before .before .before .before .before in
-    let m = a .before .before .before .pair .ensures .0 in
-    let n = a .before .before .pair2 .ensures .0 in
-    let t = intervals-is a in
+    let s = a .before .before .before .before in
+    let m = a .before .before .pair .ensures .0 in
+    let n = a .before .pair2 .ensures .0 in
+    let t = a .time .ensures .0 in
     let h = c .before .before .before .before .if1 .left in
-    let i = ltb-false (a .before .before .pair2 .result) 1 (c .before .before .before .if2 .left) in
-    let j = ltb-false (a .wide .result) 1 (c .before .before .if3 .left) in
-    let k = ltb-false 32 (a .wide .result) (c .before .if4 .left) in
+    let i = ltb-false (a .before .pair2 .result) 1 (c .before .before .before .if2 .left) in
+    let j = ltb-false (a .time .result) 1 (c .before .before .if3 .left) in
+    let k = ltb-false 32 (a .time .result) (c .before .if4 .left) in
     accepts headKind (s .pre .0) _ (head-fine _ _ (omega arith) (omega arith) (omega arith) (omega arith))
     (put-head _ (s .pre .0) _ _ _ _ m n t) (c .fine .ensures)
 
@@ -53,7 +46,6 @@ add-head-spec =
     (tie.spec
     (λ c κs. search needs)
     (λ c κs. search needs)
-    (λ c. search needs)
     (λ c κs. search needs)
     (λ c κs. search needs)
     returns

@@ -6,16 +6,14 @@ use mathlib.Core.Path.{_≡_, sym, _∙_}
 use mathlib.Core.Bool.{Bool, _&&_}
 use mathlib.Core.Logic.{⊎-elim}
 use Prim.Native.Nat.{_*_}
-use native.Mathlib.Omega.{arith}
 use lib.ListN.{length, drop}
 use lib.Dec.{leb, ltb}
-use Rattle.laws.proofs.Numbers.{field-one}
 use Rattle.spec.specs.Lists.{all}
 use Rattle.spec.specs.Numbers.{field}
 use Rattle.spec.specs.Read.{trainFits, trainIn}
 use Rattle.spec.specs.Held.{held}
 use Rattle.network.proofs.Walks.{length-of-map}
-use Rattle.spec.specs.Frames.{trainFixed}
+use Rattle.spec.specs.Frames.{timeWidth, trainFixed}
 use Rattle.reader.proofs.Packing.{segments-held}
 use Rattle.reader.proofs.content.train_fits.Statement.{statement}
 use Rattle.reader.proofs.content.train_fits.Tie as tie
@@ -23,11 +21,8 @@ use Rattle.reader.proofs.content.train_fits.Tie as tie
 pair-requires : tie.Need-pair-requires
 pair-requires c κs = search needs
 
-shared-slice-read-wide : tie.Need-shared-slice-read-wide
-shared-slice-read-wide c = search needs
-
-wide-requires : tie.Need-wide-requires
-wide-requires c κs = search needs
+time-requires : tie.Need-time-requires
+time-requires c κs = search needs
 
 mul-all-below : tie.Need-mul-all-below
 mul-all-below c = search needs
@@ -37,14 +32,13 @@ all-below-requires c κs = search needs
 
 -- a metre at least, and a departure below T
 abbrev early : tie.Start → Bool
-early c = leb 1 (field (c .args .p .now) 0 2) && ltb (field (c .args .p .now) 4 1) (c .args .b .intervals)
+early c = leb 1 (field (c .args .p .now) 0 2) && ltb (field (c .args .p .now) 4 timeWidth) (c .args .b .intervals)
 
 starts : (c : tie.Joined1) → c .if1 .if2 ≡ early (c .before .before .before)
 starts c =
     let m = c .before .pair .ensures .0 in
-    let d = field-one (c .before .before .before .args .p .now) 4 (omega arith) in
     ⊎-elim
-    (λ w. w .4 ∙ simp (← m, le-leb _ _ (w .0 .taken), w .2 .ensures .0, d))
+    (λ w. w .3 ∙ simp (← m, le-leb _ _ (w .0 .taken), w .1 .ensures .0))
     (λ w. w .1 ∙ simp (← m, lt-leb _ _ (w .0 .left)))
     (c .if1 .came)
 
@@ -72,8 +66,7 @@ train-fits-spec =
     tie.close
     (tie.spec
     pair-requires
-    shared-slice-read-wide
-    wide-requires
+    time-requires
     mul-all-below
     all-below-requires
     returns
