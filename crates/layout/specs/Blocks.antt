@@ -19,7 +19,7 @@ firstMost = 168296544
 abbrev pub baseMost : ℕ
 baseMost = 189333600
 
--- the block of some interval of a train: the train's numbers, and its first variable
+-- what is known of a block before its interval is: the train's numbers, and a first variable that leaves room for the block
 pub record BlockHeld (b : BookStruct) (k : Block) : Type 0 where
   pub passed : Passed b
   pub known : k .train < b .«train_count»

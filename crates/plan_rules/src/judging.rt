@@ -37,8 +37,7 @@ pub fn judge_plan(b: Book, counts: Counts, runs: &[u8], meets: &[u8], plan: &[u8
     Answer::Accepted
 }
 
-// 12 by the output's length, then 15 and 16: what every entry point asks that writes something of a
-// plan.
+// 12 by the output's length, then 15 and 16: what is asked before anything is written of a plan.
 pub fn admit_plan(
     b: Book,
     counts: Counts,

@@ -33,6 +33,10 @@ refused-by r (refused n d) e a =
     let z = sym (ap {B = Answer} (λ (x : BookRead). x .answer) e) ∙ a in
     ap₂ refused (ap number z) (ap detail z)
 
+pub refused-number : {r : BookRead} {m e n d : ℕ} → r ≡ bookReadOf (refused m e) → r .answer ≡ Refused n d → m ≡ n
+unfolding number
+refused-number e a = ap number (sym (ap {B = Answer} (λ (x : BookRead). x .answer) e) ∙ a)
+
 -- what is accepted is not refused
 pub never-accepted : {a : Answer} {n d : ℕ} → a ≡ Refused n d → {A : Type 0} → a ≡ Accepted → A
 never-accepted e h = let z = sym e ∙ h in never cc

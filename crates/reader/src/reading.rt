@@ -47,7 +47,7 @@ use network::calls::calls_of;
 ghost use mathlib.Core.Path.{_≡_};
 ghost use mathlib.Core.Logic.{_≢_};
 ghost use mathlib.Core.Bool.{not, _||_};
-ghost use Prim.Native.Nat.{_+_, _-_, _≤_};
+ghost use Prim.Native.Nat.{ℕ, _+_, _-_, _≤_, _<_};
 ghost use lib.ListN.{length, take, drop};
 ghost use lib.Dec.{T, ltb};
 ghost use Rattle.spec.specs.Lists.{any, upTo, empty, firstFault, refused};
@@ -314,11 +314,12 @@ fn few_runs(b: Book, counts: Counts) -> bool
 }
 
 // The book's own refusals, 10 and 11, after its End. The runs that are counted for 11 are left in the
-// table; beside a refusal it is left free.
+// table; beside 11 it is left free, beside 10 as it was.
 fn finish(b: Book, runs: &mut [u8]) -> BookRead
     requires { ⌜ Packed b × T (growing (held b)) × FitsFields (held b) × (length (now runs) ≡ tableBytes) ⌝ }
     ensures { λ r. ⌜ (r ≡ bookReadOf (refuseOr (firstFault (bookFaults (held b))) (held b)))
-        × (r .answer ≡ Answer.Accepted → now (runs .exit) ≡ runTable (held (r .book)) (now (runs .entry))) ⌝ }
+        × (r .answer ≡ Answer.Accepted → now (runs .exit) ≡ runTable (held (r .book)) (now (runs .entry)))
+        × ((n d : ℕ) → r .answer ≡ Answer.Refused n d → n < 11 → now (runs .exit) ≡ now (runs .entry)) ⌝ }
 {
     if !all_called(b) {
         return refused_book(10);
@@ -334,12 +335,13 @@ fn finish(b: Book, runs: &mut [u8]) -> BookRead
     }
 }
 
-// The book that the bytes hold, with its runs in the table, or one numbered refusal; beside that the
-// table is left free.
+// The book that the bytes hold, with its runs in the table, or one numbered refusal; beside 11 the table
+// is left free, beside another as it was.
 pub fn read_runs(s: &[u8], runs: &mut [u8]) -> BookRead
     requires { ⌜ length (now runs) ≡ tableBytes ⌝ }
     ensures { λ r. ⌜ (r ≡ bookReadOf (readBook (now (s .entry))))
-        × (r .answer ≡ Answer.Accepted → now (runs .exit) ≡ runTable (held (r .book)) (now (runs .entry))) ⌝ }
+        × (r .answer ≡ Answer.Accepted → now (runs .exit) ≡ runTable (held (r .book)) (now (runs .entry)))
+        × ((n d : ℕ) → r .answer ≡ Answer.Refused n d → n < 11 → now (runs .exit) ≡ now (runs .entry)) ⌝ }
 {
     let mut book = empty_book();
     let mut last = 0;

@@ -109,7 +109,8 @@ planOutput book assignment old = overwrite old (written (checkAssignment book as
 unfoldable pub judgePlan : Instance → Bytes → Verdict (Unit {0})
 judgePlan I s = andThen (demand (planFits I s) 15) λ _. findNone (brokenRule I (planOf I s)) 16
 
--- whatever is written of a plan, of an instance: 12 by the output's length, then 15 and 16, then a number of its own, then the output
+-- "then 12; then the second input", for whatever is written of a plan: 12 by the output's length, then 15 and 16, then what the plan
+-- is asked for, which may refuse it by a number of its own
 unfoldable pub afterPlan : {A : Type 0} → Instance → Bytes → ℕ → ℕ → (Plan → Verdict A) → Verdict A
 afterPlan I plan need outLength own =
     andThen (demand (leb need outLength) 12) λ _.

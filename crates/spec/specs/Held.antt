@@ -35,7 +35,7 @@ pub record CountsFit (b : BookStruct) : Type 0 where
   pub trains : b .«train_count» ≤ maxTrains
   pub calls : b .«call_count» ≤ maxTrains * maxCalls
 
--- the Head's numbers are those of two-byte fields
+-- the Head's numbers are those of fields of two bytes at most
 pub record NumbersFit (b : BookStruct) : Type 0 where
   pub metres : b .«segment_metres» < 65536
   pub seconds : b .«interval_seconds» < 65536

@@ -20,7 +20,7 @@ use Rattle.listing.proofs.Trains.{trains-counted}
 use Rattle.reader.proofs.Ends.{count-at}
 use Rattle.tables.proofs.PlaceRows.{size-held, run-held, start-held, end-held}
 use Rattle.tables.specs.Placed.{sizeAt}
-use Rattle.tables.specs.Tables.{Passed, chainsOf, trainChains, allChains}
+use Rattle.tables.specs.Tables.{Passed, chainsOf, chainTable, trainChains, allChains}
 use Rattle.tables.specs.Ready.{Counted, RunsHeld, RunsReady, ChainsReady}
 use Rattle.tables.proofs.Trains.{few, are-short, are-long}
 use Rattle.tables.proofs.Here.{trains-fit, in-instance}
@@ -126,7 +126,7 @@ module _ (b : BookStruct) (p : Passed b) where
 
   -- what `chain_trains` leaves is ready
   pub chains-ready : (old : List ℕ) → length old ≡ allChains → {chains : List ℕ}
-      → chains ≡ filled (λ i part. sets part 0 (chainsOf (held b) i)) trainChains (b .«train_count») old → ChainsReady b chains
+      → chains ≡ chainTable b old → ChainsReady b chains
   chains-ready old room {chains} f =
       let t : Parted (λ i part. sets part 0 (chainsOf (held b) i)) trainChains (b .«train_count») old chains =
       record {

@@ -10,7 +10,7 @@ use Rattle.spec.specs.Lists.{Bytes}
 use Rattle.spec.specs.Instance.{instanceOf}
 use Rattle.spec.specs.Held.{held}
 use Rattle.tables.specs.Meets.{meetBytes, meetRoom}
-use Rattle.tables.specs.Ready.{MeetsReady}
+use Rattle.tables.specs.Ready.{MeetsReady, MeetsFilled}
 use Rattle.tables.proofs.MeetsFew.{meets-few}
 
 -- what is stored from the start on is there
@@ -19,9 +19,8 @@ take-sets l vs h =
     ap (take (length vs)) (sets-eq vs l 0 (omega arith)) ∙ take-append-seam vs (drop (0 + length vs) l)
 
 pub meets-ready : (b : BookStruct) → length (held b .segments) ≤ 64 → (old : Bytes) → length old ≡ meetRoom
-    → {meets : Bytes} {end : ℕ} → end ≡ length (meetBytes (instanceOf (held b)))
-    → meets ≡ sets old 0 (meetBytes (instanceOf (held b))) → (end ≤ length meets) × MeetsReady b (take end meets)
-meets-ready b few old room e s =
+    → {meets : Bytes} {end : ℕ} → MeetsFilled b end old meets → (end ≤ length meets) × MeetsReady b (take end meets)
+meets-ready b few old room (e, s) =
     let bytes = meetBytes (instanceOf (held b)) in
     let short : length bytes ≤ meetRoom = meets-few (held b) few in
     (omega (arith, ap length s, length-sets old 0 bytes), ap₂ take e s ∙ take-sets old bytes (omega arith))

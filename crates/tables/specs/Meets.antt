@@ -8,6 +8,7 @@ use Rattle.spec.specs.Instance.{Instance}
 unfoldable pub meetsOf : Instance → ℕ → ℕ → Bytes
 meetsOf I n s = each (upTo (I .segments)) λ u. only (I .meet n s u) (n ∷ s ∷ u ∷ [])
 
+-- and those of each first segment there
 unfoldable pub meetsAt : Instance → ℕ → Bytes
 meetsAt I n = each (upTo (I .segments)) λ s. meetsOf I n s
 

@@ -4,7 +4,7 @@ use mathlib.Core.Path.{_≡_}
 use Prim.Native.Nat.{ℕ, _+_, _*_, _-_, _≤_, _<_}
 use mathlib.Core.List.{List}
 use lib.ListN.{length, getD}
-use lib.Seq.{slice}
+use lib.Seq.{slice, sets}
 use lib.Dec.{T}
 use Rattle.model.specs.declared.Book.{Book as BookStruct}
 use Rattle.spec.specs.Lists.{Bytes}
@@ -57,3 +57,8 @@ pub record ChainsReady (b : BookStruct) (chains : List ℕ) : Type 0 where
 -- what meets
 abbrev pub MeetsReady : BookStruct → Bytes → Type 0
 MeetsReady b meets = meets ≡ meetBytes (instanceOf (held b))
+
+-- what listing it leaves of the table that was there: its bytes from the first on, as many as are answered
+abbrev pub MeetsFilled : BookStruct → ℕ → Bytes → Bytes → Type 0
+MeetsFilled b size old meets =
+    (size ≡ length (meetBytes (instanceOf (held b)))) × (meets ≡ sets old 0 (meetBytes (instanceOf (held b))))

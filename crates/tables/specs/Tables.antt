@@ -2,6 +2,7 @@
 -- Assumes nothing.
 use Prim.Native.Nat.{ℕ, _+_, _-_}
 use mathlib.Core.List.{List, _∷_}
+use lib.Seq.{sets}
 use lib.Dec.{T}
 use Rattle.model.specs.declared.Book.{Book as BookStruct}
 use Rattle.spec.specs.Lists.{upTo, each, one, same}
@@ -12,6 +13,7 @@ use Rattle.spec.specs.Runs.{startPlace}
 use Rattle.spec.specs.Read.{wellFormed}
 use Rattle.spec.specs.Instance.{instanceOf, runLists, runAt, trainLength}
 use Rattle.spec.specs.Held.{held}
+use Rattle.listing.specs.Listed.{filled}
 use Rattle.reader.specs.Added.{Packed}
 
 -- the struct holds a book that passed
@@ -40,3 +42,7 @@ trainChains = 512
 
 abbrev pub allChains : ℕ
 allChains = 4096
+
+-- the chains of all trains, a part each
+abbrev pub chainTable : BookStruct → List ℕ → List ℕ
+chainTable b old = filled (λ i part. sets part 0 (chainsOf (held b) i)) trainChains (b .«train_count») old

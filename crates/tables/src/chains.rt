@@ -18,9 +18,9 @@ ghost use lib.Seq.{sets};
 ghost use Rattle.spec.specs.Lists.{upTo, each, one, same, leastFrom};
 ghost use Rattle.spec.specs.Instance.{instanceOf};
 ghost use Rattle.spec.specs.Held.{held};
-ghost use Rattle.listing.specs.Listed.{trainBytes, filled};
+ghost use Rattle.listing.specs.Listed.{trainBytes};
 ghost use Rattle.tables.specs.Placed.{placeAt, sizeAt, startAt, endAt};
-ghost use Rattle.tables.specs.Tables.{Passed, chainsOf, trainChains, allChains};
+ghost use Rattle.tables.specs.Tables.{Passed, chainsOf, chainTable, trainChains, allChains};
 ghost use Rattle.tables.specs.Ready.{RunsHeld, RunsReady};
 
 // The numbers of a train's chains, and of all trains'.
@@ -90,8 +90,7 @@ fn chain_train(b: Book, train: usize, n: usize, runs: &[u8], chains: &mut [usize
 // Writes the chains of every train's runs.
 pub fn chain_trains(b: Book, counts: Counts, runs: &[u8], chains: &mut [usize])
     requires { ⌜ RunsReady b counts (now runs) × (length (now chains) ≡ allChains) ⌝ }
-    ensures { λ _. ⌜ now (chains .exit)
-        ≡ filled (λ i old. sets old 0 (chainsOf (held b) i)) trainChains (b .«train_count») (now (chains .entry)) ⌝ }
+    ensures { λ _. ⌜ now (chains .exit) ≡ chainTable b (now (chains .entry)) ⌝ }
 {
     let n = b.train_count;
     let mut i = 0;

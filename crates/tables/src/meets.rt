@@ -11,7 +11,8 @@ ghost use lib.ListN.{length, set};
 ghost use lib.Seq.{sets};
 ghost use Rattle.spec.specs.Instance.{instanceOf};
 ghost use Rattle.spec.specs.Held.{held, CountsFit};
-ghost use Rattle.tables.specs.Meets.{meetsOf, meetsAt, meetBytes};
+ghost use Rattle.tables.specs.Meets.{meetsOf, meetsAt};
+ghost use Rattle.tables.specs.Ready.{MeetsFilled};
 
 // Three bytes for each ordered pair of segments that meet at a node: a segment has two nodes, and meets
 // at most all others at each.
@@ -70,8 +71,7 @@ fn list_at(b: Book, node: usize, table: &mut [u8], at: usize) -> usize
 // Lists all that meet; answers how many bytes that is.
 pub fn list_meets(b: Book, table: &mut [u8]) -> usize
     requires { ⌜ CountsFit b ⌝ }
-    ensures { λ r. ⌜ (r ≡ length (meetBytes (instanceOf (held b))))
-        × (now (table .exit) ≡ sets (now (table .entry)) 0 (meetBytes (instanceOf (held b)))) ⌝ }
+    ensures { λ r. ⌜ MeetsFilled b r (now (table .entry)) (now (table .exit)) ⌝ }
 {
     let n = b.node_count;
     let mut end = 0;

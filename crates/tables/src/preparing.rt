@@ -7,20 +7,24 @@ use reader::reading::Answer;
 use reader::reading::BookRead;
 use reader::reading::read_runs;
 ghost use mathlib.Core.Path.{_≡_};
-ghost use Prim.Native.Nat.{_≤_};
+ghost use Prim.Native.Nat.{ℕ, _≤_, _<_};
 ghost use lib.ListN.{length, take};
 ghost use Rattle.spec.specs.Read.{readBook};
-ghost use Rattle.listing.specs.Listed.{tableBytes};
+ghost use Rattle.spec.specs.Held.{held};
+ghost use Rattle.listing.specs.Listed.{tableBytes, runTable};
 ghost use Rattle.reader.specs.BookAnswers.{bookReadOf};
-ghost use Rattle.tables.specs.Tables.{allChains};
+ghost use Rattle.tables.specs.Tables.{allChains, chainTable};
 ghost use Rattle.tables.specs.Meets.{meetRoom};
-ghost use Rattle.tables.specs.Ready.{RunsReady, ChainsReady, MeetsReady};
+ghost use Rattle.tables.specs.Ready.{RunsReady, ChainsReady, MeetsReady, MeetsFilled};
 
-// Reads a book and fills the table of its runs. Beside a refusal it is left free.
+// Reads a book and fills the table of its runs. Beside refusal 11 it is left free, for runs were listed
+// by then; beside another it is as it was.
 pub fn prepare_runs(book: &[u8], runs: &mut [u8]) -> BookRead
     requires { ⌜ length (now runs) ≡ tableBytes ⌝ }
     ensures { λ r. ⌜ (r ≡ bookReadOf (readBook (now (book .entry))))
-        × (r .answer ≡ Answer.Accepted → RunsReady (r .book) (r .counts) (now (runs .exit))) ⌝ }
+        × (r .answer ≡ Answer.Accepted → RunsReady (r .book) (r .counts) (now (runs .exit)))
+        × (r .answer ≡ Answer.Accepted → now (runs .exit) ≡ runTable (held (r .book)) (now (runs .entry)))
+        × ((n d : ℕ) → r .answer ≡ Answer.Refused n d → n < 11 → now (runs .exit) ≡ now (runs .entry)) ⌝ }
 {
     read_runs(book, runs)
 }
@@ -31,12 +35,17 @@ pub struct Prepared {
     pub meets: usize,
 }
 
-// Reads a book and fills the tables of its runs and of what meets. Beside a refusal they are left free.
+// Reads a book and fills the tables of its runs and of what meets. Beside a refusal they are as they
+// were; only beside 11 the table of runs is left free.
 pub fn prepare(book: &[u8], runs: &mut [u8], meets: &mut [u8]) -> Prepared
     requires { ⌜ (length (now runs) ≡ tableBytes) × (length (now meets) ≡ meetRoom) ⌝ }
     ensures { λ r. ⌜ (r .read ≡ bookReadOf (readBook (now (book .entry))))
         × (r .read .answer ≡ Answer.Accepted → RunsReady (r .read .book) (r .read .counts) (now (runs .exit))
-        × (r .meets ≤ length (now (meets .exit))) × MeetsReady (r .read .book) (take (r .meets) (now (meets .exit)))) ⌝ }
+        × (r .meets ≤ length (now (meets .exit))) × MeetsReady (r .read .book) (take (r .meets) (now (meets .exit))))
+        × (r .read .answer ≡ Answer.Accepted → (now (runs .exit) ≡ runTable (held (r .read .book)) (now (runs .entry)))
+        × MeetsFilled (r .read .book) (r .meets) (now (meets .entry)) (now (meets .exit)))
+        × ((n d : ℕ) → r .read .answer ≡ Answer.Refused n d → n < 11 → now (runs .exit) ≡ now (runs .entry))
+        × ((n d : ℕ) → r .read .answer ≡ Answer.Refused n d → (now (meets .exit) ≡ now (meets .entry)) × (r .meets ≡ 0)) ⌝ }
 {
     let read = prepare_runs(book, runs);
     let b = read.book;
@@ -67,7 +76,13 @@ pub fn prepare_chains(
     ensures { λ r. ⌜ (r .read ≡ bookReadOf (readBook (now (book .entry))))
         × (r .read .answer ≡ Answer.Accepted → RunsReady (r .read .book) (r .read .counts) (now (runs .exit))
         × (r .meets ≤ length (now (meets .exit))) × MeetsReady (r .read .book) (take (r .meets) (now (meets .exit))))
-        × (r .read .answer ≡ Answer.Accepted → ChainsReady (r .read .book) (now (chains .exit))) ⌝ }
+        × (r .read .answer ≡ Answer.Accepted → ChainsReady (r .read .book) (now (chains .exit)))
+        × (r .read .answer ≡ Answer.Accepted → (now (runs .exit) ≡ runTable (held (r .read .book)) (now (runs .entry)))
+        × MeetsFilled (r .read .book) (r .meets) (now (meets .entry)) (now (meets .exit)))
+        × (r .read .answer ≡ Answer.Accepted → now (chains .exit) ≡ chainTable (r .read .book) (now (chains .entry)))
+        × ((n d : ℕ) → r .read .answer ≡ Answer.Refused n d → n < 11 → now (runs .exit) ≡ now (runs .entry))
+        × ((n d : ℕ) → r .read .answer ≡ Answer.Refused n d → (now (meets .exit) ≡ now (meets .entry)) × (r .meets ≡ 0))
+        × ((n d : ℕ) → r .read .answer ≡ Answer.Refused n d → now (chains .exit) ≡ now (chains .entry)) ⌝ }
 {
     let p = prepare(book, runs, meets);
     let read = p.read;

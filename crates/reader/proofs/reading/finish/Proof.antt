@@ -1,6 +1,8 @@
 -- `reading::finish` meets its contract: the two tests in a row are the table of the book's own refusals. Assumes nothing.
-use mathlib.Core.Path.{_∙_}
-use Rattle.reader.proofs.Accepted.{refused-never}
+use mathlib.Core.Path.{refl, _∙_}
+use native.Mathlib.Omega.{arith}
+use Rattle.reader.proofs.Accepted.{never-accepted, refused-never, refused-number}
+use Rattle.reader.proofs.Steps.{never}
 use Rattle.reader.proofs.Ends.{not-of, ends-lacking, ends-over, ends-fine}
 use Rattle.reader.proofs.reading.finish.Statement.{statement}
 use Rattle.reader.proofs.reading.finish.Tie as tie
@@ -10,6 +12,7 @@ returns c =
     let d = c .before .before in (
       ends-lacking _ (not-of (d .all-called .ensures) ∙ simp (c .before .if1 .taken)) (c .refused-book .ensures),
       refused-never (c .refused-book .ensures),
+      λ n d told below. refl,
     )
 
 -- the runs are listed
@@ -29,6 +32,7 @@ returns-2 c =
       ends-over _ (not-of (called d .all-called .ensures) ∙ simp (listed d .before .before .if1 .left))
           (not-of (d .few-runs .ensures) ∙ simp (c .before .if2 .taken)) (c .refused-book2 .ensures),
       refused-never (c .refused-book2 .ensures),
+      λ n d told below. never (omega (arith, refused-number (c .refused-book2 .ensures) told)),
     )
 
 returns-3 : tie.Need-returns-3
@@ -37,6 +41,7 @@ returns-3 c =
       ends-fine _ (start d .pre .0) (not-of (called d .all-called .ensures) ∙ simp (listed d .before .before .if1 .left))
           (not-of (d .few-runs .ensures) ∙ simp (c .if2 .left)) (rw (listed d .list-trains .ensures .0)),
       λ _. listed d .list-trains .ensures .1,
+      λ n d′ told below. never-accepted told refl,
     )
 
 pub finish-spec : {M : Type 1} → statement M

@@ -38,6 +38,7 @@ returns c =
           ∙ ap bookReadOf
           (sym (way-stop _ _ _ _ (at-step .before .loop .inv .0) (at-step .step .result) (at-step .step .ensures) _ told)),
       refused-never (c .refused-book .ensures),
+      λ n d refused below. at-step .before .loop .inv .1,
     )
 
 -- the End: what is left are the book's own refusals
@@ -63,6 +64,7 @@ returns-2 c =
       f .finish .ensures .0
           ∙ ap bookReadOf (sym (way-end _ _ _ _ (looped e .loop .inv .0) (st .result) (st .ensures) (e .enum-told .given .1))),
       λ told. f .finish .ensures .1 told ∙ ap (runTable (held (f .finish .result .book))) (looped e .loop .inv .1),
+      λ n d refused below. f .finish .ensures .2 n d refused below ∙ looped e .loop .inv .1,
     )
 
 -- the next place, and that it is further on

@@ -1,7 +1,7 @@
 -- `preparing::prepare` meets its contract: of a book that passed, what meets is listed. Assumes nothing.
 use borrow.Author.Needs.{needs}
 use native.Mathlib.Omega.{arith}
-use mathlib.Core.Path.{_≡_, sym, _∙_}
+use mathlib.Core.Path.{_≡_, refl, sym, _∙_}
 use Rattle.reader.specs.declared.reading.BookRead.{BookRead}
 use Rattle.reader.proofs.Accepted.{never-accepted}
 use Rattle.reader.proofs.Packing.{segments-counted}
@@ -27,7 +27,8 @@ module _ (c : tie.After-enum-told2) where
 returns : tie.Need-returns
 returns c =
     let r = c .before .before .before .before .before in
-    (r .prepare-runs .ensures .0, never-accepted (c .enum-told .given .1))
+    let refused = c .enum-told .given .1 in
+    (r .prepare-runs .ensures .0, never-accepted refused, never-accepted refused, r .prepare-runs .ensures .3, λ n d _. (refl, refl))
 
 returns-2 : tie.Need-returns-2
 returns-2 c =
@@ -37,9 +38,12 @@ returns-2 c =
     let p = ready a .counted .passed in
     let few = p .packed .counts .segments in
     let e = m .list-meets .ensures in
-    let meets = meets-ready (read a .book) (omega (arith, segments-counted (p .packed))) _ (start a .pre .1) (e .0) (e .1) in (
+    let meets = meets-ready (read a .book) (omega (arith, segments-counted (p .packed))) _ (start a .pre .1) e in (
       r .ensures .0,
       λ _. (ready a, meets .0, meets .1),
+      λ told. (r .ensures .2 told, e),
+      r .ensures .3,
+      λ n d told. never-accepted told (a .enum-told2 .given .1),
     )
 
 pub prepare-spec : {M : Type 1} → statement M

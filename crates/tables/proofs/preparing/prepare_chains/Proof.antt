@@ -1,6 +1,6 @@
 -- `preparing::prepare_chains` meets its contract: the chains are those of the runs that were prepared. Assumes nothing.
 use borrow.Author.Needs.{needs}
-use mathlib.Core.Path.{_≡_, ap, _∙_}
+use mathlib.Core.Path.{_≡_, refl, ap, _∙_}
 use denote.Ref.{now}
 use Rattle.tables.specs.Ready.{RunsReady}
 use Rattle.tables.specs.declared.preparing.Prepared.{Prepared}
@@ -26,7 +26,9 @@ module _ (c : tie.After-enum-told2) where
 returns : tie.Need-returns
 returns c =
     let p = c .before .before .before .before .before .before .before .before .before in
-    (p .prepare .ensures .0, p .prepare .ensures .1, never-accepted (c .enum-told .given .1))
+    let e = p .prepare .ensures in
+    let refused = c .enum-told .given .1 in
+    (e .0, e .1, never-accepted refused, e .2, never-accepted refused, e .3, e .4, λ n d _. refl)
 
 returns-2 : tie.Need-returns-2
 returns-2 c =
@@ -38,6 +40,11 @@ returns-2 c =
       λ _.
           chains-ready (p a .read .book) (runs-are a .counted .passed) (now (start a .args .chains)) (start a .pre .1)
           (f .chain-trains .ensures),
+      e .2,
+      λ _. f .chain-trains .ensures,
+      e .3,
+      e .4,
+      λ n d told. never-accepted told (a .enum-told2 .given .1),
     )
 
 pub prepare-chains-spec : {M : Type 1} → statement M

@@ -18,6 +18,8 @@ returns c =
       λ told.
           let p = passed (now (s .args .book)) r (e .0) told (λ i. omega (arith, known .shared-slice-known .given i)) in
           runs-ready (r .book) p (r .counts) (now (s .args .runs)) (s .pre) (counted _ r (e .0) told) (e .1 told),
+      e .1,
+      e .2,
     )
 
 pub prepare-runs-spec : {M : Type 1} → statement M
