@@ -12,10 +12,10 @@ use lib.Seq.{take-append-le, take-append-seam, getD-append-seam}
 use lib.Dec.{T, leb, ltb, eqb, nleb→lt, nltb→le, le→leb, eqb→eq}
 use Rattle.spec.specs.Lists.{Bytes, all, any, count, upTo, one, only, pick, faultless}
 use Rattle.spec.specs.Numbers.{field}
-use Rattle.spec.specs.Frames.{Kind, headKind, nodeKind, segmentKind, joinKind, trainKind, callKind, unbreakableKind, endKind}
+use Rattle.spec.specs.Frames.{Format, bookFormat, kindNumber, isKind, Kind, headKind, nodeKind, segmentKind, joinKind, trainKind, callKind, unbreakableKind, endKind}
 use Rattle.spec.specs.Book.{Book, Segment, Join, Train, Call, noBook, segmentAt, callsOf, greatestNodeKind, startNode, endNode, segmentOf, joined, lengthInSegments, speedInSegments}
 use Rattle.spec.specs.Runs.{leadsTo, linked, isPath, runsOf}
-use Rattle.spec.specs.Read.{headOf, headFits, segmentFits, joinFits, joinRepeats, trainFits, reachFits, placeFits, callFits, contentFaults, add, bookFaults, joinsOnce, few, trainAllFits, growing, wellFormed, maxNodes, maxSegments, maxJoins, maxTrains, maxCalls}
+use Rattle.spec.specs.Read.{segmentIn, joinIn, trainIn, callIn, grown, between, headFits, segmentFits, joinFits, joinRepeats, trainFits, reachFits, placeFits, callFits, contentFaults, add, bookFaults, joinsOnce, few, trainAllFits, growing, wellFormed, maxIntervals, maxNodes, maxSegments, maxJoins, maxTrains, maxCalls}
 use Rattle.demands.proofs.Faults.{passes}
 use Rattle.laws.proofs.Tests.{and-iff, or-iff, ltb-iff, leb-iff, all-iff, all-upTo, from-true, neither-iff}
 use Rattle.laws.proofs.Rows.{all-append, any-append}
@@ -30,7 +30,7 @@ few-iff n f xs = simp (and-iff, leb-iff) Iff·rfl
 
 -- What `growing` says, part by part. No train has more than four calls, whether it is there or not.
 pub record Growing (b : Book) : Type 0 where
-  pub head : T (headFits b)
+  pub head : T (headFits bookFormat b)
   pub nodes : Few maxNodes (λ k. leb k greatestNodeKind) (b .nodes)
   pub segments : Few maxSegments (segmentFits b) (b .segments)
   pub joins : Few maxJoins (joinFits b) (b .joins)
@@ -278,11 +278,12 @@ growing-of b w =
       (w .calls, all-upTo _ (length (b .trains)) .1 (λ i l. leb-iff _ _ .1 (w .fewCalls i))),
     )
 
--- a Head alone
-pub growing-head : (p : Bytes) → T (headFits (headOf noBook p)) → Growing (headOf noBook p)
-unfolding headOf noBook Few all joinsOnce upTo count callsOf pick
-growing-head p h = record {
-  head = h;
+-- a Head alone, in a format whose greatest T is not above the one in force
+pub growing-head : (f : Format) (p : Bytes) → f .maxIntervals ≤ maxIntervals → T (headFits f (add f noBook headKind p))
+    → Growing (add f noBook headKind p)
+unfolding headFits between add isKind kindNumber grown noBook Few all joinsOnce upTo count callsOf pick
+growing-head f p m h = record {
+  head = (let q = simp (and-iff, leb-iff) at h in simp (and-iff, leb-iff) (q .0, (q .1 .0, omega arith)));
   nodes = (omega arith, tt);
   segments = (omega arith, tt);
   joins = (omega arith, tt);
@@ -316,39 +317,43 @@ growing-longer b c g n w = record {
   fewCalls = few-calls (g .calls) (n .fewCalls) (w .fewCalls);
 }
 
--- What a frame adds, but a Head: the book with longer rows.
-grown : (b : Book) {ns : List ℕ} {ss : List Segment} {js : List Join} {ts : List Train} {cs : List Call} → Starts (b .nodes) ns
-    → Starts (b .segments) ss → Starts (b .joins) js → Starts (b .trains) ts → Starts (b .calls) cs → Longer b (record {
-      segmentMetres = b .segmentMetres;
-      intervalSeconds = b .intervalSeconds;
-      intervals = b .intervals;
-      nodes = ns;
-      segments = ss;
-      joins = js;
-      trains = ts;
-      calls = cs;
-    })
-grown b n s j t c = record { metres = refl; seconds = refl; times = refl; nodes = n; segments = s; joins = j; trains = t; calls = c }
+-- What a frame adds, but a Head: at most one row is longer.
+starts-grown : {A : Type 0} (new : Bool) (xs : List A) (x : A) → Starts xs (grown new xs x)
+unfolding grown
+starts-grown true xs x = longer x
+starts-grown false xs x = same
 
--- by kind, at most one row is longer
-add-longer : (b : Book) (k : Kind) (p : Bytes) → k ≢ headKind → Longer b (add b k p)
-unfolding add grown
-add-longer b headKind p h = absurd (h refl)
-add-longer b nodeKind p h = grown b (longer _) same same same same
-add-longer b segmentKind p h = grown b same (longer _) same same same
-add-longer b joinKind p h = grown b same same (longer _) same same
-add-longer b trainKind p h = grown b same same same (longer _) same
-add-longer b callKind p h = grown b same same same same (longer _)
-add-longer b unbreakableKind p h = grown b same same same same same
-add-longer b endKind p h = grown b same same same same same
+not-head : (k : Kind) → k ≢ headKind → isKind k headKind ≡ false
+unfolding isKind kindNumber
+not-head headKind h = absurd (h refl)
+not-head nodeKind h = refl
+not-head segmentKind h = refl
+not-head joinKind h = refl
+not-head trainKind h = refl
+not-head callKind h = refl
+not-head unbreakableKind h = refl
+not-head endKind h = refl
+
+add-longer : (f : Format) (b : Book) (k : Kind) (p : Bytes) → k ≢ headKind → Longer b (add f b k p)
+unfolding add
+add-longer f b k p h = record {
+  metres = rw (not-head k h);
+  seconds = rw (not-head k h);
+  times = rw (not-head k h);
+  nodes = starts-grown (isKind k nodeKind) (b .nodes) (field p 0 1);
+  segments = starts-grown (isKind k segmentKind) (b .segments) (segmentIn p);
+  joins = starts-grown (isKind k joinKind) (b .joins) (joinIn p);
+  trains = starts-grown (isKind k trainKind) (b .trains) (trainIn f p);
+  calls = starts-grown (isKind k callKind) (b .calls) (callIn f p);
+}
 
 -- A frame without a fault adds what fits.
-add-fits : (b : Book) (k : Kind) (p : Bytes) (h : k ≢ headKind) → T (all passes (contentFaults b k p))
-    → Fits b (add b k p) (add-longer b k p h)
-unfolding add contentFaults all passes add-longer grown New Room trainAllFits
-add-fits b headKind p h f = absurd (h refl)
-add-fits b nodeKind p h f =
-    let q = simp and-iff at f in record {
+add-fits : (f : Format) (b : Book) (k : Kind) (p : Bytes) (h : k ≢ headKind) → T (all passes (contentFaults f b k p))
+    → Fits b (add f b k p) (add-longer f b k p h)
+unfolding add contentFaults all passes add-longer starts-grown isKind kindNumber New Room trainAllFits
+add-fits f b headKind p h c = absurd (h refl)
+add-fits f b nodeKind p h c =
+    let q = simp and-iff at c in record {
       nodes = (q .0, not-above (field p 0 1) greatestNodeKind (q .1 .0));
       segments = tt;
       joins = tt;
@@ -357,14 +362,14 @@ add-fits b nodeKind p h f =
       calls = tt;
       fewCalls = tt;
     }
-add-fits b segmentKind p h f =
-    let q = simp (and-iff, Bool·not-not) at f in record
+add-fits f b segmentKind p h c =
+    let q = simp (and-iff, Bool·not-not) at c in record
     { nodes = tt; segments = (q .0, q .1 .0); joins = tt; once = tt; trains = tt; calls = tt; fewCalls = tt }
-add-fits b joinKind p h f =
-    let q = simp (and-iff, neither-iff, Bool·not-not) at f in record
+add-fits f b joinKind p h c =
+    let q = simp (and-iff, neither-iff, Bool·not-not) at c in record
     { nodes = tt; segments = tt; joins = (q .0, q .1 .0 .0); once = q .1 .0 .1; trains = tt; calls = tt; fewCalls = tt }
-add-fits b trainKind p h f =
-    let q = simp (and-iff, Bool·not-not) at f in record {
+add-fits f b trainKind p h c =
+    let q = simp (and-iff, Bool·not-not) at c in record {
       nodes = tt;
       segments = tt;
       joins = tt;
@@ -373,16 +378,16 @@ add-fits b trainKind p h f =
       calls = tt;
       fewCalls = tt;
     }
-add-fits b callKind p h f =
-    let q = simp (and-iff, Bool·not-not) at f in record
+add-fits f b callKind p h c =
+    let q = simp (and-iff, Bool·not-not) at c in record
     { nodes = tt; segments = tt; joins = tt; once = tt; trains = tt; calls = q .1 .0; fewCalls = q .0 }
-add-fits b unbreakableKind p h f = record { nodes = tt; segments = tt; joins = tt; once = tt; trains = tt; calls = tt; fewCalls = tt }
-add-fits b endKind p h f = record { nodes = tt; segments = tt; joins = tt; once = tt; trains = tt; calls = tt; fewCalls = tt }
+add-fits f b unbreakableKind p h c = record { nodes = tt; segments = tt; joins = tt; once = tt; trains = tt; calls = tt; fewCalls = tt }
+add-fits f b endKind p h c = record { nodes = tt; segments = tt; joins = tt; once = tt; trains = tt; calls = tt; fewCalls = tt }
 
 -- Every frame without a fault, but a Head, keeps the book growing.
-pub growing-add : (b : Book) (k : Kind) (p : Bytes) → k ≢ headKind → T (all passes (contentFaults b k p)) → Growing b
-    → Growing (add b k p)
-growing-add b k p h f w = growing-longer b (add b k p) (add-longer b k p h) (add-fits b k p h f) w
+pub growing-add : (f : Format) (b : Book) (k : Kind) (p : Bytes) → k ≢ headKind → T (all passes (contentFaults f b k p)) → Growing b
+    → Growing (add f b k p)
+growing-add f b k p h c w = growing-longer b (add f b k p) (add-longer f b k p h) (add-fits f b k p h c) w
 
 -- ---- the book as a whole
 

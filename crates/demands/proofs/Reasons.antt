@@ -13,7 +13,7 @@ use Rattle.laws.proofs.Tests.{neither-iff, and-iff, or-iff, leb-iff, decide, tr
 use Rattle.laws.proofs.Rows.{all-append}
 use Rattle.laws.proofs.Frames.{length-behind}
 use Rattle.spec.specs.Lists.{Bytes, all, empty, Fault, firstFault, Verdict, accepted, refused, andThen}
-use Rattle.spec.specs.Frames.{Kind, headKind, nodeKind, segmentKind, joinKind, trainKind, callKind, unbreakableKind, endKind, kindField, kindOrder, findKind, payloadOf, behind, cutShort}
+use Rattle.spec.specs.Frames.{bookFormat, Kind, headKind, nodeKind, segmentKind, joinKind, trainKind, callKind, unbreakableKind, endKind, kindField, kindOrder, findKind, payloadOf, behind, cutShort}
 use Rattle.spec.specs.Book.{Book}
 use Rattle.spec.specs.Read.{between, readBook, frameFaults, kindFaults, contentFaults, bookFaults}
 use Rattle.spec.specs.Instance.{Instance, instanceOf}
@@ -245,7 +245,7 @@ read-number book k d e =
       | inr h ↦ numbered (between 1 11) k _ tt (h .2)
     ])
   where
-    kinds : (b : Book) (o : Option Kind) (p : Bytes) → T (all (λ f. between 1 11 (f .number)) (kindFaults b o p))
+    kinds : (b : Book) (o : Option Kind) (p : Bytes) → T (all (λ f. between 1 11 (f .number)) (kindFaults bookFormat b o p))
     kinds b none p = tt
     kinds b (some headKind) p = tt
     kinds b (some nodeKind) p = tt

@@ -9,6 +9,7 @@ use mathlib.Core.List.{List, [], _∷_, _++_, map, List·Memᴰ, List·Memᴰ·h
 use lib.ListN.{length, getD}
 use lib.Dec.{T, leb, ltb, eqb}
 use Rattle.spec.specs.Lists.{all, upTo, only, one, pick, empty, passes, faultless}
+use Rattle.spec.specs.Frames.{bookFormat}
 use Rattle.spec.specs.Book.{Book, Train, greatestNodeKind, nodeKindAt, trainAt, callsOf, noCall, deniesBorder, forcesBorder, segmentOf, lengthInSegments}
 use Rattle.spec.specs.Runs.{directed, goesOn, extend, pathsOf, runsOf}
 use Rattle.spec.specs.Read.{wellFormed, growing, bookFaults, headFits, segmentFits, joinFits, joinsOnce, trainFits, reachFits, placeFits, trainAllFits, callFits, between, maxNodes, maxSegments, maxJoins, maxTrains, maxCalls, maxRuns}
@@ -33,7 +34,7 @@ pub record Sound (I : Instance) : Type 0 where
 
 -- What well-formedness says, part by part.
 pub record Parts (b : Book) : Type 0 where
-  pub head : T (headFits b)
+  pub head : T (headFits bookFormat b)
   pub fewNodes : length (b .nodes) ≤ maxNodes
   pub nodes : T (all (λ k. leb k greatestNodeKind) (b .nodes))
   pub fewSegments : length (b .segments) ≤ maxSegments

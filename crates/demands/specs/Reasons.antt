@@ -7,7 +7,7 @@ use lib.ListN.{length}
 use lib.Dec.{T}
 use Rattle.spec.specs.Lists.{Bytes, all, empty, one, Fault, _when_, Verdict, accepted, refused}
 use Rattle.spec.specs.Book.{Book}
-use Rattle.spec.specs.Frames.{kindField, payloadOf, behind}
+use Rattle.spec.specs.Frames.{Format, kindField, payloadOf, behind}
 use Rattle.spec.specs.Read.{Reading, readingStart, isEnd, frameFaults, bookFaults, more, readFrame, readBook}
 use Rattle.spec.specs.Instance.{Instance, instanceOf}
 use Rattle.spec.specs.Plan.{planFits, planOf, ruleFaults}
@@ -28,18 +28,18 @@ pub record FirstHolds (n : ℕ) (faults : List Fault) : Type 0 where
 
 -- ---- reading a book: 1 to 11
 
--- The readings that the reader comes to from the start of s, and what is then left of it.
-pub data ReadsTo (s : Bytes) : Reading → Bytes → Type 0 where
-  start : ReadsTo s readingStart s
-  next : {r r″ : Reading} {s′ s″ : Bytes} → ReadsTo s r s′ → readFrame r s′ ≡ more r″ s″ → ReadsTo s r″ s″
+-- The readings that the reader of a format comes to from the start of s, and what is then left of it.
+pub data ReadsTo (f : Format) (s : Bytes) : Reading → Bytes → Type 0 where
+  start : ReadsTo f s readingStart s
+  next : {r r″ : Reading} {s′ s″ : Bytes} → ReadsTo f s r s′ → readFrame f r s′ ≡ more r″ s″ → ReadsTo f s r″ s″
 
 -- How reading ends at the frame at the start of s, with the verdict v.
-pub data Ends (r : Reading) (s : Bytes) (v : Verdict Book) : Type 0 where
-  frame : (n : ℕ) → FirstHolds n (frameFaults r s) → v ≡ refused n 0 → Ends r s v
-  book : (n : ℕ) → T (all passes (frameFaults r s)) → T (isEnd (kindField s)) → FirstHolds n (bookFaults (r .book))
-      → v ≡ refused n 0 → Ends r s v
-  pass : T (all passes (frameFaults r s)) → T (isEnd (kindField s)) → T (all passes (bookFaults (r .book)))
-      → v ≡ accepted (r .book) → Ends r s v
+pub data Ends (f : Format) (r : Reading) (s : Bytes) (v : Verdict Book) : Type 0 where
+  frame : (n : ℕ) → FirstHolds n (frameFaults f r s) → v ≡ refused n 0 → Ends f r s v
+  book : (n : ℕ) → T (all passes (frameFaults f r s)) → T (isEnd (kindField s)) → FirstHolds n (bookFaults (r .book))
+      → v ≡ refused n 0 → Ends f r s v
+  pass : T (all passes (frameFaults f r s)) → T (isEnd (kindField s)) → T (all passes (bookFaults (r .book)))
+      → v ≡ accepted (r .book) → Ends f r s v
 
 -- ---- the order of the entry points
 

@@ -4,7 +4,8 @@ use mathlib.Core.Option.{Option, none, some}
 use Prim.Native.Nat.{ℕ}
 use lib.Dec.{ltb, eqb}
 use Rattle.spec.specs.Lists.{Bytes}
-use Rattle.spec.specs.Frames.{Kind, headKind, nodeKind, segmentKind, joinKind, trainKind, callKind, unbreakableKind, endKind, cutShort, kindField, payloadLength, rank}
+use Rattle.spec.specs.Frames.{Kind, headKind, nodeKind, segmentKind, joinKind, trainKind, callKind, unbreakableKind, endKind}
+use Rattle.spec.specs.Frames.{cutShort, kindField, payloadLength, rank}
 use Rattle.spec.specs.Read.{isHead, isEnd}
 use Rattle.frames.specs.declared.Kind.{Kind as KindCase}
 use Rattle.frames.specs.declared.Kind.the-variants.{Head, Node, Segment, Join, Train, Call, Unbreakable, End, Unknown}

@@ -215,8 +215,8 @@ pub fn pair(s: &[u8], at: usize) -> usize
 
 // The time at a place.
 pub fn time(s: &[u8], at: usize) -> usize
-    requires { ⌜ at + frames.timeWidth ≤ length (now s) ⌝ }
-    ensures { λ r. ⌜ (r ≡ field (now (s .entry)) at frames.timeWidth) × (r < 65536) ⌝ }
+    requires { ⌜ at + frames.bookFormat .timeWidth ≤ length (now s) ⌝ }
+    ensures { λ r. ⌜ (r ≡ field (now (s .entry)) at (frames.bookFormat .timeWidth)) × (r < 65536) ⌝ }
 {
     s[at] as usize
 }

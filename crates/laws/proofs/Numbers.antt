@@ -6,7 +6,7 @@ use Prim.Native.Nat.{ℕ, zero, suc, _+_, _*_, _-_, _/_, _%_, _^_, _≤_, _<_}
 use native.Mathlib.Nat.{pow-succ'}
 use native.Mathlib.Omega.{arith}
 use native.Mathlib.Numerals.{add-one}
-use mathlib.Core.List.{[], _∷_, _++_}
+use mathlib.Core.List.{[], _∷_, _++_, append-nil}
 use lib.ListN.{length, getD, take, drop, length-drop}
 use lib.Seq.{take-at, drop-append-add, length-take-le, drop-cons, drop-drop}
 use lib.IntN.{ℤ, pos, negsuc}
@@ -84,6 +84,21 @@ field-written w n rest h = rw (take-at (littleEndian w n) rest w (length-littleE
 pub field-behind : (front s : Bytes) (at w : ℕ) → field (front ++ s) (length front + at) w ≡ field s at w
 unfolding field
 field-behind front s at w = rw drop-append-add
+
+-- a number that stands alone
+pub field-alone : (w n : ℕ) → n < 256 ^ w → field (littleEndian w n) 0 w ≡ n
+field-alone w n h = let e = field-written w n [] h in rw append-nil at e
+
+-- what stands behind a number that was written
+pub field-past : (w n : ℕ) (s : Bytes) (at from v : ℕ) → from ≡ w + at → field (littleEndian w n ++ s) from v ≡ field s at v
+field-past w n s at from v e =
+    ap (λ (k : ℕ). field (littleEndian w n ++ s) k v) (e ∙ ap (λ (k : ℕ). k + at) (sym (length-littleEndian w n)))
+    ∙ field-behind (littleEndian w n) s at v
+
+pub drop-past : (w n : ℕ) (s : Bytes) (at from : ℕ) → from ≡ w + at → drop from (littleEndian w n ++ s) ≡ drop at s
+drop-past w n s at from e =
+    ap (λ (k : ℕ). drop k (littleEndian w n ++ s)) (e ∙ ap (λ (k : ℕ). k + at) (sym (length-littleEndian w n)))
+    ∙ drop-append-add (littleEndian w n) s at
 
 -- the bytes of a field that is there
 module _ (s : Bytes) (at w : ℕ) (b : T (bytes s)) (fits : at + w ≤ length s) where

@@ -11,7 +11,7 @@ use lib.ListN.{length, drop}
 use lib.Dec.{T, eqb, T-not}
 use Rattle.laws.proofs.Tests.{decide, true-of, denied-of, false-of, or-iff, and-iff, eqb-iff, bool-ext, empty-length}
 use Rattle.spec.specs.Lists.{Bytes, any, all, empty, Fault, _when_, firstFault}
-use Rattle.spec.specs.Frames.{Kind, kindNumber, kindOrder, rank, rankIn, findKind, kindField, payloadOf, behind, cutShort}
+use Rattle.spec.specs.Frames.{Format, Kind, kindNumber, kindOrder, rank, rankIn, findKind, kindField, payloadOf, behind, cutShort}
 use Rattle.spec.specs.Read.{Reading, unknownKind, outOfOrder, isHead, isEnd, kindFaults, frameFaults}
 use Rattle.demands.proofs.Growing.{none-iff}
 use Rattle.frames.proofs.Order.{rank-none}
@@ -27,21 +27,21 @@ pub fault-next : (n : ℕ) (b : Bool) (fs : List Fault) → b ≡ false → firs
 unfolding firstFault
 fault-next n b fs e = rw (e, firstFault) refl
 
-module _ (r : Reading) (s : Bytes) where
-  pub first-cut : cutShort s ≡ true → firstFault (frameFaults r s) ≡ some 1
+module _ (F : Format) (r : Reading) (s : Bytes) where
+  pub first-cut : cutShort s ≡ true → firstFault (frameFaults F r s) ≡ some 1
   unfolding frameFaults
   first-cut e = fault-here 1 (cutShort s) _ e
 
-  pub first-unknown : cutShort s ≡ false → unknownKind (kindField s) ≡ true → firstFault (frameFaults r s) ≡ some 2
+  pub first-unknown : cutShort s ≡ false → unknownKind (kindField s) ≡ true → firstFault (frameFaults F r s) ≡ some 2
   unfolding frameFaults
   first-unknown e f = fault-next 1 (cutShort s) _ e ∙ fault-here 2 (unknownKind (kindField s)) _ f
 
-  pub first-order : cutShort s ≡ false → unknownKind (kindField s) ≡ false → outOfOrder (r .last) s ≡ true → firstFault (frameFaults r s) ≡ some 3
+  pub first-order : cutShort s ≡ false → unknownKind (kindField s) ≡ false → outOfOrder (r .last) s ≡ true → firstFault (frameFaults F r s) ≡ some 3
   unfolding frameFaults
   first-order e f g = fault-next 1 (cutShort s) _ e ∙ fault-next 2 (unknownKind (kindField s)) _ f ∙ fault-here 3 (outOfOrder (r .last) s) _ g
 
   pub first-content : cutShort s ≡ false → unknownKind (kindField s) ≡ false → outOfOrder (r .last) s ≡ false
-      → firstFault (frameFaults r s) ≡ firstFault (kindFaults (r .book) (findKind (kindField s) kindOrder) (payloadOf s))
+      → firstFault (frameFaults F r s) ≡ firstFault (kindFaults F (r .book) (findKind (kindField s) kindOrder) (payloadOf s))
   unfolding frameFaults
   first-content e f g = fault-next 1 (cutShort s) _ e ∙ fault-next 2 (unknownKind (kindField s)) _ f ∙ fault-next 3 (outOfOrder (r .last) s) _ g
 

@@ -2,7 +2,7 @@
 -- and an answer of the code is the specification's where the table of faults and the book behind it are. Assumes nothing.
 use Rattle.laws.proofs.Arrays.{take-padded, padded-next}
 use mathlib.Core.Path.{_≡_, refl, sym, ap, ap₂, _∙_}
-use mathlib.Core.Option.{none, some}
+use mathlib.Core.Option.{Option, none, some}
 use Prim.Native.Nat.{ℕ, suc, _+_, _*_, _-_, _≤_, _<_}
 use native.Mathlib.Omega.{arith}
 use mathlib.Core.List.{List, [], _∷_, _++_, map}
@@ -11,10 +11,10 @@ use lib.Seq.{length-take-le, take-append-seam, take-at, set-append-seam, append-
 use Rattle.model.specs.declared.Book.{Book as BookStruct}
 use Rattle.model.specs.declared.Train.{Train as TrainStruct}
 use Rattle.spec.specs.Lists.{Bytes, one, firstFault}
-use Rattle.spec.specs.Frames.{Kind, headKind, nodeKind, segmentKind, joinKind, trainKind, callKind, unbreakableKind}
+use Rattle.spec.specs.Frames.{Format, isKind, kindNumber, Kind, headKind, nodeKind, segmentKind, joinKind, trainKind, callKind, unbreakableKind}
 use Rattle.spec.specs.Book.{Book, Segment, Join, Train, Call}
 use Rattle.spec.specs.Numbers.{field}
-use Rattle.spec.specs.Read.{contentFaults, add, headOf, segmentIn, joinIn, trainIn, callIn, maxNodes, maxSegments, maxJoins, maxTrains, maxCalls}
+use Rattle.spec.specs.Read.{contentFaults, add, grown, segmentIn, joinIn, trainIn, callIn, maxNodes, maxSegments, maxJoins, maxTrains, maxCalls}
 use Rattle.spec.specs.Held.{held, packed, padded, heldTrain, packedTrain, CountsFit, NumbersFit, zeroSegment, zeroJoin, zeroTrain, zeroCall}
 use Rattle.reader.specs.declared.content.Checked.the-variants.{Fine, Refused}
 use Rattle.reader.specs.declared.content.Added.{Added}
@@ -22,15 +22,29 @@ use Rattle.reader.specs.Added.{added, Packed}
 
 -- ---- rows in arrays
 
+-- one more entry in an array behind the first `count`, or none
 module _ {ℓ} {A : Type ℓ} where
-  -- the same, by an array and its count
-  pub set-row : {n count : ℕ} {row : List A} (z x : A) (xs : List A) → count ≡ length xs → row ≡ padded n z xs → count < n
-      → set row count x ≡ padded n z (xs ++ one x)
-  set-row {n} z x xs e f h =
-      let l : length xs < n = omega arith in ap₂ (λ (r : List A) (c : ℕ). set r c x) f e ∙ padded-next n (length xs) z x xs refl l
+  abbrev put : Option A → ℕ → List A → List A
+  put none count row = row
+  put (some x) count row = set row count x
 
-  pub count-row : {count : ℕ} (x : A) (xs : List A) → count ≡ length xs → count + 1 ≡ length (xs ++ one x)
-  count-row x xs e = rw length-append (omega arith)
+  abbrev counted : Option A → ℕ → ℕ
+  counted none count = count
+  counted (some x) count = count + 1
+
+  -- the row that the array holds then
+  abbrev Grows : ℕ → Option A → List A → List A → Type ℓ
+  Grows n none xs ys = ys ≡ xs
+  Grows n (some x) xs ys = (length xs < n) × (ys ≡ xs ++ one x)
+
+  -- the array and its count are that row's
+  put-row : (n : ℕ) {count : ℕ} {row : List A} (z : A) (xs ys : List A) (o : Option A) → count ≡ length xs → row ≡ padded n z xs
+      → Grows n o xs ys → (put o count row ≡ padded n z ys) × (counted o count ≡ length ys)
+  put-row n z xs ys none e f g = (f ∙ ap (padded n z) (sym g), e ∙ ap length (sym g))
+  put-row n z xs ys (some x) e f g = (
+    ap₂ (λ (r : List A) (c : ℕ). set r c x) f e ∙ padded-next n (length xs) z x xs refl (g .0) ∙ ap (padded n z) (sym (g .1)),
+    rw (g .1, length-append) (omega arith),
+  )
 
 -- a row with one more behind it, mapped
 map-snoc {ℓ κ} : {A : Type ℓ} {B : Type κ} (f : A → B) (xs : List A) (x : A) → map f (xs ++ one x) ≡ map f xs ++ one (f x)
@@ -115,184 +129,143 @@ module _ (b : BookStruct) (fits : CountsFit b) where
   unfolding held
   trains-held e = length-map (take (b .«train_count») (b .trains)) heldTrain ∙ length-take-le _ (b .trains) (omega arith)
 
--- ---- the struct with one part of it changed
+-- ---- the struct with what a frame puts in
 
-abbrev pub withHead : BookStruct → ℕ → ℕ → ℕ → BookStruct
-withHead b m s t = record {
-  «segment_metres» = m;
-  «interval_seconds» = s;
-  intervals = t;
-  «node_count» = b .«node_count»;
-  «segment_count» = b .«segment_count»;
-  «join_count» = b .«join_count»;
-  «train_count» = b .«train_count»;
-  «call_count» = b .«call_count»;
-  nodes = b .nodes;
-  segments = b .segments;
-  joins = b .joins;
-  trains = b .trains;
-  calls = b .calls;
+-- the struct with these numbers of a Head, and with at most one more entry in each of its rows
+abbrev withPut : BookStruct → ℕ → ℕ → ℕ → Option ℕ → Option Segment → Option Join → Option TrainStruct → Option Call → BookStruct
+withPut b metres seconds intervals n s j t c = record {
+  «segment_metres» = metres;
+  «interval_seconds» = seconds;
+  intervals = intervals;
+  «node_count» = counted n (b .«node_count»);
+  «segment_count» = counted s (b .«segment_count»);
+  «join_count» = counted j (b .«join_count»);
+  «train_count» = counted t (b .«train_count»);
+  «call_count» = counted c (b .«call_count»);
+  nodes = put n (b .«node_count») (b .nodes);
+  segments = put s (b .«segment_count») (b .segments);
+  joins = put j (b .«join_count») (b .joins);
+  trains = put t (b .«train_count») (b .trains);
+  calls = put c (b .«call_count») (b .calls);
 }
 
-abbrev pub withNodes : BookStruct → ℕ → List ℕ → BookStruct
-withNodes b n xs = record {
-  «segment_metres» = b .«segment_metres»;
-  «interval_seconds» = b .«interval_seconds»;
-  intervals = b .intervals;
-  «node_count» = n;
-  «segment_count» = b .«segment_count»;
-  «join_count» = b .«join_count»;
-  «train_count» = b .«train_count»;
-  «call_count» = b .«call_count»;
-  nodes = xs;
-  segments = b .segments;
-  joins = b .joins;
-  trains = b .trains;
-  calls = b .calls;
-}
+module _ (b : BookStruct) (w : Packed b) where
+  -- it is the struct of a book with these numbers and these rows
+  put-packed : (x : Book) (n : Option ℕ) (s : Option Segment) (j : Option Join) (t : Option TrainStruct) (c : Option Call)
+      → Grows maxNodes n (held b .nodes) (x .nodes) → Grows maxSegments s (held b .segments) (x .segments)
+      → Grows maxJoins j (held b .joins) (x .joins)
+      → Grows maxTrains t (map packedTrain (held b .trains)) (map packedTrain (x .trains))
+      → Grows (maxTrains * maxCalls) c (held b .calls) (x .calls)
+      → withPut b (x .segmentMetres) (x .intervalSeconds) (x .intervals) n s j t c ≡ packed x
+  unfolding packed
+  put-packed x n s j t c gn gs gj gt gc = λ i. record {
+    «segment_metres» = x .segmentMetres;
+    «interval_seconds» = x .intervalSeconds;
+    intervals = x .intervals;
+    «node_count» = nodes′ .1 i;
+    «segment_count» = segments′ .1 i;
+    «join_count» = joins′ .1 i;
+    «train_count» = count i;
+    «call_count» = calls′ .1 i;
+    nodes = nodes′ .0 i;
+    segments = segments′ .0 i;
+    joins = joins′ .0 i;
+    trains = trains′ .0 i;
+    calls = calls′ .0 i;
+  }
+    where
+      nodes′ : (put n (b .«node_count») (b .nodes) ≡ padded maxNodes 0 (x .nodes)) × (counted n (b .«node_count») ≡ length (x .nodes))
+      nodes′ = put-row maxNodes 0 (held b .nodes) (x .nodes) n (sym (nodes-counted w)) (ap {B = List ℕ} (λ o. o .nodes) (w .same)) gn
 
-abbrev pub withSegments : BookStruct → ℕ → List Segment → BookStruct
-withSegments b n xs = record {
-  «segment_metres» = b .«segment_metres»;
-  «interval_seconds» = b .«interval_seconds»;
-  intervals = b .intervals;
-  «node_count» = b .«node_count»;
-  «segment_count» = n;
-  «join_count» = b .«join_count»;
-  «train_count» = b .«train_count»;
-  «call_count» = b .«call_count»;
-  nodes = b .nodes;
-  segments = xs;
-  joins = b .joins;
-  trains = b .trains;
-  calls = b .calls;
-}
+      segments′ : (put s (b .«segment_count») (b .segments) ≡ padded maxSegments zeroSegment (x .segments))
+          × (counted s (b .«segment_count») ≡ length (x .segments))
+      segments′ = put-row maxSegments zeroSegment (held b .segments) (x .segments) s (sym (segments-counted w)) (ap {B = List Segment} (λ o. o .segments) (w .same)) gs
 
-abbrev pub withJoins : BookStruct → ℕ → List Join → BookStruct
-withJoins b n xs = record {
-  «segment_metres» = b .«segment_metres»;
-  «interval_seconds» = b .«interval_seconds»;
-  intervals = b .intervals;
-  «node_count» = b .«node_count»;
-  «segment_count» = b .«segment_count»;
-  «join_count» = n;
-  «train_count» = b .«train_count»;
-  «call_count» = b .«call_count»;
-  nodes = b .nodes;
-  segments = b .segments;
-  joins = xs;
-  trains = b .trains;
-  calls = b .calls;
-}
+      joins′ : (put j (b .«join_count») (b .joins) ≡ padded maxJoins zeroJoin (x .joins)) × (counted j (b .«join_count») ≡ length (x .joins))
+      joins′ = put-row maxJoins zeroJoin (held b .joins) (x .joins) j (sym (joins-counted w)) (ap {B = List Join} (λ o. o .joins) (w .same)) gj
 
-abbrev pub withTrains : BookStruct → ℕ → List TrainStruct → BookStruct
-withTrains b n xs = record {
-  «segment_metres» = b .«segment_metres»;
-  «interval_seconds» = b .«interval_seconds»;
-  intervals = b .intervals;
-  «node_count» = b .«node_count»;
-  «segment_count» = b .«segment_count»;
-  «join_count» = b .«join_count»;
-  «train_count» = n;
-  «call_count» = b .«call_count»;
-  nodes = b .nodes;
-  segments = b .segments;
-  joins = b .joins;
-  trains = xs;
-  calls = b .calls;
-}
+      trains′ : (put t (b .«train_count») (b .trains) ≡ padded maxTrains zeroTrain (map packedTrain (x .trains)))
+          × (counted t (b .«train_count») ≡ length (map packedTrain (x .trains)))
+      trains′ =
+          put-row maxTrains zeroTrain (map packedTrain (held b .trains)) (map packedTrain (x .trains)) t (sym (trains-counted w) ∙ sym (length-map (held b .trains) packedTrain))
+          (ap {B = List TrainStruct} (λ o. o .trains) (w .same)) gt
 
-abbrev pub withCalls : BookStruct → ℕ → List Call → BookStruct
-withCalls b n xs = record {
-  «segment_metres» = b .«segment_metres»;
-  «interval_seconds» = b .«interval_seconds»;
-  intervals = b .intervals;
-  «node_count» = b .«node_count»;
-  «segment_count» = b .«segment_count»;
-  «join_count» = b .«join_count»;
-  «train_count» = b .«train_count»;
-  «call_count» = n;
-  nodes = b .nodes;
-  segments = b .segments;
-  joins = b .joins;
-  trains = b .trains;
-  calls = xs;
-}
+      count : counted t (b .«train_count») ≡ length (x .trains)
+      count = trains′ .1 ∙ length-map (x .trains) packedTrain
 
--- ---- an entry more
+      calls′ : (put c (b .«call_count») (b .calls) ≡ padded (maxTrains * maxCalls) zeroCall (x .calls))
+          × (counted c (b .«call_count») ≡ length (x .calls))
+      calls′ = put-row (maxTrains * maxCalls) zeroCall (held b .calls) (x .calls) c (sym (calls-counted w)) (ap {B = List Call} (λ o. o .calls) (w .same)) gc
 
--- Each: the struct that the code leaves is the one of the book with what the frame adds.
-module _ (b : BookStruct) (w : Packed b) (p : Bytes) where
-  pub put-head : (m s t : ℕ) → m ≡ field p 0 2 → s ≡ field p 2 2 → t ≡ field p 4 1
-      → withHead b m s t ≡ packed (add (held b) headKind p)
-  unfolding packed add headOf
-  put-head m s t e f g =
-      λ i. withHead (w .same i) (e i) (f i) (g i)
+  -- ---- each kind: the struct that the code leaves is the one of the book with what the frame adds
 
-  pub put-node : (x : ℕ) → x ≡ field p 0 1 → b .«node_count» < maxNodes
-      → withNodes b (b .«node_count» + 1) (set (b .nodes) (b .«node_count») x) ≡ packed (add (held b) nodeKind p)
-  unfolding packed add
-  put-node x e h =
-      let c = count-row (field p 0 1) (held b .nodes) (sym (nodes-counted w)) in
-      let r = set-row 0 x (held b .nodes) (sym (nodes-counted w)) (ap {B = List ℕ} (λ o. o .nodes) (w .same)) h
-      ∙ ap (λ (y : ℕ). padded maxNodes 0 (held b .nodes ++ one y)) e in
-      λ i. withNodes (w .same i) (c i) (r i)
+  module _ (F : Format) (p : Bytes) where
+    -- the struct with one more entry in a row
+    abbrev withEntry : Option ℕ → Option Segment → Option Join → Option TrainStruct → Option Call → BookStruct
+    withEntry = withPut b (b .«segment_metres») (b .«interval_seconds») (b .intervals)
 
-  pub put-segment : (x : Segment) → x ≡ segmentIn p → b .«segment_count» < maxSegments
-      → withSegments b (b .«segment_count» + 1) (set (b .segments) (b .«segment_count») x) ≡ packed (add (held b) segmentKind p)
-  unfolding packed add
-  put-segment x e h =
-      let c = count-row (segmentIn p) (held b .segments) (sym (segments-counted w)) in
-      let r = set-row zeroSegment x (held b .segments) (sym (segments-counted w)) (ap {B = List Segment} (λ o. o .segments) (w .same)) h
-      ∙ ap (λ (y : Segment). padded maxSegments zeroSegment (held b .segments ++ one y)) e in
-      λ i. withSegments (w .same i) (c i) (r i)
+    pub put-head : (m s t : ℕ) → m ≡ field p 0 2 → s ≡ field p 2 2 → t ≡ field p 4 (F .timeWidth)
+        → withPut b m s t none none none none none ≡ packed (add F (held b) headKind p)
+    unfolding add isKind kindNumber grown
+    put-head m s t e f g =
+        (λ i. withPut b (e i) (f i) (g i) none none none none none)
+        ∙ put-packed (add F (held b) headKind p) none none none none none refl refl refl refl refl
 
-  pub put-join : (x : Join) → x ≡ joinIn p → b .«join_count» < maxJoins
-      → withJoins b (b .«join_count» + 1) (set (b .joins) (b .«join_count») x) ≡ packed (add (held b) joinKind p)
-  unfolding packed add
-  put-join x e h =
-      let c = count-row (joinIn p) (held b .joins) (sym (joins-counted w)) in
-      let r = set-row zeroJoin x (held b .joins) (sym (joins-counted w)) (ap {B = List Join} (λ o. o .joins) (w .same)) h
-      ∙ ap (λ (y : Join). padded maxJoins zeroJoin (held b .joins ++ one y)) e in
-      λ i. withJoins (w .same i) (c i) (r i)
+    pub put-node : (x : ℕ) → x ≡ field p 0 1 → b .«node_count» < maxNodes
+        → withEntry (some x) none none none none ≡ packed (add F (held b) nodeKind p)
+    unfolding add isKind kindNumber grown held
+    put-node x e h =
+        put-packed (add F (held b) nodeKind p) (some x) none none none none
+        (omega (arith, nodes-counted w), ap (λ (y : ℕ). held b .nodes ++ one y) (sym e)) refl refl refl refl
 
-  pub put-call : (x : Call) → x ≡ callIn p → b .«call_count» < maxTrains * maxCalls
-      → withCalls b (b .«call_count» + 1) (set (b .calls) (b .«call_count») x) ≡ packed (add (held b) callKind p)
-  unfolding packed add
-  put-call x e h =
-      let c = count-row (callIn p) (held b .calls) (sym (calls-counted w)) in
-      let r = set-row zeroCall x (held b .calls) (sym (calls-counted w)) (ap {B = List Call} (λ o. o .calls) (w .same)) h
-      ∙ ap (λ (y : Call). padded (maxTrains * maxCalls) zeroCall (held b .calls ++ one y)) e in
-      λ i. withCalls (w .same i) (c i) (r i)
+    pub put-segment : (x : Segment) → x ≡ segmentIn p → b .«segment_count» < maxSegments
+        → withEntry none (some x) none none none ≡ packed (add F (held b) segmentKind p)
+    unfolding add isKind kindNumber grown held
+    put-segment x e h =
+        put-packed (add F (held b) segmentKind p) none (some x) none none none
+        refl (omega (arith, segments-counted w), ap (λ (y : Segment). held b .segments ++ one y) (sym e)) refl refl refl
 
-  pub put-train : (x : TrainStruct) → x ≡ packedTrain (trainIn p) → b .«train_count» < maxTrains
-      → withTrains b (b .«train_count» + 1) (set (b .trains) (b .«train_count») x) ≡ packed (add (held b) trainKind p)
-  unfolding packed add
-  put-train x e h =
-      let n : b .«train_count» ≡ length (held b .trains) = sym (trains-counted w) in
-      let c = count-row (trainIn p) (held b .trains) n in
-      let m = n ∙ sym (length-map (held b .trains) packedTrain) in
-      let r = set-row zeroTrain x (map packedTrain (held b .trains)) m (ap {B = List TrainStruct} (λ o. o .trains) (w .same)) h
-      ∙ ap (λ (y : TrainStruct). padded maxTrains zeroTrain (map packedTrain (held b .trains) ++ one y)) e
-      ∙ ap (padded maxTrains zeroTrain) (sym (map-snoc packedTrain (held b .trains) (trainIn p))) in
-      λ i. withTrains (w .same i) (c i) (r i)
+    pub put-join : (x : Join) → x ≡ joinIn p → b .«join_count» < maxJoins
+        → withEntry none none (some x) none none ≡ packed (add F (held b) joinKind p)
+    unfolding add isKind kindNumber grown held
+    put-join x e h =
+        put-packed (add F (held b) joinKind p) none none (some x) none none
+        refl refl (omega (arith, joins-counted w), ap (λ (y : Join). held b .joins ++ one y) (sym e)) refl refl
 
-  -- an Unbreakable TTD adds nothing
-  pub put-nothing : b ≡ packed (add (held b) unbreakableKind p)
-  unfolding add
-  put-nothing = w .same
+    pub put-train : (x : TrainStruct) → x ≡ packedTrain (trainIn F p) → b .«train_count» < maxTrains
+        → withEntry none none none (some x) none ≡ packed (add F (held b) trainKind p)
+    unfolding add isKind kindNumber grown held
+    put-train x e h =
+        put-packed (add F (held b) trainKind p) none none none (some x) none
+        refl refl refl (
+          omega (arith, trains-counted w, length-map (held b .trains) packedTrain),
+          map-snoc packedTrain (held b .trains) (trainIn F p) ∙ ap (λ (y : TrainStruct). map packedTrain (held b .trains) ++ one y) (sym e),
+        )
+        refl
+
+    pub put-call : (x : Call) → x ≡ callIn F p → b .«call_count» < maxTrains * maxCalls
+        → withEntry none none none none (some x) ≡ packed (add F (held b) callKind p)
+    unfolding add isKind kindNumber grown held
+    put-call x e h =
+        put-packed (add F (held b) callKind p) none none none none (some x)
+        refl refl refl refl (omega (arith, calls-counted w), ap (λ (y : Call). held b .calls ++ one y) (sym e))
+
+    -- an Unbreakable TTD adds nothing
+    pub put-nothing : b ≡ packed (add F (held b) unbreakableKind p)
+    unfolding add isKind kindNumber grown
+    put-nothing = w .same
 
 -- ---- the answer
 
 -- a refusal: the table's first fault, and the book unchanged
-module _ (k : Kind) {b : BookStruct} (w : Packed b) (p : Bytes) {r : Added} where
-  pub refuses : {n : ℕ} → firstFault (contentFaults (held b) k p) ≡ some n → (r .checked ≡ Refused n) × (r .book ≡ b)
-      → r ≡ added k (held b) p
+module _ (F : Format) (k : Kind) {b : BookStruct} (w : Packed b) (p : Bytes) {r : Added} where
+  pub refuses : {n : ℕ} → firstFault (contentFaults F (held b) k p) ≡ some n → (r .checked ≡ Refused n) × (r .book ≡ b)
+      → r ≡ added F k (held b) p
   unfolding added
   refuses f e = let s = e .1 ∙ w .same in rw f (λ i. record { checked = e .0 i; book = s i })
 
   -- no fault, and the book with what the frame adds
-  pub accepts : {next : BookStruct} → firstFault (contentFaults (held b) k p) ≡ none → next ≡ packed (add (held b) k p)
-      → (r .checked ≡ Fine) × (r .book ≡ next) → r ≡ added k (held b) p
+  pub accepts : {next : BookStruct} → firstFault (contentFaults F (held b) k p) ≡ none → next ≡ packed (add F (held b) k p)
+      → (r .checked ≡ Fine) × (r .book ≡ next) → r ≡ added F k (held b) p
   unfolding added
   accepts f g e = let s = e .1 ∙ g in rw f (λ i. record { checked = e .0 i; book = s i })

@@ -13,12 +13,12 @@ use lib.Dec.{T}
 use Rattle.laws.proofs.Tests.{from-true, from-denied}
 use Rattle.laws.proofs.Numbers.{bytes}
 use Rattle.spec.specs.Lists.{Bytes, Verdict, accepted, refused, firstFault}
-use Rattle.spec.specs.Frames.{cutShort, kindField, payloadLength, behind, rank}
+use Rattle.spec.specs.Frames.{Format, cutShort, kindField, payloadLength, behind, rank}
 use Rattle.spec.specs.Book.{Book, noBook}
-use Rattle.spec.specs.Read.{Reading, frameFaults, bookFaults, refuseOr, isEnd, pastFrame, readBook}
+use Rattle.spec.specs.Read.{Reading, frameFaults, bookFaults, refuseOr, isEnd, pastFrame, readAs}
 use Rattle.spec.specs.Held.{held, packed}
 use Rattle.demands.proofs.Faults.{first-none, first-some}
-use Rattle.demands.proofs.Reading.{ReadsTo, next, Ends, frame, book, pass, GoesOn, goes-iff, read-iff}
+use Rattle.demands.proofs.Reading.{ReadsTo, next, Ends, frame, book, pass, GoesOn, goes-iff, as-iff}
 use Rattle.reader.specs.declared.reading.Next.{Next}
 use Rattle.reader.specs.declared.reading.Next.the-variants.{Stop, End, More}
 use Rattle.reader.specs.BookAnswers.{steppedBy, steppedAt}
@@ -29,68 +29,68 @@ pub never : {A : Type 0} → _≡_ {A = ℕ} 0 1 → A
 never z = let no′ : ⊥ = omega arith in absurd no′
 
 -- What an answer at a place says of the first fault there, and of the End.
-module _ (r : Reading) (s : Bytes) (at : ℕ) where
+module _ (F : Format) (r : Reading) (s : Bytes) (at : ℕ) where
   -- a refusal is the first fault's
-  pub stop-of : (n : ℕ) (o : Option ℕ) (b : Bool) → steppedBy o b r s at .next ≡ Stop n → o ≡ some n
+  pub stop-of : (n : ℕ) (o : Option ℕ) (b : Bool) → steppedBy F o b r s at .next ≡ Stop n → o ≡ some n
   stop-of n (some m) b e = cc
   stop-of n none true e = never cc
   stop-of n none false e = never cc
 
   -- at the End there is no fault
-  pub end-of : (o : Option ℕ) (b : Bool) → steppedBy o b r s at .next ≡ End → (o ≡ none) × (b ≡ true)
+  pub end-of : (o : Option ℕ) (b : Bool) → steppedBy F o b r s at .next ≡ End → (o ≡ none) × (b ≡ true)
   end-of (some m) b e = never cc
   end-of none true e = (refl, refl)
   end-of none false e = never cc
 
   -- further on there is no fault, and the place and the book are those behind the frame
-  pub more-of : (a l : ℕ) (o : Option ℕ) (b : Bool) → steppedBy o b r s at .next ≡ More a l
+  pub more-of : (a l : ℕ) (o : Option ℕ) (b : Bool) → steppedBy F o b r s at .next ≡ More a l
       → (o ≡ none) × (b ≡ false) × (a ≡ at + (4 + payloadLength s)) × (l ≡ rank (kindField s))
-      × (steppedBy o b r s at .book ≡ packed (pastFrame r s .book))
+      × (steppedBy F o b r s at .book ≡ packed (pastFrame F r s .book))
   more-of a l (some m) b e = never cc
   more-of a l none true e = never cc
   more-of a l none false e = (refl, refl, (cc), (cc), refl)
 
 -- ---- the whole file
 
-module _ (s : Bytes) (r : Reading) (at : ℕ) (way : ReadsTo s r (drop at s)) where
+module _ (F : Format) (s : Bytes) (r : Reading) (at : ℕ) (way : ReadsTo F s r (drop at s)) where
   -- where reading stops, the file is refused
-  pub stopped-reads : (n : ℕ) → firstFault (frameFaults r (drop at s)) ≡ some n → readBook s ≡ refused n 0
-  stopped-reads n e = read-iff s (refused n 0) .1 (r, drop at s, way, frame n (first-some n _ e) refl)
+  pub stopped-reads : (n : ℕ) → firstFault (frameFaults F r (drop at s)) ≡ some n → readAs F s ≡ refused n 0
+  stopped-reads n e = as-iff F s (refused n 0) .1 (r, drop at s, way, frame n (first-some n _ e) refl)
 
   -- at the End, the book's own refusals decide
-  pub ended-reads : firstFault (frameFaults r (drop at s)) ≡ none → isEnd (kindField (drop at s)) ≡ true
-      → readBook s ≡ refuseOr (firstFault (bookFaults (r .book))) (r .book)
+  pub ended-reads : firstFault (frameFaults F r (drop at s)) ≡ none → isEnd (kindField (drop at s)) ≡ true
+      → readAs F s ≡ refuseOr (firstFault (bookFaults (r .book))) (r .book)
   unfolding refuseOr
   ended-reads e f = go (firstFault (bookFaults (r .book))) refl
     where
-      go : (o : Option ℕ) → firstFault (bookFaults (r .book)) ≡ o → readBook s ≡ refuseOr o (r .book)
+      go : (o : Option ℕ) → firstFault (bookFaults (r .book)) ≡ o → readAs F s ≡ refuseOr o (r .book)
       go (some n) g =
-          read-iff s (refused n 0) .1 (r, drop at s, way, book n (first-none _ e) (from-true f) (first-some n _ g) refl)
+          as-iff F s (refused n 0) .1 (r, drop at s, way, book n (first-none _ e) (from-true f) (first-some n _ g) refl)
       go none g =
-          read-iff s (accepted (r .book)) .1 (r, drop at s, way, pass (first-none _ e) (from-true f) (first-none _ g) refl)
+          as-iff F s (accepted (r .book)) .1 (r, drop at s, way, pass (first-none _ e) (from-true f) (first-none _ g) refl)
 
   -- further on, the next place is on the way
-  pub goes-way : firstFault (frameFaults r (drop at s)) ≡ none → isEnd (kindField (drop at s)) ≡ false
-      → ReadsTo s (pastFrame r (drop at s)) (drop (at + (4 + payloadLength (drop at s))) s)
+  pub goes-way : firstFault (frameFaults F r (drop at s)) ≡ none → isEnd (kindField (drop at s)) ≡ false
+      → ReadsTo F s (pastFrame F r (drop at s)) (drop (at + (4 + payloadLength (drop at s))) s)
   unfolding behind
   goes-way e f =
-      subst (ReadsTo s (pastFrame r (drop at s))) (drop-drop (4 + payloadLength (drop at s)) at s)
-      (next way (goes-iff r (drop at s) _ _ .1
+      subst (ReadsTo F s (pastFrame F r (drop at s))) (drop-drop (4 + payloadLength (drop at s)) at s)
+      (next way (goes-iff F r (drop at s) _ _ .1
       (record { clear = first-none _ e; notEnd = from-denied f; reading = refl; rest = refl })))
 
 -- ---- one step's answer
 
-module _ (r : Reading) (t : Bytes) (at : ℕ) where
-  pub step-stop : (n : ℕ) → firstFault (frameFaults r t) ≡ some n → record { next = Stop n; book = packed (r .book) } ≡ steppedAt r t at
+module _ (F : Format) (r : Reading) (t : Bytes) (at : ℕ) where
+  pub step-stop : (n : ℕ) → firstFault (frameFaults F r t) ≡ some n → record { next = Stop n; book = packed (r .book) } ≡ steppedAt F r t at
   unfolding steppedAt
   step-stop n e = rw e refl
 
-  pub step-end : firstFault (frameFaults r t) ≡ none → isEnd (kindField t) ≡ true → record { next = End; book = packed (r .book) } ≡ steppedAt r t at
+  pub step-end : firstFault (frameFaults F r t) ≡ none → isEnd (kindField t) ≡ true → record { next = End; book = packed (r .book) } ≡ steppedAt F r t at
   unfolding steppedAt
   step-end e f = rw (e, f) refl
 
-  pub step-more : firstFault (frameFaults r t) ≡ none → isEnd (kindField t) ≡ false
-      → record { next = More (at + (4 + payloadLength t)) (rank (kindField t)); book = packed (pastFrame r t .book) } ≡ steppedAt r t at
+  pub step-more : firstFault (frameFaults F r t) ≡ none → isEnd (kindField t) ≡ false
+      → record { next = More (at + (4 + payloadLength t)) (rank (kindField t)); book = packed (pastFrame F r t .book) } ≡ steppedAt F r t at
   unfolding steppedAt
   step-more e f = rw (e, f) refl
 

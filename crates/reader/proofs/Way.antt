@@ -14,10 +14,10 @@ use Rattle.laws.proofs.Tests.{and-iff, leb-iff, ltb-iff, from-true, from-false,
 use Rattle.laws.proofs.Numbers.{bytes}
 use Rattle.laws.proofs.Frames.{whole-iff}
 use Rattle.spec.specs.Lists.{Bytes, all, Verdict, accepted, refused, firstFault}
-use Rattle.spec.specs.Frames.{cutShort, kindField, payloadLength, behind, rank, kindNumber}
+use Rattle.spec.specs.Frames.{Format, cutShort, kindField, payloadLength, behind, rank, kindNumber}
 use Rattle.spec.specs.Book.{Book, noBook}
 use Rattle.spec.specs.BookFile.{FitsFields}
-use Rattle.spec.specs.Read.{growing, Reading, readingStart, frameFaults, bookFaults, refuseOr, isEnd, pastFrame, readBook, headFits, between, outOfOrder}
+use Rattle.spec.specs.Read.{growing, Reading, readingStart, frameFaults, bookFaults, refuseOr, isEnd, pastFrame, readAs, headFits, between, outOfOrder, maxIntervals}
 use Rattle.spec.specs.Held.{held, packed}
 use Rattle.demands.proofs.Faults.{first-none}
 use Rattle.spec.specs.Reached.{Reached, atStart, behindHead}
@@ -43,10 +43,10 @@ bytes-of (x ∷ xs) h = and-iff (ltb x 256) (all (λ x. ltb x 256) xs) .1 (ltb-i
 
 -- ---- what holds wherever the reader comes
 
--- T is at most 32
+-- T is small
 few-intervals : (b : Book) → Growing b → b .intervals < 65536
 unfolding headFits between
-few-intervals b g = let h = leb-iff (b .intervals) 32 .0 ((simp and-iff at (g .head)) .1 .1) in omega arith
+few-intervals b g = let h = leb-iff (b .intervals) maxIntervals .0 ((simp and-iff at (g .head)) .1 .1) in omega arith
 
 -- the struct of a book as far as it was read holds it
 packed-reached : (r : Reading) → Reached r → (r .last ≢ 0 → FitsFields (r .book)) → Packed (packed (r .book))
@@ -68,19 +68,20 @@ no-end last s l e o =
     absurd (T-not (outOfOrder last s) o (from-true (order-by last s ∙ sym (not-first last (kindField s) (length (behind s)) l h))))
 
 -- the reader is on its way
-pub record OnWay (s : Bytes) (book : BookStruct) (last at : ℕ) : Type 0 where
+pub record OnWay (F : Format) (s : Bytes) (book : BookStruct) (last at : ℕ) : Type 0 where
   pub reading : Reading
   pub same : book ≡ packed (reading .book)
   pub rank-is : last ≡ reading .last
   pub inside : at ≤ length s
   pub isBytes : T (bytes s)
-  pub way : ReadsTo s reading (drop at s)
+  pub small : F .maxIntervals ≤ maxIntervals
+  pub way : ReadsTo F s reading (drop at s)
 
-pub way-start : (s : Bytes) (book : BookStruct) → T (bytes s) → book ≡ packed noBook → OnWay s book 0 0
+pub way-start : (F : Format) (s : Bytes) (book : BookStruct) → F .maxIntervals ≤ maxIntervals → T (bytes s) → book ≡ packed noBook → OnWay F s book 0 0
 unfolding readingStart
-way-start s book y e = record { reading = readingStart; same = e; rank-is = refl; inside = omega arith; isBytes = y; way = start }
+way-start F s book m y e = record { reading = readingStart; same = e; rank-is = refl; inside = omega arith; isBytes = y; small = m; way = start }
 
-module _ (s : Bytes) (book : BookStruct) (last at : ℕ) (w : OnWay s book last at) where
+module _ (F : Format) (s : Bytes) (book : BookStruct) (last at : ℕ) (w : OnWay F s book last at) where
   -- the reading there, by the struct
   pub here-is : _≡_ {A = Reading} (record { last = last; book = held book }) (w .reading)
   here-is =
@@ -89,52 +90,53 @@ module _ (s : Bytes) (book : BookStruct) (last at : ℕ) (w : OnWay s book last 
 
   -- what a step asks
   pub way-packed : Packed book
-  way-packed = subst Packed (sym (w .same)) (packed-reached (w .reading) (reached (w .way)) (reads-fit (w .isBytes) (w .way)))
+  way-packed = subst Packed (sym (w .same)) (packed-reached (w .reading) (reached F (w .small) (w .way)) (reads-fit F (w .isBytes) (w .way)))
 
   pub way-reached : Reached (record { last = last; book = held book })
-  way-reached = subst Reached (sym here-is) (reached (w .way))
+  way-reached = subst Reached (sym here-is) (reached F (w .small) (w .way))
 
-  module _ (st : Stepped) (answer : st ≡ steppedAt (record { last = last; book = held book }) (drop at s) at) where
-    by-reading : st ≡ steppedBy (firstFault (frameFaults (w .reading) (drop at s))) (isEnd (kindField (drop at s))) (w .reading) (drop at s) at
+  module _ (st : Stepped) (answer : st ≡ steppedAt F (record { last = last; book = held book }) (drop at s) at) where
+    by-reading : st ≡ steppedBy F (firstFault (frameFaults F (w .reading) (drop at s))) (isEnd (kindField (drop at s))) (w .reading) (drop at s) at
     unfolding steppedAt
-    by-reading = answer ∙ ap (λ (r : Reading). steppedAt r (drop at s) at) here-is
+    by-reading = answer ∙ ap (λ (r : Reading). steppedAt F r (drop at s) at) here-is
 
-    pub way-stop : (n : ℕ) → st .next ≡ Stop n → readBook s ≡ refused n 0
+    pub way-stop : (n : ℕ) → st .next ≡ Stop n → readAs F s ≡ refused n 0
     way-stop n e =
-        stopped-reads s (w .reading) at (w .way) n
-        (stop-of (w .reading) (drop at s) at n _ _ (sym (ap (λ (x : Stepped). x .next) by-reading) ∙ e))
+        stopped-reads F s (w .reading) at (w .way) n
+        (stop-of F (w .reading) (drop at s) at n _ _ (sym (ap (λ (x : Stepped). x .next) by-reading) ∙ e))
 
-    at-end : st .next ≡ End → (firstFault (frameFaults (w .reading) (drop at s)) ≡ none) × (isEnd (kindField (drop at s)) ≡ true)
-    at-end e = end-of (w .reading) (drop at s) at _ _ (sym (ap (λ (x : Stepped). x .next) by-reading) ∙ e)
+    at-end : st .next ≡ End → (firstFault (frameFaults F (w .reading) (drop at s)) ≡ none) × (isEnd (kindField (drop at s)) ≡ true)
+    at-end e = end-of F (w .reading) (drop at s) at _ _ (sym (ap (λ (x : Stepped). x .next) by-reading) ∙ e)
 
-    pub way-end : st .next ≡ End → readBook s ≡ refuseOr (firstFault (bookFaults (held book))) (held book)
+    pub way-end : st .next ≡ End → readAs F s ≡ refuseOr (firstFault (bookFaults (held book))) (held book)
     way-end e =
-        ended-reads s (w .reading) at (w .way) (at-end e .0) (at-end e .1)
+        ended-reads F s (w .reading) at (w .way) (at-end e .0) (at-end e .1)
         ∙ ap (λ (r : Reading). refuseOr (firstFault (bookFaults (r .book))) (r .book)) (sym here-is)
 
     -- the End stands behind the Head
     pub way-growing : st .next ≡ End → (w .reading .last ≢ 0) × T (growing (w .reading .book))
-    way-growing e = go (reached (w .way))
+    way-growing e = go (reached F (w .small) (w .way))
       where
         go : Reached (w .reading) → (w .reading .last ≢ 0) × T (growing (w .reading .book))
         go (atStart l n) =
-            let f = fine (w .reading) (drop at s) (first-none _ (at-end e .0)) in
+            let f = fine F (w .reading) (drop at s) (first-none _ (at-end e .0)) in
             no-end (w .reading .last) (drop at s) l (at-end e .1) (f .inOrder)
         go (behindHead l g) = (l, g)
 
-    pub way-more : (a l : ℕ) → st .next ≡ More a l → OnWay s (st .book) l a × (at < a)
+    pub way-more : (a l : ℕ) → st .next ≡ More a l → OnWay F s (st .book) l a × (at < a)
     unfolding pastFrame
     way-more a l e =
-        let m = more-of (w .reading) (drop at s) at a l _ _ (sym (ap (λ (x : Stepped). x .next) by-reading) ∙ e) in
-        let f = fine (w .reading) (drop at s) (first-none _ (m .0)) in
+        let m = more-of F (w .reading) (drop at s) at a l _ _ (sym (ap (λ (x : Stepped). x .next) by-reading) ∙ e) in
+        let f = fine F (w .reading) (drop at s) (first-none _ (m .0)) in
         let k = whole-iff (drop at s) .0 (f .whole) in (
           record {
-            reading = pastFrame (w .reading) (drop at s);
+            reading = pastFrame F (w .reading) (drop at s);
             same = ap (λ (x : Stepped). x .book) by-reading ∙ m .4;
             rank-is = m .3;
             inside = omega (arith, k, m .2, length-drop at s, w .inside);
             isBytes = w .isBytes;
-            way = subst (λ (n : ℕ). ReadsTo s (pastFrame (w .reading) (drop at s)) (drop n s)) (sym (m .2)) (goes-way s (w .reading) at (w .way) (m .0) (m .1));
+            small = w .small;
+            way = subst (λ (n : ℕ). ReadsTo F s (pastFrame F (w .reading) (drop at s)) (drop n s)) (sym (m .2)) (goes-way F s (w .reading) at (w .way) (m .0) (m .1));
           },
           omega (arith, m .2),
         )
@@ -145,5 +147,5 @@ module _ (s : Bytes) (book : BookStruct) (last at : ℕ) (w : OnWay s book last 
         let g = way-growing e in (
           way-packed,
           subst (λ (r : Reading). T (growing (r .book))) (sym here-is) (g .1),
-          subst (λ (r : Reading). FitsFields (r .book)) (sym here-is) (reads-fit (w .isBytes) (w .way) (g .0)),
+          subst (λ (r : Reading). FitsFields (r .book)) (sym here-is) (reads-fit F (w .isBytes) (w .way) (g .0)),
         )

@@ -16,7 +16,7 @@ use Rattle.laws.proofs.Tests.{decide, true-of, false-of, denied-of, from-denied
 use Rattle.laws.proofs.Frames.{whole-iff}
 use Rattle.spec.specs.Reached.{Reached, atStart, behindHead}
 use Rattle.frames.proofs.Order.{not-first, in-said}
-use Rattle.spec.specs.Frames.{kindNumber, kindOrder, findKind, cutShort, kindField, payloadLength, payloadOf, behind, rank}
+use Rattle.spec.specs.Frames.{Format, kindNumber, kindOrder, findKind, cutShort, kindField, payloadLength, payloadOf, behind, rank}
 use Rattle.spec.specs.Book.{Book}
 use Rattle.spec.specs.Read.{growing, Reading, frameFaults, kindFaults, outOfOrder, unknownKind, isEnd, pastFrame, addFound}
 use Rattle.spec.specs.Held.{held, packed}
@@ -42,7 +42,7 @@ pub settled-fine : (o : Option ℕ) (b next : Book) → settled o b next .checke
 settled-fine (some m) b next e = never cc
 settled-fine none b next e = (refl, refl)
 
-module _ (b : BookStruct) (w : Packed b) (last : ℕ) (s : Bytes) (at kind len : ℕ)
+module _ (F : Format) (b : BookStruct) (w : Packed b) (last : ℕ) (s : Bytes) (at kind len : ℕ)
     (whole : framedAt (drop at s) ≡ Whole kind len) where
   abbrev here : Reading
   here = record { last = last; book = held b }
@@ -68,66 +68,66 @@ module _ (b : BookStruct) (w : Packed b) (last : ℕ) (s : Bytes) (at kind len :
   order-here = order-by last (drop at s) ∙ ap₂ (outOfOrderBy last) (says .1) behind-here
 
   -- an answer that stops, as a struct
-  pub stops : (r : Stepped) (n : ℕ) → (r .next ≡ Stop n) × (r .book ≡ b) → firstFault (frameFaults here (drop at s)) ≡ some n
-      → r ≡ steppedAt here (drop at s) at
-  stops r n e f = let k = e .1 ∙ w .same in (λ i. record { next = e .0 i; book = k i }) ∙ step-stop here (drop at s) at n f
+  pub stops : (r : Stepped) (n : ℕ) → (r .next ≡ Stop n) × (r .book ≡ b) → firstFault (frameFaults F here (drop at s)) ≡ some n
+      → r ≡ steppedAt F here (drop at s) at
+  stops r n e f = let k = e .1 ∙ w .same in (λ i. record { next = e .0 i; book = k i }) ∙ step-stop F here (drop at s) at n f
 
-  pub unknown-here : rank kind ≡ 9 → firstFault (frameFaults here (drop at s)) ≡ some 2
-  unknown-here e = first-unknown here (drop at s) (says .0) (ap unknownKind (says .1) ∙ unknown-rank kind e)
+  pub unknown-here : rank kind ≡ 9 → firstFault (frameFaults F here (drop at s)) ≡ some 2
+  unknown-here e = first-unknown F here (drop at s) (says .0) (ap unknownKind (says .1) ∙ unknown-rank kind e)
 
   known-here : rank kind ≢ 9 → unknownKind (kindField (drop at s)) ≡ false
   known-here h = ap unknownKind (says .1) ∙ known-rank kind h
 
-  pub disorder-here : rank kind ≢ 9 → outOfOrderBy last kind (length s - (at + 4 + len)) ≡ true → firstFault (frameFaults here (drop at s)) ≡ some 3
-  disorder-here h e = first-order here (drop at s) (says .0) (known-here h) (order-here ∙ e)
+  pub disorder-here : rank kind ≢ 9 → outOfOrderBy last kind (length s - (at + 4 + len)) ≡ true → firstFault (frameFaults F here (drop at s)) ≡ some 3
+  disorder-here h e = first-order F here (drop at s) (says .0) (known-here h) (order-here ∙ e)
 
   -- the End, and what goes on behind another frame, as structs
-  pub ends-here : kind ≡ 8 → firstFault (frameFaults here (drop at s)) ≡ none → record { next = End; book = b } ≡ steppedAt here (drop at s) at
+  pub ends-here : kind ≡ 8 → firstFault (frameFaults F here (drop at s)) ≡ none → record { next = End; book = b } ≡ steppedAt F here (drop at s) at
   unfolding isEnd kindNumber
   ends-here e f =
       (λ i. record { next = End; book = w .same i })
-      ∙ step-end here (drop at s) at f (true-of (eqb (kindField (drop at s)) 8) (eqb-iff (kindField (drop at s)) 8 .1 (says .1 ∙ e)))
+      ∙ step-end F here (drop at s) at f (true-of (eqb (kindField (drop at s)) 8) (eqb-iff (kindField (drop at s)) 8 .1 (says .1 ∙ e)))
 
-  pub goes-here : kind ≢ 8 → firstFault (frameFaults here (drop at s)) ≡ none → (l : ℕ) → l ≡ rank kind
-      → (next : BookStruct) → next ≡ packed (pastFrame here (drop at s) .book)
-      → record { next = More (at + 4 + len) l; book = next } ≡ steppedAt here (drop at s) at
+  pub goes-here : kind ≢ 8 → firstFault (frameFaults F here (drop at s)) ≡ none → (l : ℕ) → l ≡ rank kind
+      → (next : BookStruct) → next ≡ packed (pastFrame F here (drop at s) .book)
+      → record { next = More (at + 4 + len) l; book = next } ≡ steppedAt F here (drop at s) at
   unfolding isEnd kindNumber
   goes-here h f l e next g =
       let place : at + 4 + len ≡ at + (4 + payloadLength (drop at s)) = omega (arith, says .2) in
       let of-kind = e ∙ ap rank (sym (says .1)) in
       (λ i. record { next = More (place i) (of-kind i); book = g i })
-      ∙ step-more here (drop at s) at f (false-of (eqb (kindField (drop at s)) 8) (λ t. h (sym (says .1) ∙ eqb-iff (kindField (drop at s)) 8 .0 t)))
+      ∙ step-more F here (drop at s) at f (false-of (eqb (kindField (drop at s)) 8) (λ t. h (sym (says .1) ∙ eqb-iff (kindField (drop at s)) 8 .0 t)))
 
   module _ (known : rank kind ≢ 9) (order : outOfOrderBy last kind (length s - (at + 4 + len)) ≡ false)
       (a : Added) (k : KindCase) (found : k ≡ kindSaid (findKind kind kindOrder))
-      (answer : a ≡ addedFound (held b) (kindIn k) (take (at + 4 + len - (at + 4)) (drop (at + 4) s))) where
-    content : firstFault (frameFaults here (drop at s))
-        ≡ firstFault (kindFaults (held b) (findKind (kindField (drop at s)) kindOrder) (payloadOf (drop at s)))
-    content = first-content here (drop at s) (says .0) (known-here known) (order-here ∙ order)
+      (answer : a ≡ addedFound F (held b) (kindIn k) (take (at + 4 + len - (at + 4)) (drop (at + 4) s))) where
+    content : firstFault (frameFaults F here (drop at s))
+        ≡ firstFault (kindFaults F (held b) (findKind (kindField (drop at s)) kindOrder) (payloadOf (drop at s)))
+    content = first-content F here (drop at s) (says .0) (known-here known) (order-here ∙ order)
 
     -- the answer, by the frame's own words
-    answered : a ≡ addedFound (held b) (findKind (kindField (drop at s)) kindOrder) (payloadOf (drop at s))
+    answered : a ≡ addedFound F (held b) (findKind (kindField (drop at s)) kindOrder) (payloadOf (drop at s))
     answered =
         answer
-        ∙ ap₂ (addedFound (held b)) (ap kindIn found ∙ in-said (findKind kind kindOrder) ∙ ap (λ n. findKind n kindOrder) (sym (says .1)))
+        ∙ ap₂ (addedFound F (held b)) (ap kindIn found ∙ in-said (findKind kind kindOrder) ∙ ap (λ n. findKind n kindOrder) (sym (says .1)))
         payload-here
 
-    pub refused-here : (n : ℕ) → a .checked ≡ Refused n → firstFault (frameFaults here (drop at s)) ≡ some n
+    pub refused-here : (n : ℕ) → a .checked ≡ Refused n → firstFault (frameFaults F here (drop at s)) ≡ some n
     unfolding addedFound
     refused-here n e = content ∙ settled-refused _ _ _ n (sym (ap (λ (x : Added). x .checked) answered) ∙ e)
 
     fine-here : a .checked ≡ Fine
-        → (firstFault (kindFaults (held b) (findKind (kindField (drop at s)) kindOrder) (payloadOf (drop at s))) ≡ none)
-        × (addedFound (held b) (findKind (kindField (drop at s)) kindOrder) (payloadOf (drop at s)) .book
-        ≡ packed (addFound (held b) (findKind (kindField (drop at s)) kindOrder) (payloadOf (drop at s))))
+        → (firstFault (kindFaults F (held b) (findKind (kindField (drop at s)) kindOrder) (payloadOf (drop at s))) ≡ none)
+        × (addedFound F (held b) (findKind (kindField (drop at s)) kindOrder) (payloadOf (drop at s)) .book
+        ≡ packed (addFound F (held b) (findKind (kindField (drop at s)) kindOrder) (payloadOf (drop at s))))
     unfolding addedFound
     fine-here e = settled-fine _ _ _ (sym (ap (λ (x : Added). x .checked) answered) ∙ e)
 
-    pub none-here : a .checked ≡ Fine → firstFault (frameFaults here (drop at s)) ≡ none
+    pub none-here : a .checked ≡ Fine → firstFault (frameFaults F here (drop at s)) ≡ none
     none-here e = content ∙ fine-here e .0
 
     -- the book behind the frame
-    pub book-here : a .checked ≡ Fine → a .book ≡ packed (pastFrame here (drop at s) .book)
+    pub book-here : a .checked ≡ Fine → a .book ≡ packed (pastFrame F here (drop at s) .book)
     unfolding pastFrame
     book-here e = ap (λ (x : Added). x .book) answered ∙ fine-here e .1
 
@@ -154,9 +154,9 @@ whole-room s at kind len h e =
     omega (arith, k, length-drop at s, w .2)
 
 -- a frame that is cut is refused by 1
-pub cut-here : (b : BookStruct) → Packed b → (last : ℕ) (s : Bytes) (at : ℕ) → framedAt (drop at s) ≡ Cut
-    → (r : Stepped) → (r .next ≡ Stop 1) × (r .book ≡ b) → r ≡ steppedAt (record { last = last; book = held b }) (drop at s) at
-cut-here b w last s at e r f =
+pub cut-here : (F : Format) (b : BookStruct) → Packed b → (last : ℕ) (s : Bytes) (at : ℕ) → framedAt (drop at s) ≡ Cut
+    → (r : Stepped) → (r .next ≡ Stop 1) × (r .book ≡ b) → r ≡ steppedAt F (record { last = last; book = held b }) (drop at s) at
+cut-here F b w last s at e r f =
     let k = f .1 ∙ w .same in
     (λ i. record { next = f .0 i; book = k i })
-    ∙ step-stop (record { last = last; book = held b }) (drop at s) at 1 (first-cut (record { last = last; book = held b }) (drop at s) (cut-says (drop at s) e))
+    ∙ step-stop F (record { last = last; book = held b }) (drop at s) at 1 (first-cut F (record { last = last; book = held b }) (drop at s) (cut-says (drop at s) e))

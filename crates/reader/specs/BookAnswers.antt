@@ -7,7 +7,7 @@ use mathlib.Core.List.{[]}
 use lib.ListN.{replicate}
 use lib.Dec.{ltb, eqb}
 use Rattle.spec.specs.Lists.{Bytes, Verdict, accepted, refused, firstFault}
-use Rattle.spec.specs.Frames.{frameHead, Kind, kindOrder, findKind, kindField, payloadLength, payloadOf, rank}
+use Rattle.spec.specs.Frames.{Format, frameHead, Kind, kindOrder, findKind, kindField, payloadLength, payloadOf, rank}
 use Rattle.spec.specs.Book.{Book, noBook}
 use Rattle.spec.specs.Read.{Reading, frameFaults, pastFrame, isHead, isEnd, kindFaults, addFound, maxTrains}
 use Rattle.spec.specs.Held.{held, packed}
@@ -32,14 +32,15 @@ bookReadOf (accepted b) = record { answer = Accepted; book = packed b; counts = 
 bookReadOf (refused n d) = record { answer = Refused n d; book = packed noBook; counts = replicate maxTrains 0 }
 
 -- 4 to 9 of a frame whose kind was found, and the book after it
-unfoldable pub addedFound : Book → Option Kind → Bytes → Added
-addedFound b o p = settled (firstFault (kindFaults b o p)) b (addFound b o p)
+unfoldable pub addedFound : Format → Book → Option Kind → Bytes → Added
+addedFound f b o p = settled (firstFault (kindFaults f b o p)) b (addFound f b o p)
 
 -- how reading goes on at a frame with this first fault, which is the End or not; `s` is what stands from the place on
-abbrev pub steppedBy : Option ℕ → Bool → Reading → Bytes → ℕ → Stepped
-steppedBy (some n) isLast r s at = record { next = Stop n; book = packed (r .book) }
-steppedBy none true r s at = record { next = End; book = packed (r .book) }
-steppedBy none false r s at = record { next = More (at + (frameHead + payloadLength s)) (rank (kindField s)); book = packed (pastFrame r s .book) }
+abbrev pub steppedBy : Format → Option ℕ → Bool → Reading → Bytes → ℕ → Stepped
+steppedBy f (some n) isLast r s at = record { next = Stop n; book = packed (r .book) }
+steppedBy f none true r s at = record { next = End; book = packed (r .book) }
+steppedBy f none false r s at = record
+  { next = More (at + (frameHead + payloadLength s)) (rank (kindField s)); book = packed (pastFrame f r s .book) }
 
-unfoldable pub steppedAt : Reading → Bytes → ℕ → Stepped
-steppedAt r s at = steppedBy (firstFault (frameFaults r s)) (isEnd (kindField s)) r s at
+unfoldable pub steppedAt : Format → Reading → Bytes → ℕ → Stepped
+steppedAt f r s at = steppedBy f (firstFault (frameFaults f r s)) (isEnd (kindField s)) r s at

@@ -39,13 +39,13 @@ ghost use mathlib.Core.Path.{_≡_};
 ghost use mathlib.Core.Bool.{_&&_};
 ghost use Prim.Native.Nat.{_*_, _≤_, _<_};
 ghost use lib.Dec.{T, eqb, ltb};
-ghost use lib.ListN.{length, drop};
+ghost use lib.ListN.{length};
 ghost use Rattle.spec.specs.Runs as runs;
 ghost use Rattle.spec.specs.Lists as lists;
 ghost use Rattle.spec.specs.Frames as frames;
 ghost use Rattle.spec.specs.Read as read;
 ghost use Rattle.spec.specs.Held.{held, heldTrain, CountsFit, NumbersFit};
-ghost use Rattle.reader.specs.Added.{added, Packed, CallsFew, NumbersOf};
+ghost use Rattle.reader.specs.Added.{added, placeSaid, Packed, CallsFew, NumbersOf};
 
 // Whether a frame's content passes, or the number that refuses it.
 pub enum Checked {
@@ -80,7 +80,7 @@ fn fine(b: Book) -> Added
 // Head: rs, rt at least 1; T 1 to 32.
 pub fn add_head(b: Book, p: &[u8]) -> Added
     requires { do ⌜ Packed b × (length (now p) ≡ (← ⟦HeadFrame::LEN⟧)) ⌝ }
-    ensures { λ r. ⌜ r ≡ added frames.headKind (held b) (now (p .entry)) ⌝ }
+    ensures { λ r. ⌜ r ≡ added frames.bookFormat frames.headKind (held b) (now (p .entry)) ⌝ }
 {
     let metres = pair(p, 0);
     let seconds = pair(p, 2);
@@ -98,7 +98,7 @@ pub fn add_head(b: Book, p: &[u8]) -> Added
 // Node: border kind 0 to 2, at most 96.
 pub fn add_node(b: Book, p: &[u8]) -> Added
     requires { do ⌜ Packed b × (length (now p) ≡ (← ⟦NodeFrame::LEN⟧)) ⌝ }
-    ensures { λ r. ⌜ r ≡ added frames.nodeKind (held b) (now (p .entry)) ⌝ }
+    ensures { λ r. ⌜ r ≡ added frames.bookFormat frames.nodeKind (held b) (now (p .entry)) ⌝ }
 {
     let at = b.node_count;
     if MAX_NODES <= at {
@@ -127,7 +127,7 @@ fn segment_fits(b: Book, s: Segment) -> bool
 // Segment: at most 64.
 pub fn add_segment(b: Book, p: &[u8]) -> Added
     requires { do ⌜ Packed b × (length (now p) ≡ (← ⟦SegmentFrame::LEN⟧)) ⌝ }
-    ensures { λ r. ⌜ r ≡ added frames.segmentKind (held b) (now (p .entry)) ⌝ }
+    ensures { λ r. ⌜ r ≡ added frames.bookFormat frames.segmentKind (held b) (now (p .entry)) ⌝ }
 {
     let at = b.segment_count;
     if MAX_SEGMENTS <= at {
@@ -164,7 +164,7 @@ fn join_fits(b: Book, j: Join) -> bool
 // Join: at most 128, a pair at one node once.
 pub fn add_join(b: Book, p: &[u8]) -> Added
     requires { do ⌜ Packed b × (length (now p) ≡ (← ⟦JoinFrame::LEN⟧)) ⌝ }
-    ensures { λ r. ⌜ r ≡ added frames.joinKind (held b) (now (p .entry)) ⌝ }
+    ensures { λ r. ⌜ r ≡ added frames.bookFormat frames.joinKind (held b) (now (p .entry)) ⌝ }
 {
     let at = b.join_count;
     if MAX_JOINS <= at {
@@ -211,7 +211,7 @@ fn call_fits(b: Book, c: Call) -> bool
 // Unbreakable TTD: one that some segment has, and that no border may divide. It adds nothing.
 pub fn add_unbreakable(b: Book, p: &[u8]) -> Added
     requires { do ⌜ Packed b × T (lists.all (read.segmentFits (held b)) (held b .segments)) × (length (now p) ≡ (← ⟦UnbreakableFrame::LEN⟧)) ⌝ }
-    ensures { λ r. ⌜ r ≡ added frames.unbreakableKind (held b) (now (p .entry)) ⌝ }
+    ensures { λ r. ⌜ r ≡ added frames.bookFormat frames.unbreakableKind (held b) (now (p .entry)) ⌝ }
 {
     let ttd = wide(p[0]);
     if !some_has(b, ttd) {
@@ -226,7 +226,7 @@ pub fn add_unbreakable(b: Book, p: &[u8]) -> Added
 // Call: one to four a train.
 pub fn add_call(b: Book, p: &[u8]) -> Added
     requires { do ⌜ Packed b × CallsFew (held b) × (length (now p) ≡ (← ⟦CallFrame::LEN⟧)) ⌝ }
-    ensures { λ r. ⌜ r ≡ added frames.callKind (held b) (now (p .entry)) ⌝ }
+    ensures { λ r. ⌜ r ≡ added frames.bookFormat frames.callKind (held b) (now (p .entry)) ⌝ }
 {
     let c = Call {
         train: p[0],
@@ -249,8 +249,8 @@ pub fn add_call(b: Book, p: &[u8]) -> Added
 
 // 6 of a Train: at least one metre, a departure below T, and directed segments that were read.
 fn train_fits(b: Book, p: &[u8]) -> bool
-    requires { ⌜ CountsFit b × (frames.trainFixed ≤ length (now p)) ⌝ }
-    ensures { λ r. ⌜ r ≡ read.trainFits (held b) (read.trainIn (now (p .entry))) ⌝ }
+    requires { ⌜ CountsFit b × (frames.trainFixed frames.bookFormat ≤ length (now p)) ⌝ }
+    ensures { λ r. ⌜ r ≡ read.trainFits (held b) (read.trainIn frames.bookFormat (now (p .entry))) ⌝ }
 {
     1 <= pair(p, 0)
         && time(p, 4) < b.intervals
@@ -259,7 +259,7 @@ fn train_fits(b: Book, p: &[u8]) -> bool
 
 // A Train's numbers, without its place.
 fn train_numbers(p: &[u8]) -> Train
-    requires { ⌜ frames.trainFixed ≤ length (now p) ⌝ }
+    requires { ⌜ frames.trainFixed frames.bookFormat ≤ length (now p) ⌝ }
     ensures { λ r. ⌜ NumbersOf (now (p .entry)) r ⌝ }
 {
     Train {
@@ -273,16 +273,17 @@ fn train_numbers(p: &[u8]) -> Train
 
 // 8: the row behind a Train's fixed part is a path of l directed segments.
 fn place_fits(b: Book, p: &[u8], l: usize) -> bool
-    requires { ⌜ CountsFit b × (frames.trainFixed ≤ length (now p)) × (l ≤ 8) × T (lists.all (λ d. ltb d (2 * b .«segment_count»)) (drop frames.trainFixed (now p))) ⌝ }
-    ensures { λ r. ⌜ r ≡ (eqb (length (drop frames.trainFixed (now (p .entry)))) l && runs.isPath (held b) (drop frames.trainFixed (now (p .entry)))) ⌝ }
+    requires { ⌜ CountsFit b × (frames.trainFixed frames.bookFormat ≤ length (now p)) × (l ≤ 8)
+        × T (lists.all (λ d. ltb d (2 * b .«segment_count»)) (placeSaid (now p))) ⌝ }
+    ensures { λ r. ⌜ r ≡ (eqb (length (placeSaid (now (p .entry)))) l && runs.isPath (held b) (placeSaid (now (p .entry)))) ⌝ }
 {
     p.len() - TrainFrame::LEN == l && is_path(b, row_of(p, TrainFrame::LEN), l)
 }
 
 // Train: at most 8; its place is a path of l directed segments. The row stands behind the fixed part.
 pub fn add_train(b: Book, p: &[u8]) -> Added
-    requires { ⌜ Packed b × (1 ≤ b .«segment_metres») × (frames.trainFixed ≤ length (now p)) ⌝ }
-    ensures { λ r. ⌜ r ≡ added frames.trainKind (held b) (now (p .entry)) ⌝ }
+    requires { ⌜ Packed b × (1 ≤ b .«segment_metres») × (frames.trainFixed frames.bookFormat ≤ length (now p)) ⌝ }
+    ensures { λ r. ⌜ r ≡ added frames.bookFormat frames.trainKind (held b) (now (p .entry)) ⌝ }
 {
     let at = b.train_count;
     if MAX_TRAINS <= at {

@@ -51,7 +51,7 @@ ghost use Prim.Native.Nat.{ℕ, _+_, _-_, _≤_, _<_};
 ghost use lib.ListN.{length, take, drop};
 ghost use lib.Dec.{T, ltb};
 ghost use Rattle.spec.specs.Lists.{any, upTo, empty, firstFault, refused};
-ghost use Rattle.spec.specs.Frames.{frameHead};
+ghost use Rattle.spec.specs.Frames.{frameHead, bookFormat};
 ghost use Rattle.spec.specs.Book.{noBook, callsOf};
 ghost use Rattle.spec.specs.BookFile.{FitsFields};
 ghost use Rattle.spec.specs.Runs.{runsOf};
@@ -147,7 +147,7 @@ fn unchanged(b: Book) -> Added
 // kind's cursor says where its payload, or the part ahead of a Train's row, has to end: 4.
 fn add_frame(b: Book, kind: Kind, s: &[u8], at: usize, end: usize) -> Added
     requires { ⌜ Packed b × (at ≤ end) × (end ≤ length (now s)) × (kind ≢ Kind.Head → T (growing (held b))) ⌝ }
-    ensures { λ r. ⌜ r ≡ addedFound (held b) (kindIn kind) (take (end - at) (drop at (now (s .entry)))) ⌝ }
+    ensures { λ r. ⌜ r ≡ addedFound bookFormat (held b) (kindIn kind) (take (end - at) (drop at (now (s .entry)))) ⌝ }
 {
     match kind {
         Kind::Head => {
@@ -235,7 +235,7 @@ fn stopped(b: Book, number: usize) -> Stepped
 fn step_whole(b: Book, last: usize, s: &[u8], at: usize, kind: usize, len: usize) -> Stepped
     requires { ⌜ Packed b × Reached (record { last = last; book = held b }) × (framedAt (drop at (now s)) ≡ Framed.Whole kind len)
         × (at + (frameHead + len) ≤ length (now s)) ⌝ }
-    ensures { λ r. ⌜ r ≡ steppedAt (record { last = last; book = held b }) (drop at (now (s .entry))) at ⌝ }
+    ensures { λ r. ⌜ r ≡ steppedAt bookFormat (record { last = last; book = held b }) (drop at (now (s .entry))) at ⌝ }
 {
     let start = at + OPENING;
     let end = start + len;
@@ -273,7 +273,7 @@ fn step_whole(b: Book, last: usize, s: &[u8], at: usize, kind: usize, len: usize
 // One frame: 1, and then the whole frame.
 fn step(b: Book, last: usize, s: &[u8], at: usize) -> Stepped
     requires { ⌜ Packed b × Reached (record { last = last; book = held b }) × (at ≤ length (now s)) ⌝ }
-    ensures { λ r. ⌜ r ≡ steppedAt (record { last = last; book = held b }) (drop at (now (s .entry))) at ⌝ }
+    ensures { λ r. ⌜ r ≡ steppedAt bookFormat (record { last = last; book = held b }) (drop at (now (s .entry))) at ⌝ }
 {
     match frame_at(s, at) {
         Framed::Cut => stopped(b, 1),

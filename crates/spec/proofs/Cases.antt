@@ -10,10 +10,10 @@ use lib.IntN.{ℤ, pos, negsuc}
 use lib.Dec.{eqb}
 use Rattle.spec.specs.Lists.{Bytes, Verdict, accepted, refused, one, count, upTo, range, each, only, all, any, pick, empty, lastOr, same, has, different, sumTo, leastFrom, firstFault, andThen}
 use Rattle.spec.specs.Numbers.{littleEndian, number, field, signed, unsigned, digits, decimal, decimalZ}
-use Rattle.spec.specs.Frames.{frame, payloadLength, kindField, payloadOf, behind, cutShort, kindNumber, stepKind, kindOrder, findKind, rankIn, rank, lengthFits, stepLengthFits}
+use Rattle.spec.specs.Frames.{frame, payloadLength, kindField, payloadOf, behind, cutShort, kindNumber, isKind, stepKind, kindOrder, findKind, rankIn, rank, lengthFits, stepLengthFits}
 use Rattle.spec.specs.Book.{Book, noBook, nodeKindAt, segmentAt, trainAt, callsOf, noCall, goalOf, deniesBorder, forcesBorder, greatestNodeKind, touches, shareNode, segmentOf, startNode, endNode, joinIs, joined, lengthInSegments, speedInSegments}
 use Rattle.spec.specs.Runs.{leadsTo, linked, isPath, directed, goesOn, extend, pathsOf, runsOf, startPlace, endPlace, contains}
-use Rattle.spec.specs.Read.{headOf, segmentIn, joinIn, trainIn, callIn, between, headFits, segmentFits, joinFits, joinRepeats, trainFits, reachFits, placeFits, callFits, someHas, mayDivide, contentFaults, add, readingStart, isHead, isEnd, unknownKind, outOfOrder, kindFaults, frameFaults, addFound, pastFrame, bookFaults, refuseOr, frameReadAt, readFrame, readFrom, readBook}
+use Rattle.spec.specs.Read.{segmentIn, joinIn, trainIn, callIn, grown, between, headFits, segmentFits, joinFits, joinRepeats, trainFits, reachFits, placeFits, callFits, someHas, mayDivide, contentFaults, add, readingStart, isHead, isEnd, unknownKind, outOfOrder, kindFaults, frameFaults, addFound, pastFrame, bookFaults, refuseOr, frameReadAt, readFrame, readFrom, readAs, readBook}
 use Rattle.spec.specs.Instance.{Instance, placeServes, mayLeave, trainLength, runAt, callAt, compile, runLists, instanceOf, inWindow, servedAtDeparture}
 use Rattle.spec.specs.Sections.{neighbours, togetherBelow, together, sectionLabels, shareSection}
 use Rattle.spec.specs.Plan.{isAbsent, isGone, runs, ifRun, ofRun, moveCode, moveOf, bit, planBytes, planLength, moveAt, planOf, isBit, isMove, planFits, rule1, absentBefore, departs, rule2, leavesRightly, rule3, runsOn, rule4, keepsCalls, servedBy, rule5, rule6, ruleFaults, brokenRule, keepsRules}
@@ -343,10 +343,10 @@ unfolding
     table starred further asked answered sizes labels runShown runNumber meant variableNumber bookL headWith headFrame trainFrom callOf passingBook bookN facingBook callingBook unbreakableBook refutedWith dividedBook totalsOf decodes encodes nodeFrame segmentFrame trainFrame callFrame endFrame pairBook joinFrame bookM tripleBook reach runList sections oneSection clauseNumber emptyStep refuted
     count upTo range each only all any pick empty lastOr same has different sumTo leastFrom firstFault andThen
     littleEndian number field signed unsigned digits decimal decimalZ
-    frame payloadLength kindField payloadOf behind cutShort kindNumber stepKind kindOrder findKind rankIn rank lengthFits stepLengthFits
+    frame payloadLength kindField payloadOf behind cutShort kindNumber isKind stepKind kindOrder findKind rankIn rank lengthFits stepLengthFits
     noBook nodeKindAt segmentAt trainAt callsOf noCall goalOf deniesBorder forcesBorder greatestNodeKind touches shareNode segmentOf startNode endNode joinIs joined lengthInSegments speedInSegments
     leadsTo linked isPath directed goesOn extend pathsOf runsOf startPlace endPlace contains
-    headOf segmentIn joinIn trainIn callIn between headFits segmentFits joinFits joinRepeats trainFits reachFits placeFits callFits someHas mayDivide contentFaults add readingStart isHead isEnd unknownKind outOfOrder kindFaults frameFaults addFound pastFrame bookFaults refuseOr frameReadAt readFrame readFrom readBook
+    segmentIn joinIn trainIn callIn grown between headFits segmentFits joinFits joinRepeats trainFits reachFits placeFits callFits someHas mayDivide contentFaults add readingStart isHead isEnd unknownKind outOfOrder kindFaults frameFaults addFound pastFrame bookFaults refuseOr frameReadAt readFrame readFrom readAs readBook
     placeServes mayLeave trainLength runAt callAt compile runLists instanceOf inWindow servedAtDeparture
     neighbours togetherBelow together sectionLabels shareSection
     freeNodesOf sizesOf measureBook bordersFit labelledFor labelSections runAmong runAsked askRun meaningsIn meanings meaningOf askVariable

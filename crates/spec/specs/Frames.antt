@@ -1,5 +1,5 @@
--- "A file of frames": length, kind, payload; and each kind's number and payload length, which belong to the kind and are
--- written down here once. Assumes nothing.
+-- "A file of frames": length, kind, payload; each kind's number; and what a format says of payloads: how long each kind's is.
+-- Numbers and lengths are written down here once. Assumes nothing.
 use mathlib.Core.Bool.{Bool, true, false, not, _&&_, _||_}
 use Prim.Native.Nat.{ℕ, zero, suc, _+_, _*_, _-_, _%_}
 use mathlib.Core.List.{List, [], _∷_, _++_}
@@ -49,6 +49,10 @@ kindNumber callKind = 6
 kindNumber unbreakableKind = 7
 kindNumber endKind = 8
 
+-- two kinds are the same
+unfoldable pub isKind : Kind → Kind → Bool
+isKind k j = eqb (kindNumber k) (kindNumber j)
+
 -- "of kind 20": a refutation's step
 unfoldable pub stepKind : ℕ
 stepKind = 20
@@ -70,28 +74,36 @@ rankIn n (k ∷ ks) = elim (eqb n (kindNumber k)) [ true ↦ 1 | false ↦ suc (
 unfoldable pub rank : ℕ → ℕ
 rank n = rankIn n kindOrder
 
--- "Fields are one byte unless noted": how many bytes a time has
-abbrev pub timeWidth : ℕ
-timeWidth = 1
+-- A format of book files: what a request may change while files of the earlier format are still to be read.
+pub record Format : Type 0 where
+  -- how many bytes a time has
+  pub timeWidth : ℕ
+  -- the greatest T
+  pub maxIntervals : ℕ
 
--- Where a train's count n stands in its payload: behind length (2), speed (2) and departure.
-abbrev pub trainCountAt : ℕ
-trainCountAt = 4 + timeWidth
+-- The format in force: "Fields are one byte unless noted"; "T 1 to 32".
+abbrev pub bookFormat : Format
+bookFormat = record { timeWidth = 1; maxIntervals = 32 }
 
--- A train's fixed part, up to its count; the n directed segments stand behind it.
-abbrev pub trainFixed : ℕ
-trainFixed = trainCountAt + 1
+module _ (f : Format) where
+  -- Where a train's count n stands in its payload: behind length (2), speed (2) and departure.
+  abbrev pub trainCountAt : ℕ
+  trainCountAt = 4 + f .timeWidth
 
--- refusal 4: the payload's length is the one of its kind
-unfoldable pub lengthFits : Kind → Bytes → Bool
-lengthFits headKind p = eqb (length p) (4 + timeWidth)
-lengthFits nodeKind p = eqb (length p) 1
-lengthFits segmentKind p = eqb (length p) 3
-lengthFits joinKind p = eqb (length p) 3
-lengthFits trainKind p = leb trainFixed (length p) && eqb (length p) (trainFixed + field p trainCountAt 1)
-lengthFits callKind p = eqb (length p) (2 + 2 * timeWidth)
-lengthFits unbreakableKind p = eqb (length p) 1
-lengthFits endKind p = eqb (length p) 0
+  -- A train's fixed part, up to its count; the n directed segments stand behind it.
+  abbrev pub trainFixed : ℕ
+  trainFixed = trainCountAt + 1
+
+  -- refusal 4: the payload's length is the one of its kind
+  unfoldable pub lengthFits : Kind → Bytes → Bool
+  lengthFits headKind p = eqb (length p) (4 + f .timeWidth)
+  lengthFits nodeKind p = eqb (length p) 1
+  lengthFits segmentKind p = eqb (length p) 3
+  lengthFits joinKind p = eqb (length p) 3
+  lengthFits trainKind p = leb trainFixed (length p) && eqb (length p) (trainFixed + field p trainCountAt 1)
+  lengthFits callKind p = eqb (length p) (2 + 2 * f .timeWidth)
+  lengthFits unbreakableKind p = eqb (length p) 1
+  lengthFits endKind p = eqb (length p) 0
 
 -- A step's fixed part, "count of literals (2)", and the bytes of a literal or a hint, "4 each".
 abbrev pub stepFixed : ℕ

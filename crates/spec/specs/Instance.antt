@@ -7,7 +7,8 @@ use mathlib.Core.List.{List, [], _∷_, _++_, map}
 use lib.ListN.{length, getD}
 use lib.Dec.{leb, ltb, eqb}
 use Rattle.spec.specs.Lists.{same}
-use Rattle.spec.specs.Book.{Book, Train, Call, nodeKindAt, trainAt, callsOf, noCall, goalOf, deniesBorder, forcesBorder, shareNode, segmentOf, lengthInSegments}
+use Rattle.spec.specs.Book.{Book, Train, Call, nodeKindAt, trainAt, callsOf, noCall, goalOf}
+use Rattle.spec.specs.Book.{deniesBorder, forcesBorder, shareNode, segmentOf, lengthInSegments}
 use Rattle.spec.specs.Runs.{runsOf, startPlace, endPlace, contains}
 
 pub record Instance : Type 0 where

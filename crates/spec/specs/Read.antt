@@ -8,29 +8,43 @@ use lib.ListN.{length, getD, take, drop}
 use lib.Dec.{leb, ltb, eqb}
 use Rattle.spec.specs.Lists.{Bytes, any, all, upTo, one, empty, Fault, _when_, firstFault, faultless, Verdict, accepted, refused}
 use Rattle.spec.specs.Numbers.{field}
-use Rattle.spec.specs.Frames.{Kind, headKind, nodeKind, segmentKind, joinKind, trainKind, callKind, unbreakableKind, endKind, kindNumber, kindOrder, findKind, rank, timeWidth, trainFixed, lengthFits, kindField, payloadOf, behind, cutShort}
-use Rattle.spec.specs.Book.{Book, Segment, Join, Train, Call, noBook, nodeKindAt, segmentAt, callsOf, deniesBorder, greatestNodeKind, touches, shareNode, joinIs, lengthInSegments, speedInSegments}
+use Rattle.spec.specs.Frames.{Kind, headKind, nodeKind, segmentKind, joinKind, trainKind, callKind, unbreakableKind, endKind, kindNumber}
+use Rattle.spec.specs.Frames.{isKind, kindOrder, findKind, rank, Format, bookFormat, trainFixed, lengthFits, kindField, payloadOf, behind, cutShort}
+use Rattle.spec.specs.Book.{Book, Segment, Join, Train, Call, noBook}
+use Rattle.spec.specs.Book.{nodeKindAt, segmentAt, callsOf, deniesBorder, greatestNodeKind, touches, shareNode, joinIs, lengthInSegments, speedInSegments}
 use Rattle.spec.specs.Runs.{isPath, runsOf}
 
 -- What a payload says, field by field.
-unfoldable pub headOf : Book → Bytes → Book
-headOf b p = record
-  { segmentMetres = field p 0 2; intervalSeconds = field p 2 2; intervals = field p 4 timeWidth
-  ; nodes = b .nodes; segments = b .segments; joins = b .joins; trains = b .trains; calls = b .calls }
-
 unfoldable pub segmentIn : Bytes → Segment
 segmentIn p = record { a = field p 0 1; b = field p 1 1; ttd = field p 2 1 }
 
 unfoldable pub joinIn : Bytes → Join
 joinIn p = record { node = field p 0 1; left = field p 1 1; right = field p 2 1 }
 
-unfoldable pub trainIn : Bytes → Train
-trainIn p = record
-  { metres = field p 0 2; speed = field p 2 2; departure = field p 4 timeWidth; place = drop trainFixed p }
+unfoldable pub trainIn : Format → Bytes → Train
+trainIn f p = record
+  { metres = field p 0 2; speed = field p 2 2; departure = field p 4 (f .timeWidth); place = drop (trainFixed f) p }
 
-unfoldable pub callIn : Bytes → Call
-callIn p = record
-  { train = field p 0 1; segment = field p 1 1; first = field p 2 timeWidth; last = field p (2 + timeWidth) timeWidth }
+unfoldable pub callIn : Format → Bytes → Call
+callIn f p = record
+  { train = field p 0 1; segment = field p 1 1; first = field p 2 (f .timeWidth); last = field p (2 + f .timeWidth) (f .timeWidth) }
+
+-- a row that frames of its kind make longer
+unfoldable pub grown : {A : Type 0} → Bool → List A → A → List A
+grown true xs x = xs ++ one x
+grown false xs x = xs
+
+-- the book with what a frame of kind k adds
+unfoldable pub add : Format → Book → Kind → Bytes → Book
+add f b k p = record
+  { segmentMetres = cond (isKind k headKind) (field p 0 2) (b .segmentMetres)
+  ; intervalSeconds = cond (isKind k headKind) (field p 2 2) (b .intervalSeconds)
+  ; intervals = cond (isKind k headKind) (field p 4 (f .timeWidth)) (b .intervals)
+  ; nodes = grown (isKind k nodeKind) (b .nodes) (field p 0 1)
+  ; segments = grown (isKind k segmentKind) (b .segments) (segmentIn p)
+  ; joins = grown (isKind k joinKind) (b .joins) (joinIn p)
+  ; trains = grown (isKind k trainKind) (b .trains) (trainIn f p)
+  ; calls = grown (isKind k callKind) (b .calls) (callIn f p) }
 
 -- The limits: "At most 96", "At most 64", "At most 128", "At most 8", "One to four a train", "T 1 to 32", "TTD 0 to 63",
 -- l and k "are 1 to 8", "At most 256 a train".
@@ -50,7 +64,7 @@ abbrev pub maxCalls : ℕ
 maxCalls = 4
 
 abbrev pub maxIntervals : ℕ
-maxIntervals = 32
+maxIntervals = bookFormat .maxIntervals
 
 abbrev pub maxTtd : ℕ
 maxTtd = 63
@@ -65,8 +79,8 @@ unfoldable pub between : ℕ → ℕ → ℕ → Bool
 between low high n = leb low n && leb n high
 
 -- 6 of a Head: "rs, rt at least 1; T 1 to 32"
-unfoldable pub headFits : Book → Bool
-headFits b = leb 1 (b .segmentMetres) && leb 1 (b .intervalSeconds) && between 1 maxIntervals (b .intervals)
+unfoldable pub headFits : Format → Book → Bool
+headFits f b = leb 1 (b .segmentMetres) && leb 1 (b .intervalSeconds) && between 1 (f .maxIntervals) (b .intervals)
 
 -- 6 of a Segment: "node a, node b (different), TTD 0 to 63"
 unfoldable pub segmentFits : Book → Segment → Bool
@@ -116,40 +130,20 @@ mayDivide b ttd =
         (upTo (length (b .nodes)))
 
 -- 5 to 9, by kind; b is the book as far as it was read
-unfoldable pub contentFaults : Book → Kind → Bytes → List Fault
-contentFaults b headKind p = one (6 when not (headFits (headOf b p)))
-contentFaults b nodeKind p = 5 when leb maxNodes (length (b .nodes)) ∷ one (6 when ltb greatestNodeKind (field p 0 1))
-contentFaults b segmentKind p =
+unfoldable pub contentFaults : Format → Book → Kind → Bytes → List Fault
+contentFaults f b headKind p = one (6 when not (headFits f (add f b headKind p)))
+contentFaults f b nodeKind p = 5 when leb maxNodes (length (b .nodes)) ∷ one (6 when ltb greatestNodeKind (field p 0 1))
+contentFaults f b segmentKind p =
     5 when leb maxSegments (length (b .segments)) ∷ one (6 when not (segmentFits b (segmentIn p)))
-contentFaults b joinKind p = 5 when leb maxJoins (length (b .joins)) ∷ one (6 when (not (joinFits b (joinIn p)) || joinRepeats (b .joins) (joinIn p)))
-contentFaults b trainKind p =
-    5 when leb maxTrains (length (b .trains)) ∷ 6 when not (trainFits b (trainIn p)) ∷ 7 when not (reachFits b (trainIn p))
-    ∷ one (8 when not (placeFits b (trainIn p)))
-contentFaults b callKind p =
-    5 when leb maxCalls (length (callsOf b (callIn p .train))) ∷ one (6 when not (callFits b (callIn p)))
-contentFaults b unbreakableKind p = 6 when not (someHas b (field p 0 1)) ∷ one (9 when mayDivide b (field p 0 1))
-contentFaults b endKind p = []
-
--- the book with what a frame adds
-unfoldable pub add : Book → Kind → Bytes → Book
-add b headKind p = headOf b p
-add b nodeKind p = record
-  { segmentMetres = b .segmentMetres; intervalSeconds = b .intervalSeconds; intervals = b .intervals
-  ; nodes = b .nodes ++ one (field p 0 1); segments = b .segments; joins = b .joins; trains = b .trains; calls = b .calls }
-add b segmentKind p = record
-  { segmentMetres = b .segmentMetres; intervalSeconds = b .intervalSeconds; intervals = b .intervals
-  ; nodes = b .nodes; segments = b .segments ++ one (segmentIn p); joins = b .joins; trains = b .trains; calls = b .calls }
-add b joinKind p = record
-  { segmentMetres = b .segmentMetres; intervalSeconds = b .intervalSeconds; intervals = b .intervals
-  ; nodes = b .nodes; segments = b .segments; joins = b .joins ++ one (joinIn p); trains = b .trains; calls = b .calls }
-add b trainKind p = record
-  { segmentMetres = b .segmentMetres; intervalSeconds = b .intervalSeconds; intervals = b .intervals
-  ; nodes = b .nodes; segments = b .segments; joins = b .joins; trains = b .trains ++ one (trainIn p); calls = b .calls }
-add b callKind p = record
-  { segmentMetres = b .segmentMetres; intervalSeconds = b .intervalSeconds; intervals = b .intervals
-  ; nodes = b .nodes; segments = b .segments; joins = b .joins; trains = b .trains; calls = b .calls ++ one (callIn p) }
-add b unbreakableKind p = b
-add b endKind p = b
+contentFaults f b joinKind p =
+    5 when leb maxJoins (length (b .joins)) ∷ one (6 when (not (joinFits b (joinIn p)) || joinRepeats (b .joins) (joinIn p)))
+contentFaults f b trainKind p =
+    5 when leb maxTrains (length (b .trains)) ∷ 6 when not (trainFits b (trainIn f p)) ∷ 7 when not (reachFits b (trainIn f p))
+    ∷ one (8 when not (placeFits b (trainIn f p)))
+contentFaults f b callKind p =
+    5 when leb maxCalls (length (callsOf b (callIn f p .train))) ∷ one (6 when not (callFits b (callIn f p)))
+contentFaults f b unbreakableKind p = 6 when not (someHas b (field p 0 1)) ∷ one (9 when mayDivide b (field p 0 1))
+contentFaults f b endKind p = []
 
 -- How far the reader is: the rank of the last frame's kind (0 before the first), and the book as far as it was read.
 pub record Reading : Type 0 where
@@ -175,26 +169,6 @@ outOfOrder last s =
     eqb last 0 && not (isHead (kindField s)) || not (eqb last 0) && isHead (kindField s)
     || ltb (rank (kindField s)) last || isEnd (kindField s) && not (empty (behind s))
 
--- 4 to 9, for a number that may be no kind's
-unfoldable pub kindFaults : Book → Option Kind → Bytes → List Fault
-kindFaults b none p = []
-kindFaults b (some k) p = 4 when not (lengthFits k p) ∷ contentFaults b k p
-
--- 1 to 9 for the frame at the start of s: "each by rising number"
-unfoldable pub frameFaults : Reading → Bytes → List Fault
-frameFaults r s =
-    1 when cutShort s ∷ 2 when unknownKind (kindField s) ∷ 3 when outOfOrder (r .last) s
-    ∷ kindFaults (r .book) (findKind (kindField s) kindOrder) (payloadOf s)
-
-unfoldable pub addFound : Book → Option Kind → Bytes → Book
-addFound b none p = b
-addFound b (some k) p = add b k p
-
--- the reader past the frame at the start of s
-unfoldable pub pastFrame : Reading → Bytes → Reading
-pastFrame r s = record
-  { last = rank (kindField s); book = addFound (r .book) (findKind (kindField s) kindOrder) (payloadOf s) }
-
 -- 10: "no train, or one without a call"; 11: "over 256 runs"
 unfoldable pub bookFaults : Book → List Fault
 bookFaults b =
@@ -211,22 +185,49 @@ pub data FrameRead : Type 0 where
   stop : Verdict Book → FrameRead
   more : Reading → Bytes → FrameRead
 
-unfoldable pub frameReadAt : Option ℕ → Reading → Bytes → FrameRead
-frameReadAt (some n) r s = stop (refused n 0)
-frameReadAt none r s =
-    elim (isEnd (kindField s)) [ true ↦ stop (refuseOr (firstFault (bookFaults (r .book))) (r .book))
-    | false ↦ more (pastFrame r s) (behind s) ]
+-- ---- reading a file of a format
 
-unfoldable pub readFrame : Reading → Bytes → FrameRead
-readFrame r s = frameReadAt (firstFault (frameFaults r s)) r s
+module _ (f : Format) where
+  -- 4 to 9, for a number that may be no kind's
+  unfoldable pub kindFaults : Book → Option Kind → Bytes → List Fault
+  kindFaults b none p = []
+  kindFaults b (some k) p = 4 when not (lengthFits f k p) ∷ contentFaults f b k p
 
--- "Frames are taken in file order … then the book". A frame has four bytes at least, so `fuel` is never used up.
-unfoldable pub readFrom : ℕ → Reading → Bytes → Verdict Book
-readFrom zero r s = refused 1 0
-readFrom (suc fuel) r s = elim (readFrame r s) [ stop v ↦ v | more r′ s′ ↦ readFrom fuel r′ s′ ]
+  -- 1 to 9 for the frame at the start of s: "each by rising number"
+  unfoldable pub frameFaults : Reading → Bytes → List Fault
+  frameFaults r s =
+      1 when cutShort s ∷ 2 when unknownKind (kindField s) ∷ 3 when outOfOrder (r .last) s
+      ∷ kindFaults (r .book) (findKind (kindField s) kindOrder) (payloadOf s)
 
+  unfoldable pub addFound : Book → Option Kind → Bytes → Book
+  addFound b none p = b
+  addFound b (some k) p = add f b k p
+
+  -- the reader past the frame at the start of s
+  unfoldable pub pastFrame : Reading → Bytes → Reading
+  pastFrame r s = record
+    { last = rank (kindField s); book = addFound (r .book) (findKind (kindField s) kindOrder) (payloadOf s) }
+
+  unfoldable pub frameReadAt : Option ℕ → Reading → Bytes → FrameRead
+  frameReadAt (some n) r s = stop (refused n 0)
+  frameReadAt none r s =
+      elim (isEnd (kindField s)) [ true ↦ stop (refuseOr (firstFault (bookFaults (r .book))) (r .book))
+      | false ↦ more (pastFrame r s) (behind s) ]
+
+  unfoldable pub readFrame : Reading → Bytes → FrameRead
+  readFrame r s = frameReadAt (firstFault (frameFaults r s)) r s
+
+  -- "Frames are taken in file order … then the book". A frame has four bytes at least, so `fuel` is never used up.
+  unfoldable pub readFrom : ℕ → Reading → Bytes → Verdict Book
+  readFrom zero r s = refused 1 0
+  readFrom (suc fuel) r s = elim (readFrame r s) [ stop v ↦ v | more r′ s′ ↦ readFrom fuel r′ s′ ]
+
+  unfoldable pub readAs : Bytes → Verdict Book
+  readAs s = readFrom (suc (length s)) readingStart s
+
+-- a book, in the format in force
 unfoldable pub readBook : Bytes → Verdict Book
-readBook s = readFrom (suc (length s)) readingStart s
+readBook s = readAs bookFormat s
 
 -- ---- what a book that was read is
 
@@ -245,7 +246,7 @@ joinsOnce js = all (λ n. not (joinRepeats (take n js) (getD js n (record { node
 -- What 5 to 8 leave of the book as far as it was read, once its Head was: no limit is passed, and each record fits.
 unfoldable pub growing : Book → Bool
 growing b =
-    headFits b
+    headFits bookFormat b
     && few maxNodes (λ k. leb k greatestNodeKind) (b .nodes)
     && few maxSegments (segmentFits b) (b .segments)
     && (few maxJoins (joinFits b) (b .joins) && joinsOnce (b .joins))

@@ -8,7 +8,7 @@ use Prim.Native.Nat.{ℕ, _<_}
 use native.Mathlib.Omega.{arith}
 use lib.ListN.{length, getD}
 use Rattle.laws.proofs.Tests.{and-iff, ltb-iff, from-true}
-use Rattle.spec.specs.Frames.{callKind}
+use Rattle.spec.specs.Frames.{bookFormat, callKind}
 use Rattle.spec.specs.Book.{Call, callsOf}
 use Rattle.spec.specs.Read.{callFits, callIn}
 use Rattle.spec.specs.Held.{held}
@@ -28,10 +28,10 @@ made c =
     record { train = getD p 0 0; segment = getD p 1 0; first = c .before .time .result; last = c .time2 .result }
 
 -- is the payload's
-made-is : (c : tie.After-time2) → made c ≡ callIn (start c .args .p .now)
+made-is : (c : tie.After-time2) → made c ≡ callIn bookFormat (start c .args .p .now)
 made-is c =
     let s = start c in
-    call-read (s .args .p .now) (omega (arith, s .pre .2)) (c .before .time .ensures .0) (c .time2 .ensures .0)
+    call-read (s .args .p .now) bookFormat (omega (arith, s .pre .2)) (c .before .time .ensures .0) (c .time2 .ensures .0)
 
 -- where the call was made, at the two tests
 abbrev first-test : tie.After-calls-of → tie.After-time2
@@ -42,7 +42,7 @@ second-test c = c .before .before
 
 -- `calls_of` answers how many calls its train has
 few-is : (c : tie.After-calls-of)
-    → let s = start (first-test c) in c .calls-of .result ≡ length (callsOf (held (s .args .b)) (callIn (s .args .p .now) .train))
+    → let s = start (first-test c) in c .calls-of .result ≡ length (callsOf (held (s .args .b)) (callIn bookFormat (s .args .p .now) .train))
 few-is c =
     let s = start (first-test c) in
     let e = c .before .wide .ensures .0 ∙ ap {B = ℕ} (λ k. k .train) (made-is (first-test c)) in
@@ -50,7 +50,7 @@ few-is c =
 
 -- whether it fits is what `call_fits` answers
 fits-is : (c : tie.After-call-fits) (t : Bool) → c .call-fits .result ≡ t
-    → let s = start (first-test (second-test c)) in callFits (held (s .args .b)) (callIn (s .args .p .now)) ≡ t
+    → let s = start (first-test (second-test c)) in callFits (held (s .args .b)) (callIn bookFormat (s .args .p .now)) ≡ t
 fits-is c t e =
     let w = first-test (second-test c) in
     sym (ap (callFits (held (start w .args .b))) (made-is w)) ∙ sym (c .call-fits .ensures) ∙ e
@@ -58,14 +58,14 @@ fits-is c t e =
 returns : tie.Need-returns
 returns c =
     let g = c .before .before in
-    refuses callKind (start (first-test g) .pre .0) _ (call-full _ _ (rw (few-is g) at (c .before .if1 .taken))) (c .refused .ensures)
+    refuses _ callKind (start (first-test g) .pre .0) _ (call-full _ _ _ (rw (few-is g) at (c .before .if1 .taken))) (c .refused .ensures)
 
 returns-2 : tie.Need-returns-2
 returns-2 c =
     let f = c .before .before in
     let g = second-test f in
-    refuses callKind (start (first-test g) .pre .0) _
-    (call-wrong _ _ (rw (few-is g) at (f .before .if1 .left)) (fits-is f false (not-true _ (c .before .if2 .taken)))) (c .refused2 .ensures)
+    refuses _ callKind (start (first-test g) .pre .0) _
+    (call-wrong _ _ _ (rw (few-is g) at (f .before .if1 .left)) (fits-is f false (not-true _ (c .before .if2 .taken)))) (c .refused2 .ensures)
 
 -- the array has room
 room : (c : tie.Else2) → start (first-test (second-test (c .before))) .args .b .«call_count» < 32
@@ -84,9 +84,9 @@ returns-3 c =
     let f = c .before .before in
     let g = second-test f in
     let s = start (first-test g) in
-    accepts callKind (s .pre .0) _
-    (call-fine _ _ (rw (few-is g) at (f .before .if1 .left)) (fits-is f true (not-false _ (c .before .if2 .left))))
-    (put-call _ (s .pre .0) _ _ (made-is (first-test g)) (room (c .before))) (c .fine .ensures)
+    accepts _ callKind (s .pre .0) _
+    (call-fine _ _ _ (rw (few-is g) at (f .before .if1 .left)) (fits-is f true (not-false _ (c .before .if2 .left))))
+    (put-call _ (s .pre .0) _ _ _ (made-is (first-test g)) (room (c .before))) (c .fine .ensures)
 
 pub add-call-spec : {M : Type 1} → statement M
 add-call-spec =

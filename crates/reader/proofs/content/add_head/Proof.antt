@@ -17,8 +17,8 @@ returns c =
     let m = a .before .before .pair .ensures .0 in
     let n = a .before .pair2 .ensures .0 in
     let t = a .time .ensures .0 in
-    refuses headKind (s .pre .0) _
-    (head-wrong _ _ (λ h i j k.
+    refuses _ headKind (s .pre .0) _
+    (head-wrong _ _ _ (λ h i j k.
     ⊎-elim (λ w. omega arith)
     (⊎-elim (λ w. omega (arith, ltb-true (a .before .pair2 .result) 1 (w .1 .taken)))
     (⊎-elim (λ w. omega (arith, ltb-true (a .time .result) 1 (w .2 .taken)))
@@ -37,8 +37,8 @@ returns-2 c =
     let i = ltb-false (a .before .pair2 .result) 1 (c .before .before .before .if2 .left) in
     let j = ltb-false (a .time .result) 1 (c .before .before .if3 .left) in
     let k = ltb-false 32 (a .time .result) (c .before .if4 .left) in
-    accepts headKind (s .pre .0) _ (head-fine _ _ (omega arith) (omega arith) (omega arith) (omega arith))
-    (put-head _ (s .pre .0) _ _ _ _ m n t) (c .fine .ensures)
+    accepts _ headKind (s .pre .0) _ (head-fine _ _ _ (omega arith) (omega arith) (omega arith) (omega arith))
+    (put-head _ (s .pre .0) _ _ _ _ _ m n t) (c .fine .ensures)
 
 pub add-head-spec : {M : Type 1} → statement M
 add-head-spec =

@@ -19,7 +19,7 @@ returns : tie.Need-returns
 returns c =
     let s = c .before .before .before in
     let n = joins-counted (s .pre .0) in
-    refuses joinKind (s .pre .0) _ (join-full _ _ (omega arith)) (c .refused .ensures)
+    refuses _ joinKind (s .pre .0) _ (join-full _ _ _ (omega arith)) (c .refused .ensures)
 
 -- where the code is after the test for room
 abbrev roomy : tie.After-join-fits → tie.Else1
@@ -40,8 +40,8 @@ returns-2 c =
     let a = c .before .before in
     let s = start a in
     let n = joins-counted (s .pre .0) in
-    refuses joinKind (s .pre .0) _
-    (join-wrong _ _ (omega (arith, roomy a .if1 .left)) (fits-is a false (not-true _ (c .before .if2 .taken)))) (c .refused2 .ensures)
+    refuses _ joinKind (s .pre .0) _
+    (join-wrong _ _ _ (omega (arith, roomy a .if1 .left)) (fits-is a false (not-true _ (c .before .if2 .taken)))) (c .refused2 .ensures)
 
 -- the test that the join fits, behind which `joined` is asked
 abbrev tested : tie.After-joined → tie.Else2
@@ -68,8 +68,8 @@ returns-3 c =
     let a = i .before in
     let s = start a in
     let n = joins-counted (s .pre .0) in
-    refuses joinKind (s .pre .0) _
-    (join-again _ _ (omega (arith, roomy a .if1 .left)) (fits-is a true (not-false _ (i .if2 .left))) (again-is g true (c .before .if3 .taken)))
+    refuses _ joinKind (s .pre .0) _
+    (join-again _ _ _ (omega (arith, roomy a .if1 .left)) (fits-is a true (not-false _ (i .if2 .left))) (again-is g true (c .before .if3 .taken)))
     (c .refused3 .ensures)
 
 returns-4 : tie.Need-returns-4
@@ -80,9 +80,9 @@ returns-4 c =
     let s = start a in
     let n = joins-counted (s .pre .0) in
     let room = roomy a .if1 .left in
-    accepts joinKind (s .pre .0) _
-    (join-fine _ _ (omega (arith, room)) (fits-is a true (not-false _ (i .if2 .left))) (again-is g false (c .before .if3 .left)))
-    (put-join _ (s .pre .0) _ _ (join-read _ (s .pre .1)) room) (c .fine .ensures)
+    accepts _ joinKind (s .pre .0) _
+    (join-fine _ _ _ (omega (arith, room)) (fits-is a true (not-false _ (i .if2 .left))) (again-is g false (c .before .if3 .left)))
+    (put-join _ (s .pre .0) _ _ _ (join-read _ (s .pre .1)) room) (c .fine .ensures)
 
 pub add-join-spec : {M : Type 1} → statement M
 add-join-spec =

@@ -7,7 +7,7 @@ use mathlib.Core.Bool.{Bool, true, false}
 use Prim.Native.Nat.{_≤_}
 use native.Mathlib.Omega.{arith}
 use lib.ListN.{length, drop, length-drop}
-use Rattle.spec.specs.Frames.{trainKind, trainFixed}
+use Rattle.spec.specs.Frames.{bookFormat, trainKind, trainFixed}
 use Rattle.spec.specs.Book.{lengthInSegments}
 use Rattle.spec.specs.Read.{trainFits, reachFits, placeFits, trainIn, maxReach}
 use Rattle.spec.specs.Held.{held, heldTrain}
@@ -34,22 +34,22 @@ returns : tie.Need-returns
 returns c =
     let s = c .before .before .before in
     let n = trains-counted (s .pre .0) in
-    refuses trainKind (s .pre .0) _ (train-full _ _ (rw n (c .before .if1 .taken))) (c .refused .ensures)
+    refuses _ trainKind (s .pre .0) _ (train-full _ _ _ (rw n (c .before .if1 .taken))) (c .refused .ensures)
 
 returns-2 : tie.Need-returns-2
 returns-2 c =
     let a = c .before .before in
     let n = trains-counted (start a .pre .0) in
-    refuses trainKind (start a .pre .0) _
-    (train-wrong _ _ (rw n (a .before .if1 .left)) (sym (a .train-fits .ensures) ∙ not-true _ (c .before .if2 .taken))) (c .refused2 .ensures)
+    refuses _ trainKind (start a .pre .0) _
+    (train-wrong _ _ _ (rw n (a .before .if1 .left)) (sym (a .train-fits .ensures) ∙ not-true _ (c .before .if2 .taken))) (c .refused2 .ensures)
 
 -- past the test that it fits
-fits : (c : tie.Else2) → let s = start (c .before) in trainFits (held (s .args .b)) (trainIn (s .args .p .now)) ≡ true
+fits : (c : tie.Else2) → let s = start (c .before) in trainFits (held (s .args .b)) (trainIn bookFormat (s .args .p .now)) ≡ true
 fits c = sym (c .before .train-fits .ensures) ∙ not-false _ (c .if2 .left)
 
 -- whether length and speed fit is what `reach_fits` answers
 reach-is : (c : tie.After-reach-fits) (t : Bool) → c .reach-fits .result ≡ t
-    → let s = start (fitted c) in reachFits (held (s .args .b)) (trainIn (s .args .p .now)) ≡ t
+    → let s = start (fitted c) in reachFits (held (s .args .b)) (trainIn bookFormat (s .args .p .now)) ≡ t
 unfolding trainIn heldTrain
 reach-is c t e =
     let n = c .before .train-numbers .ensures in
@@ -61,18 +61,18 @@ returns-3 c =
     let r = c .before .before in
     let a = fitted r in
     let n = trains-counted (start a .pre .0) in
-    refuses trainKind (start a .pre .0) _
-    (train-far _ _ (rw n (a .before .if1 .left)) (fits (r .before .before)) (reach-is r false (not-true _ (c .before .if3 .taken))))
+    refuses _ trainKind (start a .pre .0) _
+    (train-far _ _ _ (rw n (a .before .if1 .left)) (fits (r .before .before)) (reach-is r false (not-true _ (c .before .if3 .taken))))
     (c .refused3 .ensures)
 
 -- past the test of its reach
-reaches : (c : tie.Else3) → let s = start (fitted (c .before)) in reachFits (held (s .args .b)) (trainIn (s .args .p .now)) ≡ true
+reaches : (c : tie.Else3) → let s = start (fitted (c .before)) in reachFits (held (s .args .b)) (trainIn bookFormat (s .args .p .now)) ≡ true
 reaches c = reach-is (c .before) true (not-false _ (c .if3 .left))
 
 -- l is the train's length in segments, and at most 8
 length-is : (c : tie.After-length-in-segments)
     → let s = start (fitted (reached c)) in
-    c .length-in-segments .result ≡ lengthInSegments (held (s .args .b)) (trainIn (s .args .p .now))
+    c .length-in-segments .result ≡ lengthInSegments (held (s .args .b)) (trainIn bookFormat (s .args .p .now))
 unfolding trainIn heldTrain
 length-is c =
     let s = start (fitted (reached c)) in
@@ -86,12 +86,12 @@ place-fits-requires c κs =
     let f = reached c .before .before in
     let s = start (f .before) in
     let n = segments-counted (s .pre .0) in
-    (s .pre .0 .counts, s .pre .2, short c, rw n at (train-inside (held (s .args .b)) (s .args .p .now) (fits f)))
+    (s .pre .0 .counts, s .pre .2, short c, rw n at (train-inside (held (s .args .b)) bookFormat (s .args .p .now) (fits f)))
 
 -- whether the place fits is what `place_fits` answers
 place-is : (c : tie.After-place-fits) (t : Bool) → c .place-fits .result ≡ t
-    → let s = start (fitted (reached (c .before))) in placeFits (held (s .args .b)) (trainIn (s .args .p .now)) ≡ t
-place-is c t e = sym (place-same _ _ _ (length-is (c .before))) ∙ sym (c .place-fits .ensures) ∙ e
+    → let s = start (fitted (reached (c .before))) in placeFits (held (s .args .b)) (trainIn bookFormat (s .args .p .now)) ≡ t
+place-is c t e = sym (place-same _ bookFormat _ _ (length-is (c .before))) ∙ sym (c .place-fits .ensures) ∙ e
 
 returns-4 : tie.Need-returns-4
 returns-4 c =
@@ -99,17 +99,17 @@ returns-4 c =
     let r = reached (g .before) in
     let a = fitted r in
     let n = trains-counted (start a .pre .0) in
-    refuses trainKind (start a .pre .0) _
-    (train-off _ _ (rw n (a .before .if1 .left)) (fits (r .before .before)) (reaches (g .before .before))
+    refuses _ trainKind (start a .pre .0) _
+    (train-off _ _ _ (rw n (a .before .if1 .left)) (fits (r .before .before)) (reaches (g .before .before))
     (place-is g false (not-true _ (c .before .if4 .taken))))
     (c .refused4 .ensures)
 
 -- past the last test: the row has l directed segments
 row-length : (c : tie.Else4)
-    → length (drop trainFixed (start (fitted (reached (c .before .before))) .args .p .now)) ≡ c .before .before .length-in-segments .result
+    → length (drop (trainFixed bookFormat) (start (fitted (reached (c .before .before))) .args .p .now)) ≡ c .before .before .length-in-segments .result
 row-length c =
     let s = start (fitted (reached (c .before .before))) in
-    place-length (held (s .args .b)) (s .args .p .now) _ (c .before .place-fits .ensures) (not-false _ (c .if4 .left))
+    place-length (held (s .args .b)) bookFormat (s .args .p .now) _ (c .before .place-fits .ensures) (not-false _ (c .if4 .left))
 
 row-of-requires : tie.Need-row-of-requires
 row-of-requires c κs =
@@ -118,7 +118,7 @@ row-of-requires c κs =
     let h = s .pre .2 in
     let k = short a in
     let e = row-length c in
-    (h, omega (arith, length-drop trainFixed (s .args .p .now)))
+    (h, omega (arith, length-drop (trainFixed bookFormat) (s .args .p .now)))
 
 returns-5 : tie.Need-returns-5
 returns-5 c =
@@ -129,11 +129,11 @@ returns-5 c =
     let s = start a in
     let m = r .before .train-numbers .ensures in
     let n = trains-counted (s .pre .0) in
-    accepts trainKind (s .pre .0) _
-    (train-fine _ _ (rw n (a .before .if1 .left)) (fits (r .before .before)) (reaches (g .before .before))
+    accepts _ trainKind (s .pre .0) _
+    (train-fine _ _ _ (rw n (a .before .if1 .left)) (fits (r .before .before)) (reaches (g .before .before))
     (place-is g true (not-false _ (o .before .if4 .left))))
-    (put-train _ (s .pre .0) _ _
-    (train-packed (s .args .p .now) _ _ _ _ _ (m .metres) (m .speed) (m .departure) (sym (row-length (o .before))) (o .row-of .ensures)) (a .before .if1 .left))
+    (put-train _ (s .pre .0) _ _ _
+    (train-packed bookFormat (s .args .p .now) _ _ _ _ _ (m .metres) (m .speed) (m .departure) (sym (row-length (o .before))) (o .row-of .ensures)) (a .before .if1 .left))
     (c .fine .ensures)
 
 pub add-train-spec : {M : Type 1} → statement M

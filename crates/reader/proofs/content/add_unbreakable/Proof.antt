@@ -38,15 +38,15 @@ divide-is c t e =
 returns : tie.Need-returns
 returns c =
     let a = c .before .before in
-    refuses unbreakableKind (start (a .before) .pre .0) _ (unbreakable-wrong _ _ (has-is a false (not-true _ (c .before .if1 .taken))))
+    refuses _ unbreakableKind (start (a .before) .pre .0) _ (unbreakable-wrong _ _ _ (has-is a false (not-true _ (c .before .if1 .taken))))
     (c .refused .ensures)
 
 returns-2 : tie.Need-returns-2
 returns-2 c =
     let d = c .before .before in
     let a = d .before .before in
-    refuses unbreakableKind (start (a .before) .pre .0) _
-    (unbreakable-divided _ _ (has-is a true (not-false _ (d .before .if1 .left))) (divide-is d true (c .before .if2 .taken)))
+    refuses _ unbreakableKind (start (a .before) .pre .0) _
+    (unbreakable-divided _ _ _ (has-is a true (not-false _ (d .before .if1 .left))) (divide-is d true (c .before .if2 .taken)))
     (c .refused2 .ensures)
 
 returns-3 : tie.Need-returns-3
@@ -54,9 +54,9 @@ returns-3 c =
     let d = c .before .before in
     let a = d .before .before in
     let s = start (a .before) in
-    accepts unbreakableKind (s .pre .0) _
-    (unbreakable-fine _ _ (has-is a true (not-false _ (d .before .if1 .left))) (divide-is d false (c .before .if2 .left)))
-    (put-nothing _ (s .pre .0) _) (c .fine .ensures)
+    accepts _ unbreakableKind (s .pre .0) _
+    (unbreakable-fine _ _ _ (has-is a true (not-false _ (d .before .if1 .left))) (divide-is d false (c .before .if2 .left)))
+    (put-nothing _ (s .pre .0) _ _) (c .fine .ensures)
 
 pub add-unbreakable-spec : {M : Type 1} → statement M
 add-unbreakable-spec =

@@ -13,7 +13,7 @@ use Rattle.spec.specs.Numbers.{field}
 use Rattle.spec.specs.Read.{trainFits, trainIn}
 use Rattle.spec.specs.Held.{held}
 use Rattle.network.proofs.Walks.{length-of-map}
-use Rattle.spec.specs.Frames.{timeWidth, trainFixed}
+use Rattle.spec.specs.Frames.{bookFormat, trainFixed}
 use Rattle.reader.proofs.Packing.{segments-held}
 use Rattle.reader.proofs.content.train_fits.Statement.{statement}
 use Rattle.reader.proofs.content.train_fits.Tie as tie
@@ -32,7 +32,7 @@ all-below-requires c κs = search needs
 
 -- a metre at least, and a departure below T
 abbrev early : tie.Start → Bool
-early c = leb 1 (field (c .args .p .now) 0 2) && ltb (field (c .args .p .now) 4 timeWidth) (c .args .b .intervals)
+early c = leb 1 (field (c .args .p .now) 0 2) && ltb (field (c .args .p .now) 4 (bookFormat .timeWidth)) (c .args .b .intervals)
 
 starts : (c : tie.Joined1) → c .if1 .if2 ≡ early (c .before .before .before)
 starts c =
@@ -44,8 +44,8 @@ starts c =
 
 -- the definition, over the struct
 whole : (c : tie.Start)
-    → (early c && all (λ d. ltb d (2 * c .args .b .«segment_count»)) (drop trainFixed (c .args .p .now)))
-    ≡ trainFits (held (c .args .b)) (trainIn (c .args .p .now))
+    → (early c && all (λ d. ltb d (2 * c .args .b .«segment_count»)) (drop (trainFixed bookFormat) (c .args .p .now)))
+    ≡ trainFits (held (c .args .b)) (trainIn bookFormat (c .args .p .now))
 unfolding trainFits trainIn held
 whole c =
     let e : length (c .args .b .segments) ≡ 64 = search (needs, length-of-map) in

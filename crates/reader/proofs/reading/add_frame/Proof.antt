@@ -9,7 +9,7 @@ use Prim.Native.Nat.{_+_}
 use native.Mathlib.Omega.{arith}
 use lib.ListN.{length, drop}
 use Rattle.spec.specs.Lists.{firstFault}
-use Rattle.spec.specs.Frames.{headKind, nodeKind, segmentKind, joinKind, trainKind, callKind, unbreakableKind, endKind, lengthFits}
+use Rattle.spec.specs.Frames.{bookFormat, headKind, nodeKind, segmentKind, joinKind, trainKind, callKind, unbreakableKind, endKind, lengthFits}
 use Rattle.spec.specs.Read.{add, addFound, kindFaults, contentFaults}
 use Rattle.spec.specs.Held.{held}
 use Rattle.frames.specs.declared.Kind.{Kind}
@@ -31,23 +31,23 @@ unfolding lengthFits
 returns c =
     let k = c .before .before in
     let st = start1 k in
-    by-kind _ (st .pre .0) _ _ _ (st .pre .2) (is1 k)
-    (elsewhere _ (st .pre .0) _ _ _ (st .pre .2) headKind 5 _ refl (k .cursor .ensures .1) (st .pre .1) (c .before .if1 .taken) (c .wrong-length .ensures))
+    by-kind bookFormat _ (st .pre .0) _ _ _ (st .pre .2) (is1 k)
+    (elsewhere bookFormat _ (st .pre .0) _ _ _ (st .pre .2) headKind 5 _ refl (k .cursor .ensures .1) (st .pre .1) (c .before .if1 .taken) (c .wrong-length .ensures))
 
 returns-9 : tie.Need-returns-9
 unfolding lengthFits
 returns-9 c =
     let k = c .before .before .before in
     let st = start1 k in
-    by-kind _ (st .pre .0) _ _ _ (st .pre .2) (is1 k)
-    (there _ (st .pre .0) _ _ _ (st .pre .2) headKind 5 _ refl (k .cursor .ensures .1) (st .pre .1) (c .before .before .if1 .left) (c .add-head .ensures))
+    by-kind bookFormat _ (st .pre .0) _ _ _ (st .pre .2) (is1 k)
+    (there bookFormat _ (st .pre .0) _ _ _ (st .pre .2) headKind 5 _ refl (k .cursor .ensures .1) (st .pre .1) (c .before .before .if1 .left) (c .add-head .ensures))
 
 add-head-requires : tie.Need-add-head-requires
 unfolding lengthFits
 add-head-requires c κs =
     let k = c .before .before in
     let st = start1 k in
-    (st .pre .0, sized _ (st .pre .0) _ _ _ (st .pre .2) headKind 5 _ refl (k .cursor .ensures .1) (st .pre .1) (c .before .if1 .left))
+    (st .pre .0, sized bookFormat _ (st .pre .0) _ _ _ (st .pre .2) headKind 5 _ refl (k .cursor .ensures .1) (st .pre .1) (c .before .if1 .left))
 
 -- Node
 module _ (c : tie.After-cursor2) where
@@ -62,23 +62,23 @@ unfolding lengthFits
 returns-2 c =
     let k = c .before .before in
     let st = start2 k in
-    by-kind _ (st .pre .0) _ _ _ (st .pre .2) (is2 k)
-    (elsewhere _ (st .pre .0) _ _ _ (st .pre .2) nodeKind 1 _ refl (k .cursor2 .ensures .1) (st .pre .1) (c .before .if2 .taken) (c .wrong-length2 .ensures))
+    by-kind bookFormat _ (st .pre .0) _ _ _ (st .pre .2) (is2 k)
+    (elsewhere bookFormat _ (st .pre .0) _ _ _ (st .pre .2) nodeKind 1 _ refl (k .cursor2 .ensures .1) (st .pre .1) (c .before .if2 .taken) (c .wrong-length2 .ensures))
 
 returns-10 : tie.Need-returns-10
 unfolding lengthFits
 returns-10 c =
     let k = c .before .before .before in
     let st = start2 k in
-    by-kind _ (st .pre .0) _ _ _ (st .pre .2) (is2 k)
-    (there _ (st .pre .0) _ _ _ (st .pre .2) nodeKind 1 _ refl (k .cursor2 .ensures .1) (st .pre .1) (c .before .before .if2 .left) (c .add-node .ensures))
+    by-kind bookFormat _ (st .pre .0) _ _ _ (st .pre .2) (is2 k)
+    (there bookFormat _ (st .pre .0) _ _ _ (st .pre .2) nodeKind 1 _ refl (k .cursor2 .ensures .1) (st .pre .1) (c .before .before .if2 .left) (c .add-node .ensures))
 
 add-node-requires : tie.Need-add-node-requires
 unfolding lengthFits
 add-node-requires c κs =
     let k = c .before .before in
     let st = start2 k in
-    (st .pre .0, sized _ (st .pre .0) _ _ _ (st .pre .2) nodeKind 1 _ refl (k .cursor2 .ensures .1) (st .pre .1) (c .before .if2 .left))
+    (st .pre .0, sized bookFormat _ (st .pre .0) _ _ _ (st .pre .2) nodeKind 1 _ refl (k .cursor2 .ensures .1) (st .pre .1) (c .before .if2 .left))
 
 -- Segment
 module _ (c : tie.After-cursor3) where
@@ -93,23 +93,23 @@ unfolding lengthFits
 returns-3 c =
     let k = c .before .before in
     let st = start3 k in
-    by-kind _ (st .pre .0) _ _ _ (st .pre .2) (is3 k)
-    (elsewhere _ (st .pre .0) _ _ _ (st .pre .2) segmentKind 3 _ refl (k .cursor3 .ensures .1) (st .pre .1) (c .before .if3 .taken) (c .wrong-length3 .ensures))
+    by-kind bookFormat _ (st .pre .0) _ _ _ (st .pre .2) (is3 k)
+    (elsewhere bookFormat _ (st .pre .0) _ _ _ (st .pre .2) segmentKind 3 _ refl (k .cursor3 .ensures .1) (st .pre .1) (c .before .if3 .taken) (c .wrong-length3 .ensures))
 
 returns-11 : tie.Need-returns-11
 unfolding lengthFits
 returns-11 c =
     let k = c .before .before .before in
     let st = start3 k in
-    by-kind _ (st .pre .0) _ _ _ (st .pre .2) (is3 k)
-    (there _ (st .pre .0) _ _ _ (st .pre .2) segmentKind 3 _ refl (k .cursor3 .ensures .1) (st .pre .1) (c .before .before .if3 .left) (c .add-segment .ensures))
+    by-kind bookFormat _ (st .pre .0) _ _ _ (st .pre .2) (is3 k)
+    (there bookFormat _ (st .pre .0) _ _ _ (st .pre .2) segmentKind 3 _ refl (k .cursor3 .ensures .1) (st .pre .1) (c .before .before .if3 .left) (c .add-segment .ensures))
 
 add-segment-requires : tie.Need-add-segment-requires
 unfolding lengthFits
 add-segment-requires c κs =
     let k = c .before .before in
     let st = start3 k in
-    (st .pre .0, sized _ (st .pre .0) _ _ _ (st .pre .2) segmentKind 3 _ refl (k .cursor3 .ensures .1) (st .pre .1) (c .before .if3 .left))
+    (st .pre .0, sized bookFormat _ (st .pre .0) _ _ _ (st .pre .2) segmentKind 3 _ refl (k .cursor3 .ensures .1) (st .pre .1) (c .before .if3 .left))
 
 -- Join
 module _ (c : tie.After-cursor4) where
@@ -124,23 +124,23 @@ unfolding lengthFits
 returns-4 c =
     let k = c .before .before in
     let st = start4 k in
-    by-kind _ (st .pre .0) _ _ _ (st .pre .2) (is4 k)
-    (elsewhere _ (st .pre .0) _ _ _ (st .pre .2) joinKind 3 _ refl (k .cursor4 .ensures .1) (st .pre .1) (c .before .if4 .taken) (c .wrong-length4 .ensures))
+    by-kind bookFormat _ (st .pre .0) _ _ _ (st .pre .2) (is4 k)
+    (elsewhere bookFormat _ (st .pre .0) _ _ _ (st .pre .2) joinKind 3 _ refl (k .cursor4 .ensures .1) (st .pre .1) (c .before .if4 .taken) (c .wrong-length4 .ensures))
 
 returns-12 : tie.Need-returns-12
 unfolding lengthFits
 returns-12 c =
     let k = c .before .before .before in
     let st = start4 k in
-    by-kind _ (st .pre .0) _ _ _ (st .pre .2) (is4 k)
-    (there _ (st .pre .0) _ _ _ (st .pre .2) joinKind 3 _ refl (k .cursor4 .ensures .1) (st .pre .1) (c .before .before .if4 .left) (c .add-join .ensures))
+    by-kind bookFormat _ (st .pre .0) _ _ _ (st .pre .2) (is4 k)
+    (there bookFormat _ (st .pre .0) _ _ _ (st .pre .2) joinKind 3 _ refl (k .cursor4 .ensures .1) (st .pre .1) (c .before .before .if4 .left) (c .add-join .ensures))
 
 add-join-requires : tie.Need-add-join-requires
 unfolding lengthFits
 add-join-requires c κs =
     let k = c .before .before in
     let st = start4 k in
-    (st .pre .0, sized _ (st .pre .0) _ _ _ (st .pre .2) joinKind 3 _ refl (k .cursor4 .ensures .1) (st .pre .1) (c .before .if4 .left))
+    (st .pre .0, sized bookFormat _ (st .pre .0) _ _ _ (st .pre .2) joinKind 3 _ refl (k .cursor4 .ensures .1) (st .pre .1) (c .before .if4 .left))
 
 -- Call
 module _ (c : tie.After-cursor6) where
@@ -155,23 +155,23 @@ unfolding lengthFits
 returns-6 c =
     let k = c .before .before in
     let st = start6 k in
-    by-kind _ (st .pre .0) _ _ _ (st .pre .2) (is6 k)
-    (elsewhere _ (st .pre .0) _ _ _ (st .pre .2) callKind 4 _ refl (k .cursor6 .ensures .1) (st .pre .1) (c .before .if7 .taken) (c .wrong-length6 .ensures))
+    by-kind bookFormat _ (st .pre .0) _ _ _ (st .pre .2) (is6 k)
+    (elsewhere bookFormat _ (st .pre .0) _ _ _ (st .pre .2) callKind 4 _ refl (k .cursor6 .ensures .1) (st .pre .1) (c .before .if7 .taken) (c .wrong-length6 .ensures))
 
 returns-14 : tie.Need-returns-14
 unfolding lengthFits
 returns-14 c =
     let k = c .before .before .before in
     let st = start6 k in
-    by-kind _ (st .pre .0) _ _ _ (st .pre .2) (is6 k)
-    (there _ (st .pre .0) _ _ _ (st .pre .2) callKind 4 _ refl (k .cursor6 .ensures .1) (st .pre .1) (c .before .before .if7 .left) (c .add-call .ensures))
+    by-kind bookFormat _ (st .pre .0) _ _ _ (st .pre .2) (is6 k)
+    (there bookFormat _ (st .pre .0) _ _ _ (st .pre .2) callKind 4 _ refl (k .cursor6 .ensures .1) (st .pre .1) (c .before .before .if7 .left) (c .add-call .ensures))
 
 add-call-requires : tie.Need-add-call-requires
 unfolding lengthFits
 add-call-requires c κs =
     let k = c .before .before in
     let st = start6 k in
-    (st .pre .0, growing-calls _ (st .pre .3 (no-head (is6 k) (λ e. omega arith))), sized _ (st .pre .0) _ _ _ (st .pre .2) callKind 4 _ refl (k .cursor6 .ensures .1) (st .pre .1) (c .before .if7 .left))
+    (st .pre .0, growing-calls _ (st .pre .3 (no-head (is6 k) (λ e. omega arith))), sized bookFormat _ (st .pre .0) _ _ _ (st .pre .2) callKind 4 _ refl (k .cursor6 .ensures .1) (st .pre .1) (c .before .if7 .left))
 
 -- Unbreakable
 module _ (c : tie.After-cursor7) where
@@ -186,23 +186,23 @@ unfolding lengthFits
 returns-7 c =
     let k = c .before .before in
     let st = start7 k in
-    by-kind _ (st .pre .0) _ _ _ (st .pre .2) (is7 k)
-    (elsewhere _ (st .pre .0) _ _ _ (st .pre .2) unbreakableKind 1 _ refl (k .cursor7 .ensures .1) (st .pre .1) (c .before .if8 .taken) (c .wrong-length7 .ensures))
+    by-kind bookFormat _ (st .pre .0) _ _ _ (st .pre .2) (is7 k)
+    (elsewhere bookFormat _ (st .pre .0) _ _ _ (st .pre .2) unbreakableKind 1 _ refl (k .cursor7 .ensures .1) (st .pre .1) (c .before .if8 .taken) (c .wrong-length7 .ensures))
 
 returns-15 : tie.Need-returns-15
 unfolding lengthFits
 returns-15 c =
     let k = c .before .before .before in
     let st = start7 k in
-    by-kind _ (st .pre .0) _ _ _ (st .pre .2) (is7 k)
-    (there _ (st .pre .0) _ _ _ (st .pre .2) unbreakableKind 1 _ refl (k .cursor7 .ensures .1) (st .pre .1) (c .before .before .if8 .left) (c .add-unbreakable .ensures))
+    by-kind bookFormat _ (st .pre .0) _ _ _ (st .pre .2) (is7 k)
+    (there bookFormat _ (st .pre .0) _ _ _ (st .pre .2) unbreakableKind 1 _ refl (k .cursor7 .ensures .1) (st .pre .1) (c .before .before .if8 .left) (c .add-unbreakable .ensures))
 
 add-unbreakable-requires : tie.Need-add-unbreakable-requires
 unfolding lengthFits
 add-unbreakable-requires c κs =
     let k = c .before .before in
     let st = start7 k in
-    (st .pre .0, growing-segments _ (st .pre .3 (no-head (is7 k) (λ e. omega arith))), sized _ (st .pre .0) _ _ _ (st .pre .2) unbreakableKind 1 _ refl (k .cursor7 .ensures .1) (st .pre .1) (c .before .if8 .left))
+    (st .pre .0, growing-segments _ (st .pre .3 (no-head (is7 k) (λ e. omega arith))), sized bookFormat _ (st .pre .0) _ _ _ (st .pre .2) unbreakableKind 1 _ refl (k .cursor7 .ensures .1) (st .pre .1) (c .before .if8 .left))
 
 -- Train: the row stands behind the fixed part
 module _ (c : tie.After-cursor5) where
@@ -216,10 +216,10 @@ returns-5 : tie.Need-returns-5
 returns-5 c =
     let k = c .before .before in
     let st = start5 k in
-    by-kind _ (st .pre .0) _ _ _ (st .pre .2) (is5 k)
-    (wrong-length _ (st .pre .0) _ _ _ (st .pre .2) trainKind
-    (⊎-elim (λ w. train-short _ (st .pre .0) _ _ _ (st .pre .2) _ 0 (k .cursor5 .ensures .1) (st .pre .1) (w .taken))
-    (λ w. train-wrong _ (st .pre .0) _ _ _ (st .pre .2) _ _ (k .cursor5 .ensures .1) (st .pre .1) (w .0 .left) (w .2 .ensures .0) (eqb-false _ _ (not-true _ (w .3 .taken))))
+    by-kind bookFormat _ (st .pre .0) _ _ _ (st .pre .2) (is5 k)
+    (wrong-length bookFormat _ (st .pre .0) _ _ _ (st .pre .2) trainKind
+    (⊎-elim (λ w. train-short bookFormat _ (st .pre .0) _ _ _ (st .pre .2) _ 0 (k .cursor5 .ensures .1) (st .pre .1) (w .taken))
+    (λ w. train-wrong bookFormat _ (st .pre .0) _ _ _ (st .pre .2) _ _ (k .cursor5 .ensures .1) (st .pre .1) (w .0 .left) (w .2 .ensures .0) (eqb-false _ _ (not-true _ (w .3 .taken))))
     (c .before .if5 .came))
     (c .wrong-length5 .ensures))
 
@@ -228,16 +228,16 @@ unfolding held
 add-train-requires c κs =
     let k = c .before .before .before .before .before in
     let st = start5 k in
-    (st .pre .0, growing-metres _ (st .pre .3 (no-head (is5 k) (λ e. omega arith))), train-long _ (st .pre .0) _ _ _ (st .pre .2) _ 0 (k .cursor5 .ensures .1) (st .pre .1) (c .before .before .before .before .if5 .left))
+    (st .pre .0, growing-metres _ (st .pre .3 (no-head (is5 k) (λ e. omega arith))), train-long bookFormat _ (st .pre .0) _ _ _ (st .pre .2) _ 0 (k .cursor5 .ensures .1) (st .pre .1) (c .before .before .before .before .if5 .left))
 
 returns-13 : tie.Need-returns-13
 returns-13 c =
     let e = c .before .before in
     let k = e .before .before .before .before in
     let st = start5 k in
-    by-kind _ (st .pre .0) _ _ _ (st .pre .2) (is5 k)
-    (right-length _ (st .pre .0) _ _ _ (st .pre .2) trainKind
-    (train-right _ (st .pre .0) _ _ _ (st .pre .2) _ _ (k .cursor5 .ensures .1) (st .pre .1) (e .before .before .before .if5 .left)
+    by-kind bookFormat _ (st .pre .0) _ _ _ (st .pre .2) (is5 k)
+    (right-length bookFormat _ (st .pre .0) _ _ _ (st .pre .2) trainKind
+    (train-right bookFormat _ (st .pre .0) _ _ _ (st .pre .2) _ _ (k .cursor5 .ensures .1) (st .pre .1) (e .before .before .before .if5 .left)
     (e .before .wide .ensures .0) (eqb-true _ _ (not-false _ (e .if6 .left))))
     (c .add-train .ensures))
 
@@ -247,22 +247,22 @@ unfolding lengthFits
 returns-8 c =
     let k = c .before .before .before in
     let st = k .before .before .before .before in
-    by-kind _ (st .pre .0) _ _ _ (st .pre .2) (k .before .enum-told8 .given .1)
-    (elsewhere _ (st .pre .0) _ _ _ (st .pre .2) endKind 0 _ refl (k .cursor8 .ensures .1) (st .pre .1) (c .before .if9 .taken) (c .wrong-length8 .ensures))
+    by-kind bookFormat _ (st .pre .0) _ _ _ (st .pre .2) (k .before .enum-told8 .given .1)
+    (elsewhere bookFormat _ (st .pre .0) _ _ _ (st .pre .2) endKind 0 _ refl (k .cursor8 .ensures .1) (st .pre .1) (c .before .if9 .taken) (c .wrong-length8 .ensures))
 
 returns-16 : tie.Need-returns-16
 returns-16 c =
     let k = c .before .before .before in
     let st = k .before .before .before .before in
-    by-kind _ (st .pre .0) _ _ _ (st .pre .2) (k .before .enum-told8 .given .1)
-    (ends-right _ (st .pre .0) _ _ _ (st .pre .2) (none-left _ (st .pre .0) _ _ _ (st .pre .2) _ (k .cursor8 .ensures .1) (c .before .if9 .left)) (c .unchanged .ensures))
+    by-kind bookFormat _ (st .pre .0) _ _ _ (st .pre .2) (k .before .enum-told8 .given .1)
+    (ends-right bookFormat _ (st .pre .0) _ _ _ (st .pre .2) (none-left bookFormat _ (st .pre .0) _ _ _ (st .pre .2) _ (k .cursor8 .ensures .1) (c .before .if9 .left)) (c .unchanged .ensures))
 
 returns-17 : tie.Need-returns-17
 unfolding kindFaults firstFault addFound
 returns-17 c =
     let st = c .before .before .before .before in
-    by-kind _ (st .pre .0) _ _ _ (st .pre .2) (c .before .enum-told9 .given .1)
-    (adds-nothing _ (st .pre .0) _ _ _ (st .pre .2) none refl refl (c .unchanged2 .ensures))
+    by-kind bookFormat _ (st .pre .0) _ _ _ (st .pre .2) (c .before .enum-told9 .given .1)
+    (adds-nothing bookFormat _ (st .pre .0) _ _ _ (st .pre .2) none refl refl (c .unchanged2 .ensures))
 
 pub add-frame-spec : {M : Type 1} → statement M
 add-frame-spec =

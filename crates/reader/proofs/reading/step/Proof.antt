@@ -26,7 +26,7 @@ step-whole-requires c κs =
 returns : tie.Need-returns
 returns c =
     let st = c .before .before .before .before .before in
-    cut-here (st .args .b) (st .pre .0) (st .args .last) (st .args .s .now) (st .args .at)
+    cut-here _ (st .args .b) (st .pre .0) (st .args .last) (st .args .s .now) (st .args .at)
     (sym (c .before .before .before .frame-at .ensures .0) ∙ c .before .enum-told .given .1) (c .stopped .result) (c .stopped .ensures)
 
 returns-2 : tie.Need-returns-2

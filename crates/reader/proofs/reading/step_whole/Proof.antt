@@ -16,9 +16,9 @@ use Rattle.reader.proofs.reading.step_whole.Tie as tie
 returns : tie.Need-returns
 returns c =
     let st = c .before .before .before .before in
-    stops (st .args .b) (st .pre .0) (st .args .last) (st .args .s .now) (st .args .at) (st .args .kind) (st .args .len) (st .pre .2)
+    stops _ (st .args .b) (st .pre .0) (st .args .last) (st .args .s .now) (st .args .at) (st .args .kind) (st .args .len) (st .pre .2)
     (c .stopped .result) 2 (c .stopped .ensures)
-    (unknown-here (st .args .b) (st .pre .0) (st .args .last) (st .args .s .now) (st .args .at) (st .args .kind) (st .args .len) (st .pre .2)
+    (unknown-here _ (st .args .b) (st .pre .0) (st .args .last) (st .args .s .now) (st .args .at) (st .args .kind) (st .args .len) (st .pre .2)
     (sym (c .before .before .rank .ensures) ∙ c .before .if1 .taken))
 
 -- past the test for a kind
@@ -29,9 +29,9 @@ returns-2 : tie.Need-returns-2
 returns-2 c =
     let o = c .before .before in
     let st = o .before .before .before .before in
-    stops (st .args .b) (st .pre .0) (st .args .last) (st .args .s .now) (st .args .at) (st .args .kind) (st .args .len) (st .pre .2)
+    stops _ (st .args .b) (st .pre .0) (st .args .last) (st .args .s .now) (st .args .at) (st .args .kind) (st .args .len) (st .pre .2)
     (c .stopped2 .result) 3 (c .stopped2 .ensures)
-    (disorder-here (st .args .b) (st .pre .0) (st .args .last) (st .args .s .now) (st .args .at) (st .args .kind) (st .args .len) (st .pre .2)
+    (disorder-here _ (st .args .b) (st .pre .0) (st .args .last) (st .args .s .now) (st .args .at) (st .args .kind) (st .args .len) (st .pre .2)
     (known (o .before)) (sym (o .out-of-order .ensures) ∙ c .before .if2 .taken))
 
 -- and past the test for order
@@ -58,9 +58,9 @@ returns-3 c =
     let a = k .before .before .before in
     let e = a .before in
     let st = start e in
-    stops (st .args .b) (st .pre .0) (st .args .last) (st .args .s .now) (st .args .at) (st .args .kind) (st .args .len) (st .pre .2)
+    stops _ (st .args .b) (st .pre .0) (st .args .last) (st .args .s .now) (st .args .at) (st .args .kind) (st .args .len) (st .pre .2)
     (c .stopped3 .result) _ (c .stopped3 .ensures)
-    (refused-here (st .args .b) (st .pre .0) (st .args .last) (st .args .s .now) (st .args .at) (st .args .kind) (st .args .len) (st .pre .2)
+    (refused-here _ (st .args .b) (st .pre .0) (st .args .last) (st .args .s .now) (st .args .at) (st .args .kind) (st .args .len) (st .pre .2)
     (known (e .before .before .before)) (ordered (e .before)) (a .add-frame .result) (e .kind-of .result) (e .kind-of .ensures) (a .add-frame .ensures)
     _ (k .checked .given .1))
 
@@ -70,8 +70,8 @@ returns-4 c =
     let a = f .before .before .before in
     let e = a .before in
     let st = start e in
-    ends-here (st .args .b) (st .pre .0) (st .args .last) (st .args .s .now) (st .args .at) (st .args .kind) (st .args .len) (st .pre .2) (c .if3 .taken)
-    (none-here (st .args .b) (st .pre .0) (st .args .last) (st .args .s .now) (st .args .at) (st .args .kind) (st .args .len) (st .pre .2)
+    ends-here _ (st .args .b) (st .pre .0) (st .args .last) (st .args .s .now) (st .args .at) (st .args .kind) (st .args .len) (st .pre .2) (c .if3 .taken)
+    (none-here _ (st .args .b) (st .pre .0) (st .args .last) (st .args .s .now) (st .args .at) (st .args .kind) (st .args .len) (st .pre .2)
     (known (e .before .before .before)) (ordered (e .before)) (a .add-frame .result) (e .kind-of .result) (e .kind-of .ensures) (a .add-frame .ensures)
     (f .enum-told .given .1))
 
@@ -82,11 +82,11 @@ returns-5 c =
     let e = a .before in
     let st = start e in
     let o = e .before in
-    goes-here (st .args .b) (st .pre .0) (st .args .last) (st .args .s .now) (st .args .at) (st .args .kind) (st .args .len) (st .pre .2) (c .if3 .left)
-    (none-here (st .args .b) (st .pre .0) (st .args .last) (st .args .s .now) (st .args .at) (st .args .kind) (st .args .len) (st .pre .2)
+    goes-here _ (st .args .b) (st .pre .0) (st .args .last) (st .args .s .now) (st .args .at) (st .args .kind) (st .args .len) (st .pre .2) (c .if3 .left)
+    (none-here _ (st .args .b) (st .pre .0) (st .args .last) (st .args .s .now) (st .args .at) (st .args .kind) (st .args .len) (st .pre .2)
     (known (o .before .before)) (ordered o) (a .add-frame .result) (e .kind-of .result) (e .kind-of .ensures) (a .add-frame .ensures) (f .enum-told .given .1))
     _ (o .before .before .before .rank .ensures) _
-    (book-here (st .args .b) (st .pre .0) (st .args .last) (st .args .s .now) (st .args .at) (st .args .kind) (st .args .len) (st .pre .2)
+    (book-here _ (st .args .b) (st .pre .0) (st .args .last) (st .args .s .now) (st .args .at) (st .args .kind) (st .args .len) (st .pre .2)
     (known (o .before .before)) (ordered o) (a .add-frame .result) (e .kind-of .result) (e .kind-of .ensures) (a .add-frame .ensures) (f .enum-told .given .1))
 
 pub step-whole-spec : {M : Type 1} → statement M
