@@ -8,19 +8,15 @@ use mathlib.Core.List.{List, [], _∷_, map}
 use lib.ListN.{length, set}
 use lib.IntN.{ℤ, pos}
 use lib.Dec.{eqb}
-use Rattle.laws.proofs.Tests.{and-false, nil-of-length}
+use Rattle.laws.proofs.Tests.{and-false}
 use Rattle.spec.specs.Lists.{Bytes, count, range, each, one}
 use Rattle.spec.specs.Formula.{not′, wordsOf}
 use Rattle.spec.specs.Assignment.{assigned}
 use Rattle.demands.proofs.Meaning.{denied′}
 use Rattle.clauses.specs.declared.Walk.{Walk}
-use Rattle.clauses.specs.Walked.{more, literal, closed, word, walked, stored, skipped, most, Walks}
-use Rattle.clauses.proofs.Laws.{length-stored, walked-append}
+use Rattle.clauses.specs.Walked.{more, literal, closedBy, closed, word, walked, stored, skipped, most, Walks}
+use Rattle.clauses.proofs.Laws.{walked-append, more-more, empty-stored, stored-three}
 use Rattle.clauses.proofs.Turns.{range-next, range-end}
-
--- an output without room stays as it is
-empty-stored : (at : ℕ) (ls out : List ℤ) → length out ≡ 0 → out ≡ stored at ls out
-empty-stored at ls out e = nil-of-length out e ∙ sym (nil-of-length (stored at ls out) (length-stored at ls out ∙ e))
 
 -- some true literal
 or-true : (a b : Bool) → a ≡ true → (a || b) ≡ true
@@ -33,16 +29,11 @@ any-true false = refl
 -- a clause that holds leaves the first wrong one as it is
 closed-held : (w : Walk) → w .holds ≡ true
     → closed w ≡ record { words = more (w .words) 1; clauses = more (w .clauses) 1; holds = false; wrong = w .wrong }
-unfolding closed
+unfolding closed closedBy
 closed-held w e =
     let h : (eqb (w .wrong) 0 && not (w .holds)) ≡ false =
     ap (λ (t : Bool). eqb (w .wrong) 0 && not t) e ∙ and-false (eqb (w .wrong) 0) in
     simp h
-
--- counts that grow twice
-more-more : (n j k m : ℕ) → j + k ≡ m → more (more n j) k ≡ more n m
-unfolding more
-more-more n j k m e = omega arith
 
 three : (words clauses wrong : ℕ)
     → _≡_ {A = Walk}
@@ -104,16 +95,6 @@ module _ (values : Bytes) (u : ℕ) (no : assigned values u ≡ false) where
   skipped-pairs from m n w w′ out e h = counted-pairs from m n w w′ out out h (empty-stored _ _ out e)
 
 -- ---- storing a row of them
-
--- three words
-stored-three : (at : ℕ) (a b c : ℤ) (rest out : List ℤ) → at + 3 ≤ most
-    → stored at (a ∷ b ∷ c ∷ rest) out ≡ stored (at + 3) rest (set (set (set out at a) (at + 1) b) (at + 2) c)
-unfolding stored more
-stored-three at a b c rest out h =
-    let e₁ : min most (at + 1) ≡ at + 1 = omega arith in
-    let e₂ : min most (at + 1 + 1) ≡ at + 2 = omega arith in
-    let e₃ : min most (at + 2 + 1) ≡ at + 3 = omega arith in
-    simp (e₁, e₂, e₃)
 
 -- the next clause of a row
 pub stored-pair : (u from k n at : ℕ) (out : List ℤ) → k < n → at + 3 ≤ most

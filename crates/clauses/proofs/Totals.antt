@@ -22,7 +22,7 @@ use Rattle.spec.specs.Refutation.{variableOf}
 use Rattle.spec.specs.Entry.{overwrite}
 use Rattle.demands.proofs.Words.{proper}
 use Rattle.clauses.specs.declared.Walk.{Walk}
-use Rattle.clauses.specs.Walked.{most, more, start, literal, closed, word, walked, stored, totals}
+use Rattle.clauses.specs.Walked.{most, more, start, literal, closedBy, closed, word, walked, stored, totals}
 use Rattle.clauses.proofs.Laws.{walked-append}
 
 -- a walk, by its four parts
@@ -50,7 +50,7 @@ three e f g = simp (e, f, g)
 -- a clause is closed
 close-plain : (words n wrong : ℕ) (h : Bool) → words + 1 ≤ most → n + 1 ≤ most
     → closed (walk words n h wrong) ≡ walk (words + 1) (suc n) false (cond (eqb wrong 0 && not h) (suc n) wrong)
-unfolding closed
+unfolding closed closedBy
 close-plain words n wrong h room few =
     let e = more-plain n 1 few ∙ add-one n in
     three (more-plain words 1 room) e (ap (λ (k : ℕ). cond (eqb wrong 0 && not h) k wrong) e)
@@ -101,7 +101,7 @@ module _ (values : Bytes) where
   clauses-walked : (cs : List Clause) → T (proper cs) → (words n wrong : ℕ) → words + length (wordsOf cs) ≤ most → n ≤ words
       → walked values (wordsOf cs) (walk words n false wrong)
       ≡ walk (words + length (wordsOf cs)) (n + length cs) false (wrongBy wrong (suc n) cs)
-  unfolding wordsOf each walked word closed firstFalse orZero
+  unfolding wordsOf each walked word closed closedBy firstFalse orZero
   clauses-walked [] p words n wrong room le =
       three (sym (add-zero words)) (sym (add-zero n)) (none-wrong (eqb wrong 0) refl)
     where

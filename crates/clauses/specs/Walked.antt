@@ -36,13 +36,17 @@ unfoldable pub literal : Bytes → ℤ → Walk → Walk
 literal values l w = record
   { words = more (w .words) 1; clauses = w .clauses; holds = w .holds || isTrue (assigned values) l; wrong = w .wrong }
 
--- after a clause's closing 0: the first clause that does not hold is kept
-unfoldable pub closed : Walk → Walk
-closed w = record
-  { words = more (w .words) 1
+-- after n words, of which the last closes a clause, which holds or not: the first clause that does not hold is kept
+unfoldable pub closedBy : ℕ → Bool → Walk → Walk
+closedBy n holds w = record
+  { words = more (w .words) n
   ; clauses = more (w .clauses) 1
   ; holds = false
-  ; wrong = cond (eqb (w .wrong) 0 && not (w .holds)) (more (w .clauses) 1) (w .wrong) }
+  ; wrong = cond (eqb (w .wrong) 0 && not holds) (more (w .clauses) 1) (w .wrong) }
+
+-- after a clause's closing 0
+unfoldable pub closed : Walk → Walk
+closed w = closedBy 1 (w .holds) w
 
 unfoldable pub word : Bytes → ℤ → Walk → Walk
 word values (pos zero) w = closed w

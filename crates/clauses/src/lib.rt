@@ -4,7 +4,7 @@
 // are lent. Every family of the formula is one function over this walk. Each function answers the walk
 // after its words. Assumes nothing.
 ghost use mathlib.Core.Path.{_≡_};
-ghost use mathlib.Core.Bool.{not, _&&_, cond};
+ghost use mathlib.Core.Bool.{not, _&&_, _||_, cond};
 ghost use mathlib.Core.List.{[], _∷_, _++_, map};
 ghost use Prim.Native.Nat.{_+_, _*_, _-_, _<_, _≤_};
 ghost use lib.ListN.{length, set};
@@ -55,6 +55,20 @@ pub fn value(values: &[u8], v: usize) -> bool
     v < values.len() && values[v] == 1
 }
 
+// Whether a clause holds, so far or by the variable's value.
+fn holds_by(held: bool, values: &[u8], v: usize) -> bool
+    ensures { λ r. ⌜ r ≡ (held || assigned (now (values .entry)) v) ⌝ }
+{
+    held || value(values, v)
+}
+
+// The same by the variable's being denied.
+fn holds_without(held: bool, values: &[u8], v: usize) -> bool
+    ensures { λ r. ⌜ r ≡ (held || not (assigned (now (values .entry)) v)) ⌝ }
+{
+    held || !value(values, v)
+}
+
 // Stores a word where the output has room for it.
 fn store(out: &mut [i32], at: usize, word: i32)
     ensures { λ _. ⌜ now (out .exit) ≡ set (now (out .entry)) at word ⌝ }
@@ -88,7 +102,7 @@ pub fn affirm(w: Walk, v: usize, values: &[u8], out: &mut [i32]) -> Walk
     store(out, w.words, positive(v));
     let mut next = w;
     next.words = more(w.words, 1);
-    next.holds = w.holds || value(values, v);
+    next.holds = holds_by(w.holds, values, v);
     next
 }
 
@@ -100,21 +114,36 @@ pub fn deny(w: Walk, v: usize, values: &[u8], out: &mut [i32]) -> Walk
     store(out, w.words, negative(v));
     let mut next = w;
     next.words = more(w.words, 1);
-    next.holds = w.holds || !value(values, v);
+    next.holds = holds_without(w.holds, values, v);
     next
 }
 
-// The number of the first clause that did not hold, or 0, after the clause with this number was closed.
-fn first_wrong(w: Walk, number: usize) -> usize
-    ensures { λ r. ⌜ r ≡ cond (eqb (w .wrong) 0 && not (w .holds)) number (w .wrong) ⌝ }
+// The number of the first clause that did not hold, or 0, after the clause with this number was closed,
+// which holds or not.
+fn first_wrong(wrong: usize, holds: bool, number: usize) -> usize
+    ensures { λ r. ⌜ r ≡ cond (eqb wrong 0 && not holds) number wrong ⌝ }
 {
-    if w.wrong != 0 {
-        return w.wrong;
+    if wrong != 0 {
+        return wrong;
     }
-    if w.holds {
-        return w.wrong;
+    if holds {
+        return wrong;
     }
     number
+}
+
+// The walk behind n more words, of which the last closes a clause, which holds or not.
+fn closed_by(w: Walk, n: usize, holds: bool) -> Walk
+    requires { ⌜ n ≤ most ⌝ }
+    ensures { λ r. ⌜ r ≡ walked.closedBy n holds w ⌝ }
+{
+    let clauses = more(w.clauses, 1);
+    Walk {
+        words: more(w.words, n),
+        clauses: clauses,
+        holds: false,
+        wrong: first_wrong(w.wrong, holds, clauses),
+    }
 }
 
 // Passes the 0 behind a clause.
@@ -122,13 +151,44 @@ pub fn close(w: Walk, values: &[u8], out: &mut [i32]) -> Walk
     ensures { λ r. ⌜ Walks (now (values .entry)) (one (pos 0)) w (now (out .entry)) r (now (out .exit)) ⌝ }
 {
     store(out, w.words, 0);
-    let clauses = more(w.clauses, 1);
-    Walk {
-        words: more(w.words, 1),
-        clauses: clauses,
-        holds: false,
-        wrong: first_wrong(w, clauses),
+    closed_by(w, 1, w.holds)
+}
+
+// Stores the words of a clause of two literals: with one test, where the output has room for all.
+fn store_two(out: &mut [i32], at: usize, l: i32, m: i32)
+    ensures { λ _. ⌜ now (out .exit) ≡ walked.stored at (l ∷ m ∷ one (pos 0)) (now (out .entry)) ⌝ }
+{
+    if out.len() == 0 {
+        return;
     }
+    if at <= MOST - 3 && at + 3 <= out.len() {
+        out[at] = l;
+        out[at + 1] = m;
+        out[at + 2] = 0;
+        return;
+    }
+    let second = more(at, 1);
+    store(out, at, l);
+    store(out, second, m);
+    store(out, more(second, 1), 0);
+}
+
+// The same of a clause of three.
+fn store_three(out: &mut [i32], at: usize, l: i32, m: i32, n: i32)
+    ensures { λ _. ⌜ now (out .exit) ≡ walked.stored at (l ∷ m ∷ n ∷ one (pos 0)) (now (out .entry)) ⌝ }
+{
+    if out.len() == 0 {
+        return;
+    }
+    if at <= MOST - 4 && at + 4 <= out.len() {
+        out[at] = l;
+        out[at + 1] = m;
+        out[at + 2] = n;
+        out[at + 3] = 0;
+        return;
+    }
+    store(out, at, l);
+    store_two(out, more(at, 1), m, n);
 }
 
 // The clause that denies a variable.
@@ -154,9 +214,9 @@ pub fn implies(w: Walk, u: usize, v: usize, values: &[u8], out: &mut [i32]) -> W
     requires { ⌜ (u < literalRoom) × (v < literalRoom) ⌝ }
     ensures { λ r. ⌜ Walks (now (values .entry)) (wordsOf (one (not′ u ∷ one (is v)))) w (now (out .entry)) r (now (out .exit)) ⌝ }
 {
-    let a = deny(w, u, values, out);
-    let b = affirm(a, v, values, out);
-    close(b, values, out)
+    let first = holds_without(w.holds, values, u);
+    store_two(out, w.words, negative(u), positive(v));
+    closed_by(w, 3, holds_by(first, values, v))
 }
 
 // The clause of two variables: not both.
@@ -164,9 +224,9 @@ pub fn not_both(w: Walk, u: usize, v: usize, values: &[u8], out: &mut [i32]) -> 
     requires { ⌜ (u < literalRoom) × (v < literalRoom) ⌝ }
     ensures { λ r. ⌜ Walks (now (values .entry)) (wordsOf (one (not′ u ∷ one (not′ v)))) w (now (out .entry)) r (now (out .exit)) ⌝ }
 {
-    let a = deny(w, u, values, out);
-    let b = deny(a, v, values, out);
-    close(b, values, out)
+    let first = holds_without(w.holds, values, u);
+    store_two(out, w.words, negative(u), negative(v));
+    closed_by(w, 3, holds_without(first, values, v))
 }
 
 // The clause of three variables: the first implies the second or the third.
@@ -174,10 +234,10 @@ pub fn implies_either(w: Walk, u: usize, v: usize, x: usize, values: &[u8], out:
     requires { ⌜ (u < literalRoom) × (v < literalRoom) × (x < literalRoom) ⌝ }
     ensures { λ r. ⌜ Walks (now (values .entry)) (wordsOf (one (not′ u ∷ is v ∷ one (is x)))) w (now (out .entry)) r (now (out .exit)) ⌝ }
 {
-    let a = deny(w, u, values, out);
-    let b = affirm(a, v, values, out);
-    let c = affirm(b, x, values, out);
-    close(c, values, out)
+    let first = holds_without(w.holds, values, u);
+    let second = holds_by(first, values, v);
+    store_three(out, w.words, negative(u), positive(v), positive(x));
+    closed_by(w, 4, holds_by(second, values, x))
 }
 
 // Passes the literal that affirms a variable, where the test holds.

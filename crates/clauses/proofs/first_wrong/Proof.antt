@@ -25,13 +25,13 @@ module _ (wrong number : ℕ) (holds : Bool) where
   found e h = simp (e, h)
 
 returns : tie.Need-returns
-returns c = let a = c .before .before .args in stays (a .w .wrong) (a .number) (a .w .holds) (c .if1 .taken)
+returns c = let a = c .before .args in stays (a .wrong) (a .number) (a .holds) (c .if1 .taken)
 
 returns-2 : tie.Need-returns-2
-returns-2 c = let a = c .before .before .before .args in passes (a .w .wrong) (a .number) (a .w .holds) (c .if2 .taken)
+returns-2 c = let a = c .before .before .args in passes (a .wrong) (a .number) (a .holds) (c .if2 .taken)
 
 returns-3 : tie.Need-returns-3
-returns-3 c = let a = c .before .before .before .args in found (a .w .wrong) (a .number) (a .w .holds) (c .before .if1 .left) (c .if2 .left)
+returns-3 c = let a = c .before .before .args in found (a .wrong) (a .number) (a .holds) (c .before .if1 .left) (c .if2 .left)
 
 pub first-wrong-spec : {M : Type 1} → statement M
 first-wrong-spec = tie.close (tie.spec returns returns-2 returns-3)
