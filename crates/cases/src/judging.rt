@@ -42,20 +42,20 @@ fn refutation(
     r: &[u8],
     numbers: &[u8],
     words: &mut [i32],
-    clauses: &mut [usize],
+    starts: &mut [usize],
     values: &mut [u8],
     trail: &mut [usize],
 ) {
     let mut line = [0u8; 64];
     let w = lent(numbers, 0, words.len());
-    let c = lent(numbers, 1, clauses.len());
+    let n = lent(numbers, 1, starts.len());
     let v = lent(numbers, 2, values.len());
     let t = lent(numbers, 3, trail.len());
     let said = refutation_text(
         book,
         r,
         &mut words[..w],
-        &mut clauses[..c],
+        &mut starts[..n],
         &mut values[..v],
         &mut trail[..t],
         &mut line,
@@ -66,7 +66,7 @@ fn refutation(
 // The verdict's line.
 pub fn refute(book: &[u8], r: &[u8], numbers: &[u8]) {
     let mut words = [-7i32; 16384];
-    let mut clauses = [9usize; 8192];
+    let mut starts = [9usize; 8192];
     let mut values = [2u8; 65536];
     let mut trail = [5usize; 8192];
     refutation(
@@ -74,7 +74,7 @@ pub fn refute(book: &[u8], r: &[u8], numbers: &[u8]) {
         r,
         numbers,
         &mut words,
-        &mut clauses,
+        &mut starts,
         &mut values,
         &mut trail,
     );

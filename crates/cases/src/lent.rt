@@ -1,5 +1,5 @@
 // How much a record lends.
-use refutation_file::rows::number_at;
+use refutation_file::numbers::number_at;
 ghost use Prim.Native.Nat.{_≤_};
 
 // The number in this place, or the most that is lent, where that is less or there is no number.

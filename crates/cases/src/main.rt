@@ -16,7 +16,7 @@ mod lent;
 
 use libc::STDOUT_FILENO;
 use programs::verdicts::Check;
-use refutation_file::rows::number_at;
+use refutation_file::numbers::number_at;
 
 fn answer(question: u8, first: &[u8], second: &[u8], third: &[u8]) {
     match question {

@@ -12,14 +12,13 @@ use Rattle.spec.specs.Instance.{Instance}
 use Rattle.spec.specs.Plan.{Plan, planFits, planLength, planOf}
 use Rattle.spec.specs.Formula.{variables}
 use Rattle.spec.specs.Assignment.{assigned, decoded, decode, encode}
-use Rattle.spec.specs.Entry.{demand, overwrite, written, judgeAssignment, judgePlan, decodedFor, encodedFor}
+use Rattle.spec.specs.Entry.{demand, overwrite, written, judgeAssignment, judgePlan, decodedFor, encodedFor, admitPlan}
 use Rattle.demands.proofs.Encoding.{length-plan, length-encode}
 use Rattle.demands.proofs.Entries.{plan-iff}
 use Rattle.demands.proofs.Extra.{extra-length}
 use Rattle.reader.specs.declared.reading.Answer.{Answer}
 use Rattle.reader.specs.declared.reading.Answer.the-variants as judged
 use Rattle.reader.specs.BookAnswers.{answerOf}
-use Rattle.plan_rules.specs.Admitted.{admitPlan}
 use Rattle.plan_rules.proofs.Admitted.{after-refused, after-goes}
 use Rattle.checking.specs.declared.OutputAnswer.{OutputAnswer}
 use Rattle.checking.specs.declared.OutputAnswer.the-variants.{Wrote, Refused}

@@ -74,7 +74,7 @@ pub fn check_assignment(book: &[u8], values: &[u8], out: &mut [u8]) -> OutputAns
     let mut chains = [0usize; ALL_CHAINS];
     let mut meets = [0u8; MEET_BYTES];
     let p = prepare_chains(book, &mut runs, &mut chains, &mut meets);
-    let end = p.meets;
+    let end = p.meet_bytes;
     let read = p.read;
     let b = read.book;
     let counts = read.counts;
@@ -128,7 +128,7 @@ pub fn check_plan(book: &[u8], plan: &[u8], out: &mut [u8]) -> OutputAnswer
     let mut runs = [0u8; TABLE_BYTES];
     let mut meets = [0u8; MEET_BYTES];
     let p = prepare(book, &mut runs, &mut meets);
-    let end = p.meets;
+    let end = p.meet_bytes;
     let read = p.read;
     let b = read.book;
     let counts = read.counts;

@@ -9,7 +9,7 @@ use mathlib.Core.List.{List, [], _∷_, _++_}
 use lib.ListN.{length}
 use lib.Dec.{T, leb}
 use Rattle.laws.proofs.Tests.{and-iff, leb-iff, true-of, decide, denied-of, from-true}
-use Rattle.spec.specs.Lists.{Bytes, all, Verdict, accepted, refused, andThen, firstFault, Fault, _when_, one}
+use Rattle.spec.specs.Lists.{Bytes, all, Verdict, accepted, refused, andThen, firstFault, faultless, Fault, _when_, one}
 use Rattle.spec.specs.Instance.{Instance, instanceOf}
 use Rattle.spec.specs.Book.{Book}
 use Rattle.spec.specs.Read.{readBook}
@@ -18,7 +18,7 @@ use Rattle.spec.specs.Formula.{Clause, formula, variables, wordsOf}
 use Rattle.spec.specs.Assignment.{satisfies, holds, firstFalse, assigned, assignmentFits, decode, encode}
 use Rattle.spec.specs.Refutation.{Lent, checkFile}
 use Rattle.spec.specs.Entry.{demand, findNone, readInstance, Written, formulaWritten, writeFormula, judgeAssignment, judgePlan, decodedFor, checkAssignment, encodedFor, afterPlan, checkPlan, checkRefutation, refutedFor, formulaFits, writtenFor}
-use Rattle.demands.proofs.Faults.{passes, first-none, clear-first}
+use Rattle.demands.proofs.Faults.{first-none, clear-first}
 
 -- ---- the parts of a check
 
@@ -36,6 +36,20 @@ then-accepted (refused n d) f b e = accepted≢refused (sym e)
 pub then-goes : {A B : Type 0} {v : Verdict A} {a : A} (f : A → Verdict B) → v ≡ accepted a → andThen v f ≡ f a
 unfolding andThen
 then-goes {B = B} f e = ap (λ w. andThen w f) e
+
+-- a check of two parts and what comes behind it
+then-assoc : {A B C : Type 0} (v : Verdict A) (f : A → Verdict B) (g : B → Verdict C)
+    → andThen (andThen v f) g ≡ andThen v (λ a. andThen (f a) g)
+unfolding andThen
+then-assoc (accepted a) f g = refl
+then-assoc (refused n d) f g = refl
+
+-- the check of a plan: the book, 12, the judgement, and the assignment
+pub plan-checked : (book plan : Bytes) (n : ℕ) → checkPlan book plan n
+    ≡ (andThen (readInstance book) λ I. andThen (demand (leb (variables I) n) 12) λ _. andThen (judgePlan I plan) λ _. accepted (encode I (planOf I plan)))
+unfolding checkPlan encodedFor afterPlan
+plan-checked book plan n i =
+    andThen (readInstance book) (λ I. then-assoc (demand (leb (variables I) n) 12) (λ _. judgePlan I plan) (λ _. accepted (encode I (planOf I plan))) i)
 
 pub demand-iff : (b : Bool) (n : ℕ) → (demand b n ≡ accepted tt) ↔ T b
 unfolding demand
@@ -79,7 +93,7 @@ assignment-iff I s = (
 
 -- no rule is broken exactly where all six hold
 pub no-broken : (I : Instance) (p : Plan) → (brokenRule I p ≡ none) ↔ T (keepsRules I p)
-unfolding brokenRule keepsRules passes
+unfolding brokenRule keepsRules faultless
 no-broken I p = (first-none (ruleFaults I p), clear-first (ruleFaults I p))
 
 -- a plan is accepted exactly where its bytes fit and it keeps the rules
@@ -138,9 +152,8 @@ module _ (book : Bytes) (b : Book) (read : readBook book ≡ accepted b) where
 
   pub check-plan : (s : Bytes) (n : ℕ) (assignment : Bytes) → (checkPlan book s n ≡ accepted assignment)
       ↔ ((variables (instanceOf b) ≤ n) × (judgePlan (instanceOf b) s ≡ accepted tt) × (encode (instanceOf b) (planOf (instanceOf b) s) ≡ assignment))
-  unfolding checkPlan encodedFor afterPlan
   check-plan s n assignment =
-      let e : checkPlan book s n ≡ _ = then-goes _ read-instance in
+      let e = plan-checked book s n ∙ then-goes _ read-instance in
       let k = row-iff (leb (variables (instanceOf b)) n) (judgePlan (instanceOf b) s) (encode (instanceOf b) (planOf (instanceOf b) s)) assignment in (
         (λ h. let r = k .0 (sym e ∙ h) in (leb-iff _ n .0 (r .0), r .1, r .2)),
         (λ h. e ∙ k .1 (leb-iff _ n .1 (h .0), h .1, h .2)),

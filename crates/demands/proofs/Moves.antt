@@ -7,7 +7,7 @@ use native.Mathlib.Omega.{arith}
 use mathlib.Core.List.{List, [], _∷_, List·Memᴰ}
 use lib.Dec.{T, eqb, eqb-refl}
 use Rattle.laws.proofs.Tests.{meaning, and-iff, or-iff, any-iff, eqb-iff, ltb-iff}
-use Rattle.spec.specs.Lists.{all, any, upTo, range}
+use Rattle.spec.specs.Lists.{all, any, upTo, range, passes, faultless}
 use Rattle.spec.specs.Instance.{Instance, inWindow, servedAtDeparture}
 use Rattle.spec.specs.Sections.{together, shareSection}
 use Rattle.spec.specs.Plan.{Plan, Move, run, absent, gone, isAbsent, isGone, runs, ifRun, ofRun, isMove, rule1, absentBefore, departs, rule2, leavesRightly, rule3, runsOn, rule4, keepsCalls, rule5, rule6, servedBy, ruleFaults, keepsRules}
@@ -63,13 +63,13 @@ module _ (I : Instance) (p : Plan) where
     pub six : T (rule6 I p)
 
   pub kept : T (keepsRules I p) → Kept
-  unfolding keepsRules ruleFaults all
+  unfolding keepsRules ruleFaults faultless passes all
   kept h =
       let k = simp (Bool·not-not, and-iff) at h in
       record { one = k .0; two = k .1 .0; three = k .1 .1 .0; four = k .1 .1 .1 .0; five = k .1 .1 .1 .1 .0; six = k .1 .1 .1 .1 .1 .0 }
 
   pub from-kept : Kept → T (keepsRules I p)
-  unfolding keepsRules ruleFaults all
+  unfolding keepsRules ruleFaults faultless passes all
   from-kept k = simp (Bool·not-not, and-iff) (k .one, (k .two, (k .three, (k .four, (k .five, (k .six, tt))))))
 
 -- ---- moves

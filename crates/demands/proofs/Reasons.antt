@@ -1,6 +1,6 @@
 -- Refusals of the entry points, from arbitrary bytes: each is given only where a condition stated for its number holds and none
 -- that is tried before it, with the detail that document 01 names. Assumes nothing.
-use mathlib.Core.Path.{_≡_, refl}
+use mathlib.Core.Path.{_≡_, refl, sym, _∙_}
 use mathlib.Core.Logic.{_↔_, _⊎_, inl, inr}
 use mathlib.Core.Bool.{Bool, true, false, not, _||_}
 use mathlib.Core.Option.{Option, none, some}
@@ -26,7 +26,7 @@ pub use Rattle.demands.specs.Reasons.{Refusal, ofBook, ofRoom, ofInput, 
 use Rattle.demands.proofs.Faults.{passes, FirstHolds, first-none, first-some}
 use Rattle.demands.proofs.Reading.{refusal-has-reason}
 use Rattle.demands.proofs.Refuting.{stepAt, added}
-use Rattle.demands.proofs.Entries.{accepted≢refused, demand-iff, instance-read}
+use Rattle.demands.proofs.Entries.{accepted≢refused, demand-iff, instance-read, plan-checked}
 
 -- ---- the parts of a check
 
@@ -175,10 +175,9 @@ plan-fault {d = d} I s e =
 -- Refused only by the book, by 12 where the assignment is longer than the slice, or for what is wrong with the plan.
 pub plan-refusal : (book plan : Bytes) (n k d : ℕ) → checkPlan book plan n ≡ refused k d
     → Refusal book (λ I. n < variables I) (λ I. PlanFault I plan) k d
-unfolding checkPlan encodedFor afterPlan
 plan-refusal book s n k d e =
     in-order book _ _ (λ I. leb (variables I) n) _ (λ I. short-iff (variables I) n)
-    (λ I r. plan-fault I s (judged-refused (judgePlan I s) _ r)) e
+    (λ I r. plan-fault I s (judged-refused (judgePlan I s) _ r)) (sym (plan-checked book s n) ∙ e)
 
 -- ---- checking a refutation
 

@@ -23,7 +23,7 @@ use Rattle.spec.specs.Refutation.{Lent, clauseAt, stepFaults, stepDetail, check
 use Rattle.spec.specs.Entry.{demand, findNone, readInstance, writeFormula, judgeAssignment, judgePlan, decodedFor, checkAssignment, encodedFor, afterPlan, checkPlan, checkRefutation, refutedFor, formulaFits, writtenFor}
 use Rattle.demands.proofs.Faults.{passes, clear-first, holds-first}
 use Rattle.demands.proofs.Refuting.{stepAt, added}
-use Rattle.demands.proofs.Entries.{demand-iff, then-goes, no-false, read-instance}
+use Rattle.demands.proofs.Entries.{demand-iff, then-goes, no-false, read-instance, plan-checked}
 use Rattle.demands.proofs.Reasons as reasons
 use Rattle.demands.proofs.Reasons.{Refusal, ofBook, ofRoom, ofInput, short-iff, LeastFalse, least-false, AssignmentFault, assignmentUnfit, clauseFalse, PlanFault, planUnfit, ruleBroken, StepsTo, firstStep, nextStep, RefutationFault, stepFault, noEnding, bytesAfter, step-whole}
 
@@ -116,10 +116,9 @@ plan-judged I s k d (ruleBroken h f) =
 -- Refused exactly by the book, by 12 where the assignment is longer than the slice, or for what is wrong with the plan.
 pub plan-refused : (book plan : Bytes) (n k d : ℕ)
     → (checkPlan book plan n ≡ refused k d) ↔ Refusal book (λ I. n < variables I) (λ I. PlanFault I plan) k d
-unfolding checkPlan encodedFor afterPlan
 plan-refused book s n k d = (
   reasons.plan-refusal book s n k d,
-  (λ r. in-order book _ _ _ _ (λ I. short-iff (variables I) n) (λ I k d f. stops _ (plan-judged I s k d f)) r),
+  (λ r. plan-checked book s n ∙ in-order book _ _ _ _ (λ I. short-iff (variables I) n) (λ I k d f. stops _ (plan-judged I s k d f)) r),
 )
 
 -- ---- checking a refutation

@@ -47,7 +47,7 @@ ruleset tested = (rows, is-within, not-within, meaning)
 -- ---- the numbering
 
 -- a part of a sum ends by the sum's end
-sum-below : (f : ℕ → ℕ) (n i : ℕ) → i < n → sumTo f i + f i ≤ sumTo f n
+pub sum-below : (f : ℕ → ℕ) (n i : ℕ) → i < n → sumTo f i + f i ≤ sumTo f n
 unfolding sumTo
 sum-below f zero i h = omega arith
 sum-below f (suc n) i h =

@@ -54,7 +54,7 @@ pub data Before : List ℕ → List ℕ → Type 0 where
   shorter : {p q : List ℕ} → length p < length q → Before p q
   smaller : {p q : List ℕ} → length p ≡ length q → Dictionary p q → Before p q
 
--- a row that rises: each element comes before all that stand behind it
+-- a list that rises: each element comes before all that stand behind it
 pub data Rising {A : Type 0} (R : A → A → Type 0) : List A → Type 0 where
   nothing : Rising R []
   next : {x : A} {xs : List A} → ((y : A) → List·Memᴰ y xs → R x y) → Rising R xs → Rising R (x ∷ xs)

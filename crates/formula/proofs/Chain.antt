@@ -11,8 +11,9 @@ use Rattle.spec.specs.Book.{Book}
 use Rattle.spec.specs.Instance.{instanceOf}
 use Rattle.clauses.proofs.Laws.{only-false}
 use Rattle.clauses.proofs.Turns.{upTo-range, range-next}
-use Rattle.tables.specs.Tables.{leastFrom}
+use Rattle.tables.specs.Tables.{leastFrom, firstFollower}
 use Rattle.tables.specs.Ready.{ChainsHeld}
+use Rattle.tables.proofs.Links.{next-follower}
 use Rattle.laws.proofs.Least.{least-from, least-holds}
 use Rattle.formula.specs.Chained.{Chained}
 
@@ -77,4 +78,5 @@ module _ {f : ℕ → Bool} {n first : ℕ} {chains : List ℕ} (c : Chained f n
 -- the runs that follow a run are chained
 pub follows-chained : {b : Book} {i : ℕ} {chains : List ℕ} → ChainsHeld b i chains → {n : ℕ} → n ≡ instanceOf b .runs i
     → (r : ℕ) → r < instanceOf b .runs i → Chained (instanceOf b .follows i r) n (getD chains (2 * r) 0) chains
-follows-chained h e r m = rw e (record { least = h .first r m; next = λ q k t. h .next r q m k t })
+unfolding firstFollower
+follows-chained {b} {i} h e r m = rw e (record { least = h .first r m; next = λ q k t. h .next q k ∙ next-follower b i r q t })

@@ -10,7 +10,7 @@ use Rattle.spec.specs.Lists.{Bytes, each, one}
 use Rattle.spec.specs.Instance.{Instance}
 use Rattle.spec.specs.Formula.{Clause, is, not′, borderVar, wordsOf, clausesH}
 use Rattle.demands.proofs.Words.{words-append}
-use Rattle.tables.specs.Meets.{meetBytes}
+use Rattle.tables.specs.Meets.{meetTable}
 use Rattle.tables.proofs.Triples.{bytes-next, bytes-end, triples, triples-next, triples-end, triples-meet}
 
 -- the clause of two segments that meet at a node; the claims lie from x on
@@ -45,7 +45,7 @@ module _ (x : ℕ) where
       ap wordsOf (triples-end (meeting x) (slice at (length meets) meets) (bytes-end meets (length meets) at h))
 
 -- all bytes are the clauses of family H
-pub behind-all : (I : Instance) (i x n : ℕ) (meets : Bytes) → n ≡ I .runs i → meets ≡ meetBytes I
+pub behind-all : (I : Instance) (i x n : ℕ) (meets : Bytes) → n ≡ I .runs i → meets ≡ meetTable I
     → behind (x + (n + 1)) meets 0 ≡ wordsOf (clausesH I i x)
 unfolding clausesH borderVar
 behind-all I i x n meets e f =

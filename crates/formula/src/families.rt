@@ -38,10 +38,11 @@ ghost use Prim.Native.Nat.{ℕ, _+_, _*_, _≤_, _<_};
 ghost use lib.ListN.{length, getD};
 ghost use Rattle.spec.specs.Lists.{upTo, each, only, one};
 ghost use Rattle.spec.specs.Book.{segmentOf};
+ghost use Rattle.spec.specs.Read.{maxRuns};
 ghost use Rattle.spec.specs.Instance.{instanceOf, callAt};
 ghost use Rattle.spec.specs.Formula.{is, not′, width, clausesB, clausesC, clausesI, clausesD, clausesE, serversF, clausesG, clausesH, familyA, wordsOf};
 ghost use Rattle.spec.specs.Held.{held};
-ghost use Rattle.listing.specs.Listed.{trainBytes};
+ghost use Rattle.listing.specs.Listed.{runSegments, trainBytes};
 ghost use Rattle.clauses.specs.Walked.{Walks, literalRoom};
 ghost use Rattle.tables.specs.Placed.{sizeAt, runHeld};
 ghost use Rattle.tables.specs.Tables.{Passed};
@@ -76,7 +77,7 @@ pub fn clauses_b(w: Walk, base: usize, n: usize, values: &[u8], out: &mut [i32])
 
 // C: from its departure on a train has some run or is gone, and no two of these.
 pub fn clauses_c(w: Walk, base: usize, n: usize, values: &[u8], out: &mut [i32]) -> Walk
-    requires { ⌜ (base + n + 1 < literalRoom) × (n ≤ 256) ⌝ }
+    requires { ⌜ (base + n + 1 < literalRoom) × (n ≤ maxRuns) ⌝ }
     ensures { λ r. ⌜ Walks (now (values .entry)) (wordsOf (clausesC n base)) w (now (out .entry)) r (now (out .exit)) ⌝ }
 {
     let some = some_of(w, base, n + 1, values, out);
@@ -216,7 +217,7 @@ pub fn servers(
 
 // G: run r of a block claims each segment of its path.
 fn claims_of(t: Block, r: usize, w: Walk, runs: &[u8], values: &[u8], out: &mut [i32]) -> Walk
-    requires { ⌜ (t .base < blockRoom) × (t .runs ≤ 256) × (r < t .runs) × (length (now runs) ≡ trainBytes) × (sizeAt (now runs) r ≤ 16) ⌝ }
+    requires { ⌜ (t .base < blockRoom) × (t .runs ≤ maxRuns) × (r < t .runs) × (length (now runs) ≡ trainBytes) × (sizeAt (now runs) r ≤ runSegments) ⌝ }
     ensures { λ v. ⌜ Walks (now (values .entry))
         (wordsOf (map (λ s. not′ (t .base + r) ∷ one (is (t .base + (t .runs + 1 + s)))) (map segmentOf (runHeld (now (runs .entry)) r))))
         w (now (out .entry)) v (now (out .exit)) ⌝ }

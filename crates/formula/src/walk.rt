@@ -35,7 +35,7 @@ ghost use Rattle.spec.specs.Formula.{familyB, familyC, familyD, familyE, family
 ghost use Rattle.spec.specs.Held.{held};
 ghost use Rattle.clauses.specs.Walked.{Walks, start};
 ghost use Rattle.tables.specs.Ready.{Counted, RunsHeld, ChainsHeld, RunsReady, ChainsReady, MeetsReady};
-ghost use Rattle.layout.specs.Blocks.{BlockHeld};
+ghost use Rattle.layout.specs.Blocks.{BlockHeld, intervalsMost};
 ghost use Rattle.formula.specs.Families.{fromBy, toBy, blockClauses, trainClauses, familyClauses, callRuns, callClauses, pairsBehind};
 ghost use Rattle.formula.specs.Ready.{TrainReady};
 
@@ -66,7 +66,7 @@ fn first_interval(family: Family, d: usize) -> usize
 // The interval behind the last of the family's clauses, of `all` intervals. E's clauses are those of the
 // interval before.
 fn end_interval(family: Family, d: usize, all: usize) -> usize
-    requires { ⌜ (d < all) × (all < 65536) ⌝ }
+    requires { ⌜ (d < all) × (all < intervalsMost) ⌝ }
     ensures { λ r. ⌜ r ≡ toBy family d all ⌝ }
 {
     match family {

@@ -19,7 +19,7 @@ use Rattle.spec.specs.Entry.{demand, overwrite, written}
 use Rattle.spec.specs.Library.{bordersFit, labelledFor}
 use Rattle.laws.proofs.Tests.{and-iff, eqb-iff, from-true}
 use Rattle.laws.proofs.Parts.{length-upTo}
-use Rattle.tables.specs.Placed.{bordersOf}
+use Rattle.spec.specs.Plan.{bordersOf}
 use Rattle.tables.specs.Tables.{Passed}
 use Rattle.tables.proofs.Small.{nodes-is, segments-is}
 use Rattle.tables.proofs.MeetTables.{take-sets}
@@ -115,7 +115,7 @@ module _ (I : Instance) (borders old : Bytes) where
     pub labelled-done : {n : ℕ} {new : Bytes} → bordersFit I borders ≡ true → I .segments ≡ n
         → new ≡ overwrite old (sectionLabels I (bordersOf borders))
         → Left (labelledFor I borders (length old)) old (record { number = 0; detail = 0; length = n }) new
-    unfolding labelledFor demand andThen written bordersOf
+    unfolding labelledFor demand andThen written
     labelled-done f e h =
         rw (le-leb (I .segments) (length old) room, f)
         (ap (λ (n : ℕ). record { number = 0; detail = 0; length = n }) (sym (length-labels I (bordersOf borders) ∙ e)), h)

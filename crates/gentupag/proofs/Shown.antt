@@ -19,7 +19,8 @@ use Rattle.reader.specs.declared.reading.Answer.the-variants.{Accepted, Refused
 use Rattle.reader.specs.declared.reading.BookRead.{BookRead}
 use Rattle.reader.specs.BookAnswers.{bookReadOf}
 use Rattle.reader.proofs.Accepted.{accepted-by, refused-by}
-use Rattle.tables.specs.Placed.{placeAt, sizeAt, startAt, runHeld}
+use Rattle.listing.specs.Listed.{placeAt, startAt}
+use Rattle.tables.specs.Placed.{sizeAt, runHeld}
 use Rattle.tables.specs.Tables.{Passed}
 use Rattle.tables.specs.Ready.{RunsHeld}
 use Rattle.gentupag.specs.declared.answers.Run.{Run}

@@ -82,7 +82,7 @@ pub fn label_book(book: &[u8], borders: &[u8], out: &mut [u8]) -> Output
     let mut runs = [0u8; TABLE_BYTES];
     let mut meets = [0u8; MEET_BYTES];
     let p = prepare(book, &mut runs, &mut meets);
-    let end = p.meets;
+    let end = p.meet_bytes;
     let read = p.read;
     let b = read.book;
     let answer = read.answer;

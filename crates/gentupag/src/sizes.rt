@@ -98,7 +98,7 @@ pub fn measure_book(book: &[u8]) -> Sizes
     let mut chains = [0usize; ALL_CHAINS];
     let mut meets = [0u8; MEET_BYTES];
     let p = prepare_chains(book, &mut runs, &mut chains, &mut meets);
-    let end = p.meets;
+    let end = p.meet_bytes;
     let read = p.read;
     let b = read.book;
     let counts = read.counts;

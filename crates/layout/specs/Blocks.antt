@@ -1,7 +1,8 @@
--- Blocks of variables, as the code holds them by value. Assumes nothing.
+-- Blocks of variables, as the code holds them by value: structs of the code, which no demand speaks of. Assumes nothing.
 use mathlib.Core.Path.{_≡_}
-use Prim.Native.Nat.{ℕ, _≤_, _<_}
+use Prim.Native.Nat.{ℕ, _+_, _*_, _≤_, _<_}
 use Rattle.model.specs.declared.Book.{Book as BookStruct}
+use Rattle.spec.specs.Read.{maxNodes, maxSegments, maxTrains, maxReach, maxRuns}
 use Rattle.spec.specs.Instance.{instanceOf, trainLength}
 use Rattle.spec.specs.Formula as formula
 use Rattle.spec.specs.Held.{held}
@@ -12,12 +13,20 @@ use Rattle.layout.specs.declared.blocks.Block.{Block}
 abbrev pub blockRoom : ℕ
 blockRoom = 900000000
 
--- the first variable of a train is at most 96 + 8 · 65536 · 321, and of a block 65536 · 321 more
+-- a train's variables in an interval are at most so many, and intervals, whose number a book has in two bytes, at most so many; a
+-- generous bound, since reading allows far fewer
+abbrev pub widthMost : ℕ
+widthMost = maxRuns + 1 + maxSegments
+
+abbrev pub intervalsMost : ℕ
+intervalsMost = 65536
+
+-- so the first variable of a train, and of a block, is at most this
 abbrev pub firstMost : ℕ
-firstMost = 168296544
+firstMost = maxNodes + maxTrains * (intervalsMost * widthMost)
 
 abbrev pub baseMost : ℕ
-baseMost = 189333600
+baseMost = firstMost + intervalsMost * widthMost
 
 -- what is known of a block before its interval is: the train's numbers, and a first variable that leaves room for the block
 pub record BlockHeld (b : BookStruct) (k : Block) : Type 0 where
@@ -25,7 +34,7 @@ pub record BlockHeld (b : BookStruct) (k : Block) : Type 0 where
   pub known : k .train < b .«train_count»
   pub runs : k .runs ≡ instanceOf (held b) .runs (k .train)
   pub length : k .length ≡ trainLength (held b) (k .train)
-  pub short : k .length ≤ 8
+  pub short : k .length ≤ maxReach
   pub small : k .base < blockRoom
 
 -- the block of train i in interval t

@@ -6,11 +6,12 @@ use model::Book;
 use model::Counts;
 ghost use mathlib.Core.Path.{_≡_};
 ghost use Prim.Native.Nat.{_+_, _*_, _^_, _≤_, _<_};
+ghost use Rattle.spec.specs.Read.{maxSegments, maxRuns};
 ghost use Rattle.spec.specs.Instance.{instanceOf};
 ghost use Rattle.spec.specs.Formula.{firstVar, base, claimVar, variables};
 ghost use Rattle.spec.specs.Held.{held};
 ghost use Rattle.tables.specs.Ready.{Counted};
-ghost use Rattle.layout.specs.Blocks.{firstMost, baseMost, blockRoom};
+ghost use Rattle.layout.specs.Blocks.{intervalsMost, firstMost, baseMost, blockRoom};
 
 // Gone's variable in the interval whose first variable is `base`, of a train with n runs.
 pub fn gone_variable(base: usize, n: usize) -> usize
@@ -47,7 +48,7 @@ fn width(n: usize, segments: usize) -> usize
 
 // The first variable of an interval of a train with n runs, whose own first variable is `first`.
 pub fn base_from(first: usize, n: usize, segments: usize, interval: usize) -> usize
-    requires { ⌜ (first ≤ firstMost) × (n ≤ 256) × (segments ≤ 64) × (interval ≤ 65536) ⌝ }
+    requires { ⌜ (first ≤ firstMost) × (n ≤ maxRuns) × (segments ≤ maxSegments) × (interval ≤ intervalsMost) ⌝ }
     ensures { λ r. ⌜ (r ≡ first + interval * (n + 1 + segments)) × (r ≤ baseMost) ⌝ }
 {
     first + interval * width(n, segments)

@@ -18,7 +18,7 @@ use Rattle.laws.proofs.Tests.{and-iff, eqb-iff, ltb-iff, leb-iff, all-iff, all-
 use Rattle.laws.proofs.Rows.{all-one, all-each, all-map}
 use Rattle.laws.proofs.Parts.{Part, part-here, part-behind, part-in, part-at, each-append, each-mem-same, length-upTo, map-at, map-same}
 use Rattle.listing.specs.Listed.{successorsBy, SuccessorsHeld, Covered, extendBy, pathsBy}
-use Rattle.listing.specs.Listed.{placeIn, placesIn, PlacesCovered, longerBy, furtherBy}
+use Rattle.listing.specs.Listed.{placeAt, placeIn, placesIn, PlacesCovered, longerBy, furtherBy}
 use Rattle.listing.specs.Listed.{trainBytes, entryAt, entryOf, runsAfter, countAfter}
 use Rattle.listing.proofs.Leaves.{last-append, part-sets, part-slice}
 use Rattle.listing.proofs.Lists.{short, unless, unless-all, onward, each-nothing, each-next, each-short, extend-short}
@@ -53,49 +53,49 @@ each-first {B = B} f (suc k) =
 
 -- ---- paths in two steps
 
-module _ (table fans : Bytes) where
-  pub extend-add : (m j : ℕ) (path : List ℕ) → extendBy table fans (m + j) path ≡ each (extendBy table fans m path) (extendBy table fans j)
+module _ (table widths : Bytes) where
+  pub extend-add : (m j : ℕ) (path : List ℕ) → extendBy table widths (m + j) path ≡ each (extendBy table widths m path) (extendBy table widths j)
   unfolding extendBy each
   extend-add zero j path =
-      ap (λ (n : ℕ). extendBy table fans n path) (zero-add j) ∙ sym (append-nil (extendBy table fans j path))
+      ap (λ (n : ℕ). extendBy table widths n path) (zero-add j) ∙ sym (append-nil (extendBy table widths j path))
   extend-add (suc m) j path =
-      ap (λ (n : ℕ). extendBy table fans n path) (suc-add m j)
-      ∙ each-mem-same (onward table fans (m + j) path) (λ d. each (onward table fans m path d) (extendBy table fans j))
-      (successorsBy table fans (lastOr 0 path))
+      ap (λ (n : ℕ). extendBy table widths n path) (suc-add m j)
+      ∙ each-mem-same (onward table widths (m + j) path) (λ d. each (onward table widths m path d) (extendBy table widths j))
+      (successorsBy table widths (lastOr 0 path))
       (λ d _. step (has (segmentOf d) (map segmentOf path)) _ (extend-add m j (path ++ one d)))
-      ∙ sym (each-each (successorsBy table fans (lastOr 0 path)) (onward table fans m path) (extendBy table fans j))
+      ∙ sym (each-each (successorsBy table widths (lastOr 0 path)) (onward table widths m path) (extendBy table widths j))
     where
-      step : (u : Bool) {xs : List (List ℕ)} (ys : List (List ℕ)) → xs ≡ each ys (extendBy table fans j)
-          → unless u xs ≡ each (unless u ys) (extendBy table fans j)
+      step : (u : Bool) {xs : List (List ℕ)} (ys : List (List ℕ)) → xs ≡ each ys (extendBy table widths j)
+          → unless u xs ≡ each (unless u ys) (extendBy table widths j)
       step true ys e = refl
       step false ys e = e
 
-  pub paths-add : (n l j : ℕ) → 1 ≤ l → pathsBy table fans n (l + j) ≡ each (pathsBy table fans n l) (extendBy table fans j)
+  pub paths-add : (n l j : ℕ) → 1 ≤ l → pathsBy table widths n (l + j) ≡ each (pathsBy table widths n l) (extendBy table widths j)
   unfolding pathsBy
   paths-add n l j h =
       let e : l + j - 1 ≡ l - 1 + j = omega arith in
-      ap (λ (m : ℕ). each (upTo n) λ d. extendBy table fans m (one d)) e
-      ∙ each-mem-same (λ d. extendBy table fans (l - 1 + j) (one d))
-      (λ d. each (extendBy table fans (l - 1) (one d)) (extendBy table fans j)) (upTo n) (λ d _. extend-add (l - 1) j (one d))
-      ∙ sym (each-each (upTo n) (λ d. extendBy table fans (l - 1) (one d)) (extendBy table fans j))
+      ap (λ (m : ℕ). each (upTo n) λ d. extendBy table widths m (one d)) e
+      ∙ each-mem-same (λ d. extendBy table widths (l - 1 + j) (one d))
+      (λ d. each (extendBy table widths (l - 1) (one d)) (extendBy table widths j)) (upTo n) (λ d _. extend-add (l - 1) j (one d))
+      ∙ sym (each-each (upTo n) (λ d. extendBy table widths (l - 1) (one d)) (extendBy table widths j))
 
-  pub longer-none : (places : List (List ℕ)) → longerBy table fans places 0 ≡ places
+  pub longer-none : (places : List (List ℕ)) → longerBy table widths places 0 ≡ places
   unfolding longerBy extendBy each
   longer-none [] = refl
   longer-none (p ∷ ps) = ap (λ (l : List (List ℕ)). p ∷ l) (longer-none ps)
 
 -- a train's runs: the paths of l segments, and further
-pub runs-further : {b : Book} {table fans : Bytes} → SuccessorsHeld b table fans → (t : Train) (n l k : ℕ) → n ≡ 2 * length (b .segments)
+pub runs-further : {b : Book} {table widths : Bytes} → SuccessorsHeld b table widths → (t : Train) (n l k : ℕ) → n ≡ 2 * length (b .segments)
     → l ≡ lengthInSegments b t → k ≡ speedInSegments b t → 1 ≤ l
-    → runsOf b t ≡ pathsBy table fans n l ++ furtherBy table fans (pathsBy table fans n l) k
+    → runsOf b t ≡ pathsBy table widths n l ++ furtherBy table widths (pathsBy table widths n l) k
 unfolding runsOf furtherBy longerBy
-runs-further {b} {table} {fans} h t n l k en el ek some =
-    let places = pathsBy table fans n l in
+runs-further {b} {table} {widths} h t n l k en el ek some =
+    let places = pathsBy table widths n l in
     ap₂ (λ (a m : ℕ). each (upTo (m + 1)) (λ j. pathsOf b (a + j))) (sym el) (sym ek)
-    ∙ each-mem-same (λ j. pathsOf b (l + j)) (longerBy table fans places) (upTo (k + 1))
-    (λ j _. sym (paths-same h (l + j) n en) ∙ paths-add table fans n l j some)
-    ∙ each-first (longerBy table fans places) k
-    ∙ ap (λ (runs : List (List ℕ)). runs ++ furtherBy table fans places k) (longer-none table fans places)
+    ∙ each-mem-same (λ j. pathsOf b (l + j)) (longerBy table widths places) (upTo (k + 1))
+    (λ j _. sym (paths-same h (l + j) n en) ∙ paths-add table widths n l j some)
+    ∙ each-first (longerBy table widths places) k
+    ∙ ap (λ (runs : List (List ℕ)). runs ++ furtherBy table widths places k) (longer-none table widths places)
 
 -- ---- what listed paths are like
 
@@ -106,30 +106,30 @@ fits b n path = eqb (length path) n && ltb (lastOr 0 path) (2 * length (b .segme
 pub fits-iff : (b : Book) (n : ℕ) (path : List ℕ) → T (fits b n path) ↔ ((length path ≡ n) × (lastOr 0 path < 2 * length (b .segments)))
 fits-iff b n path = simp (and-iff, eqb-iff, ltb-iff) (λ h. h, λ h. h)
 
-module _ {b : Book} {table fans : Bytes} (h : SuccessorsHeld b table fans) where
+module _ {b : Book} {table widths : Bytes} (h : SuccessorsHeld b table widths) where
   extend-fits : (m n : ℕ) (path : List ℕ) → length path + m ≡ n → lastOr 0 path < 2 * length (b .segments)
-      → T (all (fits b n) (extendBy table fans m path))
+      → T (all (fits b n) (extendBy table widths m path))
   unfolding extendBy
   extend-fits zero n path e k = rw all-one (fits-iff b n path .1 (omega arith, k))
   extend-fits (suc m) n path e k =
-      let below = subst (λ (ds : List ℕ). T (all (λ d. ltb d (2 * length (b .segments))) ds)) (sym (h .row (lastOr 0 path) k))
+      let below = subst (λ (ds : List ℕ). T (all (λ d. ltb d (2 * length (b .segments))) ds)) (sym (h .fan (lastOr 0 path) k))
       (successors-below b (lastOr 0 path)) in
       rw all-each
-      (all-iff (λ d. all (fits b n) (onward table fans m path d)) (successorsBy table fans (lastOr 0 path)) .1
-      (λ d mem. unless-all (fits b n) (has (segmentOf d) (map segmentOf path)) (extendBy table fans m (path ++ one d))
+      (all-iff (λ d. all (fits b n) (onward table widths m path d)) (successorsBy table widths (lastOr 0 path)) .1
+      (λ d mem. unless-all (fits b n) (has (segmentOf d) (map segmentOf path)) (extendBy table widths m (path ++ one d))
       (extend-fits m n (path ++ one d) (omega (arith, length-append path (one d)))
       (rw last-append (ltb-iff d (2 * length (b .segments)) .0 (all-iff (λ d. ltb d (2 * length (b .segments))) _ .0 below d mem))))))
 
-  pub paths-fit : (n l : ℕ) → n ≡ 2 * length (b .segments) → 1 ≤ l → T (all (fits b l) (pathsBy table fans n l))
+  pub paths-fit : (n l : ℕ) → n ≡ 2 * length (b .segments) → 1 ≤ l → T (all (fits b l) (pathsBy table widths n l))
   unfolding pathsBy lastOr
   paths-fit n l e some =
       rw all-each
-      (all-upTo (λ d. all (fits b l) (extendBy table fans (l - 1) (one d))) n .1
+      (all-upTo (λ d. all (fits b l) (extendBy table widths (l - 1) (one d))) n .1
       (λ d k. extend-fits (l - 1) l (one d) (omega arith) (omega arith)))
 
   -- places that fit may be followed from their last segments on
   pub places-covered : (kept : Bytes) (l n : ℕ) → T (all (fits b l) (placesIn kept l n)) → (r : ℕ) → r < n
-      → Covered table fans (lastOr 0 (placeIn kept l r))
+      → Covered table widths (lastOr 0 (placeIn kept l r))
   unfolding placesIn
   places-covered kept l n k r m = record {
     book = b;
@@ -158,27 +158,27 @@ module _ {n : ℕ} {kept₀ : Bytes} {runs : List (List ℕ)} {found : ℕ} {kep
   unfolding placesIn
   places-stay = map-same (placeIn kept l) (placeIn kept₀ l) n listed-stays
 
-  pub covered-stay : {table fans : Bytes} → PlacesCovered table fans kept₀ l n → PlacesCovered table fans kept l n
+  pub covered-stay : {table widths : Bytes} → PlacesCovered table widths kept₀ l n → PlacesCovered table widths kept l n
   covered-stay c few r h = rw (listed-stays r h) (c few r h)
 
 -- the paths that extend places
-module _ (table fans kept : Bytes) (l : ℕ) where
+module _ (table widths kept : Bytes) (l : ℕ) where
   -- by j segments, the place with a number
   abbrev pub from : ℕ → ℕ → List (List ℕ)
-  from j r = extendBy table fans j (placeIn kept l r)
+  from j r = extendBy table widths j (placeIn kept l r)
 
-  pub longer-from : (n j : ℕ) → longerBy table fans (placesIn kept l n) j ≡ each (upTo n) (from j)
+  pub longer-from : (n j : ℕ) → longerBy table widths (placesIn kept l n) j ≡ each (upTo n) (from j)
   unfolding longerBy placesIn
-  longer-from n j = each-map (upTo n) (placeIn kept l) (extendBy table fans j)
+  longer-from n j = each-map (upTo n) (placeIn kept l) (extendBy table widths j)
 
   pub from-short : (n j : ℕ) → l + j ≤ 16 → T (all short (each (upTo n) (from j)))
   from-short n j h =
-      each-short (from j) n (λ r _. extend-short table fans j (placeIn kept l r) (omega (arith, place-short kept l r)))
+      each-short (from j) n (λ r _. extend-short table widths j (placeIn kept l r) (omega (arith, place-short kept l r)))
 
-  pub further-short : (n k : ℕ) → l + k ≤ 16 → T (all short (furtherBy table fans (placesIn kept l n) k))
+  pub further-short : (n k : ℕ) → l + k ≤ 16 → T (all short (furtherBy table widths (placesIn kept l n) k))
   unfolding furtherBy
   further-short n k h =
-      each-short (λ j. longerBy table fans (placesIn kept l n) (j + 1)) k
+      each-short (λ j. longerBy table widths (placesIn kept l n) (j + 1)) k
       (λ j m. rw (longer-from n (j + 1)) (from-short n (j + 1) (omega arith)))
 
 -- ---- what is kept is read back
@@ -220,7 +220,7 @@ module _ (n : ℕ) (runs : List (List ℕ)) (kept : Bytes) (room : length kept �
 -- runs that were kept from the first entry on are read back, where they are of one length
 pub read-back : (runs : List (List ℕ)) (kept : Bytes) (l : ℕ) → length kept ≡ trainBytes → length runs ≤ 256 → T (all short runs)
     → T (all (λ run. eqb (length run) l) runs) → placesIn (runsAfter 0 runs kept) l (countAfter 0 runs) ≡ runs
-unfolding placesIn placeIn countAfter
+unfolding placesIn placeAt countAfter
 read-back runs kept l room few fit long =
     let e : countAfter 0 runs ≡ length runs = omega arith in
     let place : ℕ → List ℕ = placeIn (runsAfter 0 runs kept) l in

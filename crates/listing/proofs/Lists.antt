@@ -246,40 +246,40 @@ unless-all f false xs h = h
 
 -- the paths that extend a path by d and `missing` more
 abbrev pub onward : Bytes → Bytes → ℕ → List ℕ → ℕ → List (List ℕ)
-onward table fans missing path d = unless (has (segmentOf d) (map segmentOf path)) (extendBy table fans missing (path ++ one d))
+onward table widths missing path d = unless (has (segmentOf d) (map segmentOf path)) (extendBy table widths missing (path ++ one d))
 
-module _ (table fans : Bytes) where
-  pub extend-none : (path : List ℕ) → extendBy table fans 0 path ≡ one path
+module _ (table widths : Bytes) where
+  pub extend-none : (path : List ℕ) → extendBy table widths 0 path ≡ one path
   unfolding extendBy
   extend-none path = refl
 
   pub extend-more : (missing : ℕ) (path : List ℕ) → 1 ≤ missing
-      → extendBy table fans missing path ≡ each (successorsBy table fans (lastOr 0 path)) (onward table fans (missing - 1) path)
+      → extendBy table widths missing path ≡ each (successorsBy table widths (lastOr 0 path)) (onward table widths (missing - 1) path)
   unfolding extendBy
   extend-more zero path h = let no′ : ⊥ = omega arith in absurd no′
   extend-more (suc missing) path h = let e : suc missing - 1 ≡ missing = omega arith in rw e
 
   pub onward-taken : (missing : ℕ) (path : List ℕ) (d : ℕ) → has (segmentOf d) (map segmentOf path) ≡ false
-      → onward table fans missing path d ≡ extendBy table fans missing (path ++ one d)
-  onward-taken missing path d e = ap (λ (b : Bool). unless b (extendBy table fans missing (path ++ one d))) e
+      → onward table widths missing path d ≡ extendBy table widths missing (path ++ one d)
+  onward-taken missing path d e = ap (λ (b : Bool). unless b (extendBy table widths missing (path ++ one d))) e
 
   pub onward-left : (missing : ℕ) (path : List ℕ) (d : ℕ) → has (segmentOf d) (map segmentOf path) ≡ true
-      → onward table fans missing path d ≡ []
-  onward-left missing path d e = ap (λ (b : Bool). unless b (extendBy table fans missing (path ++ one d))) e
+      → onward table widths missing path d ≡ []
+  onward-left missing path d e = ap (λ (b : Bool). unless b (extendBy table widths missing (path ++ one d))) e
 
   -- no listed path is longer than the one that is extended and what is missing
-  pub extend-short : (missing : ℕ) (path : List ℕ) → length path + missing ≤ 16 → T (all short (extendBy table fans missing path))
+  pub extend-short : (missing : ℕ) (path : List ℕ) → length path + missing ≤ 16 → T (all short (extendBy table widths missing path))
   unfolding extendBy
   extend-short zero path h = rw all-one (le→leb (length path) 16 (omega arith))
   extend-short (suc missing) path h =
       rw all-each
-      (all-iff (λ d. all short (onward table fans missing path d)) (successorsBy table fans (lastOr 0 path)) .1
-      (λ d _. unless-all short (has (segmentOf d) (map segmentOf path)) (extendBy table fans missing (path ++ one d))
+      (all-iff (λ d. all short (onward table widths missing path d)) (successorsBy table widths (lastOr 0 path)) .1
+      (λ d _. unless-all short (has (segmentOf d) (map segmentOf path)) (extendBy table widths missing (path ++ one d))
       (extend-short missing (path ++ one d) (omega (arith, length-append path (one d))))))
 
-  pub onward-short : (missing : ℕ) (path : List ℕ) → length path + missing < 16 → (d : ℕ) → T (all short (onward table fans missing path d))
+  pub onward-short : (missing : ℕ) (path : List ℕ) → length path + missing < 16 → (d : ℕ) → T (all short (onward table widths missing path d))
   onward-short missing path h d =
-      unless-all short (has (segmentOf d) (map segmentOf path)) (extendBy table fans missing (path ++ one d))
+      unless-all short (has (segmentOf d) (map segmentOf path)) (extendBy table widths missing (path ++ one d))
       (extend-short missing (path ++ one d) (omega (arith, length-append path (one d))))
 
 -- what a train's numbers may be

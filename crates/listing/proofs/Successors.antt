@@ -20,8 +20,8 @@ use Rattle.spec.specs.Held.{padded, held, CountsFit}
 use Rattle.spec.specs.Runs.{leadsTo, goesOn, extend, pathsOf, directed}
 use Rattle.laws.proofs.Tests.{and-iff, ltb-iff, all-at, all-upTo, le-or-lt}
 use Rattle.laws.proofs.Parts.{length-upTo, each-append, each-same, map-at}
-use Rattle.listing.specs.Listed.{successors, successorRows, fansOf, successorsBy, SuccessorsHeld, Covered, extendBy, pathsBy}
-use Rattle.listing.specs.Listed.{entryAt, entryOf, placeIn, keptOf, runsAfter}
+use Rattle.listing.specs.Listed.{successors, successorTable, fanWidths, successorsBy, SuccessorsHeld, Covered, extendBy, pathsBy}
+use Rattle.listing.specs.Listed.{entryAt, entryOf, placeAt, placeIn, keptOf, runsAfter}
 use Rattle.listing.proofs.Leaves.{last-append, part-slice, part-sets}
 use Rattle.listing.proofs.Lists.{each-nothing, each-next, getD-sets-in, unless, onward, held-segments}
 
@@ -126,16 +126,16 @@ module _ {ℓ} {A : Type ℓ} where
 
 -- a place in a table of runs is no longer than it should be, and stays where further runs are kept behind it
 pub place-short : (kept : Bytes) (l r : ℕ) → length (placeIn kept l r) ≤ l
-unfolding placeIn
+unfolding placeAt
 place-short kept l r = rw (length-drop, length-take) (omega arith)
 
 pub place-long : (kept : Bytes) (l r : ℕ) → entryAt r + 1 + l ≤ length kept → length (placeIn kept l r) ≡ l
-unfolding placeIn
+unfolding placeAt
 place-long kept l r h = length-part kept (entryAt r + 1) l h
 
 pub place-stays : (count : ℕ) (runs : List (List ℕ)) (kept : Bytes) (l r : ℕ) → l ≤ 16 → r < count
     → placeIn (runsAfter count runs kept) l r ≡ placeIn kept l r
-unfolding placeIn runsAfter
+unfolding placeAt runsAfter
 place-stays count runs kept l r h k =
     slice-sets-below kept (entryAt count) (each (keptOf count runs) entryOf) (entryAt r + 1) (entryAt r + 1 + l) (omega arith)
 
@@ -165,62 +165,62 @@ module _ (b : Book) where
       (all-upTo (λ e. ltb e (2 * length (b .segments))) (2 * length (b .segments)) .1
       (λ e h. ltb-iff e (2 * length (b .segments)) .1 h))
 
-  pub length-successorRows : (n : ℕ) (old : Bytes) → length (successorRows b n old) ≡ length old
-  unfolding successorRows
-  length-successorRows zero old = refl
-  length-successorRows (suc n) old =
-      length-sets (successorRows b n old) (n * 128) (successors b n) ∙ length-successorRows n old
+  pub length-successorTable : (n : ℕ) (old : Bytes) → length (successorTable b n old) ≡ length old
+  unfolding successorTable
+  length-successorTable zero old = refl
+  length-successorTable (suc n) old =
+      length-sets (successorTable b n old) (n * 128) (successors b n) ∙ length-successorTable n old
 
   module _ (few : length (b .segments) ≤ 64) (old : Bytes) (room : length old ≡ 16384) where
-    -- the row of a directed segment
-    row-at : (n d : ℕ) → n ≤ 2 * length (b .segments) → d < n
-        → slice (d * 128) (d * 128 + length (successors b d)) (successorRows b n old) ≡ successors b d
-    unfolding successorRows
-    row-at zero d h k = let no′ : ⊥ = omega arith in absurd no′
-    row-at (suc n) d h k =
+    -- the fan of a directed segment
+    fan-at : (n d : ℕ) → n ≤ 2 * length (b .segments) → d < n
+        → slice (d * 128) (d * 128 + length (successors b d)) (successorTable b n old) ≡ successors b d
+    unfolding successorTable
+    fan-at zero d h k = let no′ : ⊥ = omega arith in absurd no′
+    fan-at (suc n) d h k =
         ⊎-elim
         (λ m.
-        slice-sets-below (successorRows b n old) (n * 128) (successors b n) (d * 128) (d * 128 + length (successors b d))
+        slice-sets-below (successorTable b n old) (n * 128) (successors b n) (d * 128) (d * 128 + length (successors b d))
         (omega (arith, successors-most d))
-        ∙ row-at n d (omega arith) m)
+        ∙ fan-at n d (omega arith) m)
         (λ m.
         let same : d ≡ n = omega arith in
         rw same
         (part-slice (length (successors b n))
-        (part-sets (successors b n) (successorRows b n old) (n * 128) (omega (arith, successors-most n, length-successorRows n old))) refl))
+        (part-sets (successors b n) (successorTable b n old) (n * 128) (omega (arith, successors-most n, length-successorTable n old))) refl))
         (le-or-lt (suc d) n)
 
     module _ (fans₀ : Bytes) (space : length fans₀ ≡ 128) where
-      abbrev fans : Bytes
-      fans = sets fans₀ 0 (fansOf b (2 * length (b .segments)))
+      abbrev widths : Bytes
+      widths = sets fans₀ 0 (fanWidths b (2 * length (b .segments)))
 
-      fan-at : (d : ℕ) → d < 2 * length (b .segments) → getD fans d 0 ≡ length (successors b d)
-      unfolding fansOf
-      fan-at d h =
+      width-at : (d : ℕ) → d < 2 * length (b .segments) → getD widths d 0 ≡ length (successors b d)
+      unfolding fanWidths
+      width-at d h =
           let e = length-map (upTo (2 * length (b .segments))) (λ d. length (successors b d)) in
           let l = length-upTo (2 * length (b .segments)) in
-          ap (λ (k : ℕ). getD fans k 0) (sym (zero-add d))
-          ∙ getD-sets-in fans₀ 0 (fansOf b (2 * length (b .segments))) d 0 (omega arith) (omega arith)
+          ap (λ (k : ℕ). getD widths k 0) (sym (zero-add d))
+          ∙ getD-sets-in fans₀ 0 (fanWidths b (2 * length (b .segments))) d 0 (omega arith) (omega arith)
           ∙ map-at (λ d. length (successors b d)) (2 * length (b .segments)) d 0 h
 
       -- what the filler leaves holds the successors
-      pub successors-held : SuccessorsHeld b (successorRows b (2 * length (b .segments)) old) fans
+      pub successors-held : SuccessorsHeld b (successorTable b (2 * length (b .segments)) old) widths
       unfolding successorsBy
       successors-held = record {
-        tableLong = length-successorRows (2 * length (b .segments)) old ∙ room;
-        fansLong = length-sets fans₀ 0 (fansOf b (2 * length (b .segments))) ∙ space;
+        tableLong = length-successorTable (2 * length (b .segments)) old ∙ room;
+        widthsLong = length-sets fans₀ 0 (fanWidths b (2 * length (b .segments))) ∙ space;
         few = few;
-        fanFits = λ d h. omega (arith, fan-at d h, successors-most d);
-        row = λ d h.
-            ap (λ (k : ℕ). slice (d * 128) (d * 128 + k) (successorRows b (2 * length (b .segments)) old)) (fan-at d h)
-            ∙ row-at (2 * length (b .segments)) d (omega arith) h;
+        fanFits = λ d h. omega (arith, width-at d h, successors-most d);
+        fan = λ d h.
+            ap (λ (k : ℕ). slice (d * 128) (d * 128 + k) (successorTable b (2 * length (b .segments)) old)) (width-at d h)
+            ∙ fan-at (2 * length (b .segments)) d (omega arith) h;
       }
 
 -- the same, of the struct that is filled from
-pub filled-held : (b : BookStruct) → CountsFit b → length (b .segments) ≡ 64 → (table₀ fans₀ table fans : Bytes)
-    → length table₀ ≡ 16384 → length fans₀ ≡ 128 → table ≡ successorRows (held b) (2 * b .«segment_count») table₀
-    → fans ≡ sets fans₀ 0 (fansOf (held b) (2 * b .«segment_count»)) → SuccessorsHeld (held b) table fans
-filled-held b fits e table₀ fans₀ table fans room space et ef =
+pub filled-held : (b : BookStruct) → CountsFit b → length (b .segments) ≡ 64 → (table₀ fans₀ table widths : Bytes)
+    → length table₀ ≡ 16384 → length fans₀ ≡ 128 → table ≡ successorTable (held b) (2 * b .«segment_count») table₀
+    → widths ≡ sets fans₀ 0 (fanWidths (held b) (2 * b .«segment_count»)) → SuccessorsHeld (held b) table widths
+filled-held b fits e table₀ fans₀ table widths room space et ef =
     let n = held-segments b fits e in
     let m : 2 * b .«segment_count» ≡ 2 * length (held b .segments) = omega arith in
     rw (et, ef, m) (successors-held (held b) (omega arith) table₀ room fans₀ space)
@@ -234,47 +234,47 @@ both true true e = refl
 both true false e = e
 both false u e = refl
 
-module _ {b : Book} {table fans : Bytes} (h : SuccessorsHeld b table fans) where
+module _ {b : Book} {table widths : Bytes} (h : SuccessorsHeld b table widths) where
   pub extend-same : (missing : ℕ) (path : List ℕ) → lastOr 0 path < 2 * length (b .segments)
-      → extendBy table fans missing path ≡ extend b missing path
+      → extendBy table widths missing path ≡ extend b missing path
   unfolding extendBy extend successors directed goesOn
   extend-same zero path k = refl
   extend-same (suc missing) path k =
-      ap (λ (ds : List ℕ). each ds (onward table fans missing path)) (h .row (lastOr 0 path) k)
-      ∙ each-pick (leadsTo b (lastOr 0 path)) (onward table fans missing path) (upTo (2 * length (b .segments)))
-      ∙ each-same (λ d. only (leadsTo b (lastOr 0 path) d) (onward table fans missing path d))
+      ap (λ (ds : List ℕ). each ds (onward table widths missing path)) (h .fan (lastOr 0 path) k)
+      ∙ each-pick (leadsTo b (lastOr 0 path)) (onward table widths missing path) (upTo (2 * length (b .segments)))
+      ∙ each-same (λ d. only (leadsTo b (lastOr 0 path) d) (onward table widths missing path d))
       (λ d. elim (goesOn b path d) [ true ↦ extend b missing (path ++ one d) | false ↦ [] ])
       (2 * length (b .segments))
       (λ d l. both (leadsTo b (lastOr 0 path) d) (has (segmentOf d) (map segmentOf path))
       (extend-same missing (path ++ one d) (rw last-append l)))
 
-  pub paths-same : (size n : ℕ) → n ≡ 2 * length (b .segments) → pathsBy table fans n size ≡ pathsOf b size
+  pub paths-same : (size n : ℕ) → n ≡ 2 * length (b .segments) → pathsBy table widths n size ≡ pathsOf b size
   unfolding pathsBy pathsOf directed lastOr
   paths-same size n e =
       rw e
-      (each-same (λ d. extendBy table fans (size - 1) (one d)) (λ d. extend b (size - 1) (one d)) (2 * length (b .segments))
+      (each-same (λ d. extendBy table widths (size - 1) (one d)) (λ d. extend b (size - 1) (one d)) (2 * length (b .segments))
       (λ d l. extend-same (size - 1) (one d) l))
 
--- ---- what stands in the row of a directed segment
+-- ---- what stands in the fan of a directed segment
 
-module _ {table fans : Bytes} {d : ℕ} (c : Covered table fans d) where
+module _ {table widths : Bytes} {d : ℕ} (c : Covered table widths d) where
   pub covered-number : d < 128
   covered-number = omega (arith, c .below, c .held .few)
 
-  pub covered-fan : getD fans d 0 ≤ 128
-  covered-fan = c .held .fanFits d (c .below)
+  pub covered-width : getD widths d 0 ≤ 128
+  covered-width = c .held .fanFits d (c .below)
 
   -- each successor is such a directed segment again
-  pub covered-next : (i : ℕ) → i < getD fans d 0 → Covered table fans (getD table (d * 128 + i) 0)
+  pub covered-next : (i : ℕ) → i < getD widths d 0 → Covered table widths (getD table (d * 128 + i) 0)
   unfolding successorsBy
   covered-next i l =
-      let s : length (successorsBy table fans d) ≡ getD fans d 0 =
-      length-part table (d * 128) (getD fans d 0) (omega (arith, covered-number, covered-fan, c .held .tableLong)) in
-      let k : i < length (successorsBy table fans d) = omega arith in
-      let passes = rw (sym (c .held .row d (c .below))) at (successors-below (c .book) d) in
-      let below = all-at (λ e. ltb e (2 * length (c .book .segments))) (successorsBy table fans d) i 0 passes k in
+      let s : length (successorsBy table widths d) ≡ getD widths d 0 =
+      length-part table (d * 128) (getD widths d 0) (omega (arith, covered-number, covered-width, c .held .tableLong)) in
+      let k : i < length (successorsBy table widths d) = omega arith in
+      let passes = rw (sym (c .held .fan d (c .below))) at (successors-below (c .book) d) in
+      let below = all-at (λ e. ltb e (2 * length (c .book .segments))) (successorsBy table widths d) i 0 passes k in
       record {
         book = c .book;
         held = c .held;
-        below = ltb-iff _ _ .0 (rw (getD-slice table (d * 128) (getD fans d 0) i 0 l) at below);
+        below = ltb-iff _ _ .0 (rw (getD-slice table (d * 128) (getD widths d 0) i 0 l) at below);
       }

@@ -1,8 +1,8 @@
 // Run lists. A train's runs are listed by rising number of segments and, within that, in dictionary
 // order, each path extended one segment at a time, every length by one recursion. They are kept in a lent
-// table, an entry of 17 bytes a run, so that a run is found by its number at once; at most 256 are kept,
-// and the listing stops at the 257th. A table that is filled once a book has the successors of each
-// directed segment. Assumes nothing.
+// table, an entry a run, so that a run is found by its number at once; at most 256 are kept, and the
+// listing stops at the 257th. A table that is filled once a book has the successors of each directed
+// segment, its fan. Assumes nothing.
 use frames::bytes::wide;
 use model::Book;
 use model::Counts;
@@ -26,10 +26,10 @@ ghost use Rattle.spec.specs.Lists.{one, has, lastOr};
 ghost use Rattle.spec.specs.Book as book;
 ghost use Rattle.spec.specs.Runs.{runsOf};
 ghost use Rattle.spec.specs.BookFile.{FitsFields};
-ghost use Rattle.spec.specs.Read.{reachFits, growing};
+ghost use Rattle.spec.specs.Read.{maxRuns, reachFits, growing};
 ghost use Rattle.spec.specs.Held.{held, heldTrain, CountsFit, NumbersFit};
-ghost use Rattle.listing.specs.Listed.{pathOf, packedPath, successors, successorRows, fansOf, SuccessorsHeld, Covered};
-ghost use Rattle.listing.specs.Listed.{trainBytes, tableBytes, runsAfter, countAfter, runTable, runCounts};
+ghost use Rattle.listing.specs.Listed.{pathOf, packedPath, successors, successorTable, fanWidths, SuccessorsHeld, Covered};
+ghost use Rattle.listing.specs.Listed.{runSegments, fanBytes, successorBytes, trainBytes, tableBytes, runsAfter, countAfter, runTable, runCounts};
 ghost use Rattle.listing.specs.Listed.{extendBy, pathsBy, placeIn, placesIn, PlacesCovered, longerBy, furtherBy};
 
 // A run has at most l + k segments.
@@ -43,7 +43,7 @@ pub const TRAIN_BYTES: usize = MAX_RUNS * ENTRY_BYTES;
 
 pub const TABLE_BYTES: usize = MAX_TRAINS * TRAIN_BYTES;
 
-// A directed segment has at most as many successors as there are directed segments: the bytes of its row,
+// A directed segment has at most as many successors as there are directed segments: the bytes of its fan,
 // and of the table.
 pub const FAN_BYTES: usize = 2 * MAX_SEGMENTS;
 
@@ -58,11 +58,11 @@ pub struct Path {
     pub n: usize,
 }
 
-// Writes the successors of d into its row of the table; answers how many they are.
-fn fill_row(b: Book, d: usize, table: &mut [u8]) -> usize
-    requires { ⌜ CountsFit b × (d < 2 * b .«segment_count») × (length (now table) ≡ 16384) ⌝ }
-    ensures { λ r. ⌜ (r ≡ length (successors (held b) d)) × (r ≤ 128)
-        × (now (table .exit) ≡ sets (now (table .entry)) (d * 128) (successors (held b) d)) ⌝ }
+// Writes the successors of d, its fan, into the table; answers how many they are.
+fn fill_fan(b: Book, d: usize, table: &mut [u8]) -> usize
+    requires { ⌜ CountsFit b × (d < 2 * b .«segment_count») × (length (now table) ≡ successorBytes) ⌝ }
+    ensures { λ r. ⌜ (r ≡ length (successors (held b) d)) × (r ≤ fanBytes)
+        × (now (table .exit) ≡ sets (now (table .entry)) (d * fanBytes) (successors (held b) d)) ⌝ }
 {
     let n = 2 * b.segment_count;
     let node = end_node(b, d);
@@ -80,24 +80,23 @@ fn fill_row(b: Book, d: usize, table: &mut [u8]) -> usize
     found
 }
 
-// Writes the successors of the book's directed segments, a row of the table each, and how many they
-// are.
-pub fn fill_successors(b: Book, table: &mut [u8], fans: &mut [u8])
-    requires { ⌜ CountsFit b × (length (now table) ≡ 16384) × (length (now fans) ≡ 128) ⌝ }
-    ensures { λ _. ⌜ (now (table .exit) ≡ successorRows (held b) (2 * b .«segment_count») (now (table .entry)))
-        × (now (fans .exit) ≡ sets (now (fans .entry)) 0 (fansOf (held b) (2 * b .«segment_count»))) ⌝ }
+// Writes the fans of the book's directed segments, and how wide each is.
+pub fn fill_successors(b: Book, table: &mut [u8], widths: &mut [u8])
+    requires { ⌜ CountsFit b × (length (now table) ≡ successorBytes) × (length (now widths) ≡ fanBytes) ⌝ }
+    ensures { λ _. ⌜ (now (table .exit) ≡ successorTable (held b) (2 * b .«segment_count») (now (table .entry)))
+        × (now (widths .exit) ≡ sets (now (widths .entry)) 0 (fanWidths (held b) (2 * b .«segment_count»))) ⌝ }
 {
     let n = 2 * b.segment_count;
     let mut d = 0;
     while d < n {
-        fans[d] = fill_row(b, d, table) as u8;
+        widths[d] = fill_fan(b, d, table) as u8;
         d += 1;
     }
 }
 
 // Whether a path has a directed segment on the segment.
 fn uses(path: Path, segment: usize) -> bool
-    requires { ⌜ path .n ≤ 16 ⌝ }
+    requires { ⌜ path .n ≤ runSegments ⌝ }
     ensures { λ r. ⌜ r ≡ has segment (map book.segmentOf (pathOf path)) ⌝ }
 {
     let mut i = 0;
@@ -112,7 +111,7 @@ fn uses(path: Path, segment: usize) -> bool
 
 // The last directed segment of a path.
 fn last_of(path: Path) -> usize
-    requires { ⌜ (1 ≤ path .n) × (path .n ≤ 16) ⌝ }
+    requires { ⌜ (1 ≤ path .n) × (path .n ≤ runSegments) ⌝ }
     ensures { λ r. ⌜ r ≡ lastOr 0 (pathOf path) ⌝ }
 {
     let last = path.n - 1;
@@ -121,7 +120,7 @@ fn last_of(path: Path) -> usize
 
 // The path with one more directed segment.
 fn pushed(path: Path, d: usize) -> Path
-    requires { ⌜ (path ≡ packedPath (pathOf path)) × (path .n < 16) × (d < 128) ⌝ }
+    requires { ⌜ (path ≡ packedPath (pathOf path)) × (path .n < runSegments) × (d < fanBytes) ⌝ }
     ensures { λ r. ⌜ r ≡ packedPath (pathOf path ++ one d) ⌝ }
 {
     let at = path.n;
@@ -133,7 +132,7 @@ fn pushed(path: Path, d: usize) -> Path
 
 // Keeps a run behind the first `count`, where there is room for it.
 fn keep(runs: &mut [u8], count: usize, path: Path)
-    requires { ⌜ (length (now runs) ≡ trainBytes) × (count ≤ 256) × (path ≡ packedPath (pathOf path)) × (path .n ≤ 16) ⌝ }
+    requires { ⌜ (length (now runs) ≡ trainBytes) × (count ≤ maxRuns) × (path ≡ packedPath (pathOf path)) × (path .n ≤ runSegments) ⌝ }
     ensures { λ _. ⌜ now (runs .exit) ≡ runsAfter count (one (pathOf path)) (now (runs .entry)) ⌝ }
 {
     if count < MAX_RUNS {
@@ -150,7 +149,7 @@ fn keep(runs: &mut [u8], count: usize, path: Path)
 
 // The first l segments of the run with a number, as a path by value.
 fn path_at(runs: &[u8], r: usize, l: usize) -> Path
-    requires { ⌜ (length (now runs) ≡ trainBytes) × (r < 256) × (l ≤ 16) ⌝ }
+    requires { ⌜ (length (now runs) ≡ trainBytes) × (r < maxRuns) × (l ≤ runSegments) ⌝ }
     ensures { λ p. ⌜ p ≡ packedPath (placeIn (now (runs .entry)) l r) ⌝ }
 {
     let base = r * ENTRY_BYTES + 1;
@@ -167,30 +166,30 @@ fn path_at(runs: &[u8], r: usize, l: usize) -> Path
 // `count`; answers how many runs there are then, as far as 257. `missing` falls at each call.
 fn extend(
     table: &[u8],
-    fans: &[u8],
+    widths: &[u8],
     runs: &mut [u8],
     count: usize,
     path: Path,
     missing: usize,
 ) -> usize
-    requires { ⌜ Covered (now table) (now fans) (lastOr 0 (pathOf path)) × (length (now runs) ≡ trainBytes)
-        × (count ≤ 256) × (path ≡ packedPath (pathOf path)) × (1 ≤ path .n) × (path .n + missing ≤ 16) ⌝ }
-    ensures { λ r. ⌜ (r ≡ countAfter count (extendBy (now (table .entry)) (now (fans .entry)) missing (pathOf path)))
-        × (now (runs .exit) ≡ runsAfter count (extendBy (now (table .entry)) (now (fans .entry)) missing (pathOf path)) (now (runs .entry))) ⌝ }
+    requires { ⌜ Covered (now table) (now widths) (lastOr 0 (pathOf path)) × (length (now runs) ≡ trainBytes)
+        × (count ≤ maxRuns) × (path ≡ packedPath (pathOf path)) × (1 ≤ path .n) × (path .n + missing ≤ runSegments) ⌝ }
+    ensures { λ r. ⌜ (r ≡ countAfter count (extendBy (now (table .entry)) (now (widths .entry)) missing (pathOf path)))
+        × (now (runs .exit) ≡ runsAfter count (extendBy (now (table .entry)) (now (widths .entry)) missing (pathOf path)) (now (runs .entry))) ⌝ }
 {
     if missing == 0 {
         keep(runs, count, path);
         return count + 1;
     }
     let last = last_of(path);
-    let fan = wide(fans[last]);
+    let width = wide(widths[last]);
     let base = last * FAN_BYTES;
     let mut found = count;
     let mut i = 0;
-    while i < fan && found < STOP {
+    while i < width && found < STOP {
         let d = wide(table[base + i]);
         if !uses(path, d / 2) {
-            found = extend(table, fans, runs, found, pushed(path, d), missing - 1);
+            found = extend(table, widths, runs, found, pushed(path, d), missing - 1);
         }
         i += 1;
     }
@@ -198,11 +197,11 @@ fn extend(
 }
 
 // Lists the paths of `size` segments; answers how many there are, as far as 257.
-fn list_paths(table: &[u8], fans: &[u8], directed: usize, runs: &mut [u8], size: usize) -> usize
-    requires { ⌜ ((d : ℕ) → d < directed → Covered (now table) (now fans) d) × (length (now runs) ≡ trainBytes)
-        × (directed ≤ 128) × (1 ≤ size) × (size ≤ 16) ⌝ }
-    ensures { λ r. ⌜ (r ≡ countAfter 0 (pathsBy (now (table .entry)) (now (fans .entry)) directed size))
-        × (now (runs .exit) ≡ runsAfter 0 (pathsBy (now (table .entry)) (now (fans .entry)) directed size) (now (runs .entry))) ⌝ }
+fn list_paths(table: &[u8], widths: &[u8], directed: usize, runs: &mut [u8], size: usize) -> usize
+    requires { ⌜ ((d : ℕ) → d < directed → Covered (now table) (now widths) d) × (length (now runs) ≡ trainBytes)
+        × (directed ≤ fanBytes) × (1 ≤ size) × (size ≤ runSegments) ⌝ }
+    ensures { λ r. ⌜ (r ≡ countAfter 0 (pathsBy (now (table .entry)) (now (widths .entry)) directed size))
+        × (now (runs .exit) ≡ runsAfter 0 (pathsBy (now (table .entry)) (now (widths .entry)) directed size) (now (runs .entry))) ⌝ }
 {
     let mut found = 0;
     let mut d = 0;
@@ -212,7 +211,7 @@ fn list_paths(table: &[u8], fans: &[u8], directed: usize, runs: &mut [u8], size:
             n: 1,
         };
         path.at[0] = d as u8;
-        found = extend(table, fans, runs, found, path, size - 1);
+        found = extend(table, widths, runs, found, path, size - 1);
         d += 1;
     }
     found
@@ -223,25 +222,25 @@ fn list_paths(table: &[u8], fans: &[u8], directed: usize, runs: &mut [u8], size:
 // stand in dictionary order, so these paths do. What is written stands behind what is read.
 fn list_longer(
     table: &[u8],
-    fans: &[u8],
+    widths: &[u8],
     runs: &mut [u8],
     places: usize,
     count: usize,
     l: usize,
     missing: usize,
 ) -> usize
-    requires { ⌜ (length (now runs) ≡ trainBytes) × (places ≤ count) × (count ≤ 257) × (1 ≤ l)
-        × (l + missing ≤ 16) × PlacesCovered (now table) (now fans) (now runs) l places ⌝ }
+    requires { ⌜ (length (now runs) ≡ trainBytes) × (places ≤ count) × (count ≤ maxRuns + 1) × (1 ≤ l)
+        × (l + missing ≤ runSegments) × PlacesCovered (now table) (now widths) (now runs) l places ⌝ }
     ensures { λ r. ⌜ (r ≡ countAfter count
-        (longerBy (now (table .entry)) (now (fans .entry)) (placesIn (now (runs .entry)) l places) missing))
+        (longerBy (now (table .entry)) (now (widths .entry)) (placesIn (now (runs .entry)) l places) missing))
         × (now (runs .exit) ≡ runsAfter count
-        (longerBy (now (table .entry)) (now (fans .entry)) (placesIn (now (runs .entry)) l places) missing) (now (runs .entry))) ⌝ }
+        (longerBy (now (table .entry)) (now (widths .entry)) (placesIn (now (runs .entry)) l places) missing) (now (runs .entry))) ⌝ }
 {
     let mut found = count;
     let mut place = 0;
     while place < places && found < STOP {
         let path = path_at(runs, place, l);
-        found = extend(table, fans, runs, found, path, missing);
+        found = extend(table, widths, runs, found, path, missing);
         place += 1;
     }
     found
@@ -252,24 +251,24 @@ fn list_longer(
 // listing passes through are runs that were listed before it.
 fn list_further(
     table: &[u8],
-    fans: &[u8],
+    widths: &[u8],
     runs: &mut [u8],
     places: usize,
     l: usize,
     k: usize,
 ) -> usize
-    requires { ⌜ (length (now runs) ≡ trainBytes) × (places ≤ 257) × (1 ≤ l) × (l + k ≤ 16)
-        × PlacesCovered (now table) (now fans) (now runs) l places ⌝ }
+    requires { ⌜ (length (now runs) ≡ trainBytes) × (places ≤ maxRuns + 1) × (1 ≤ l) × (l + k ≤ runSegments)
+        × PlacesCovered (now table) (now widths) (now runs) l places ⌝ }
     ensures { λ r. ⌜ (r ≡ countAfter places
-        (furtherBy (now (table .entry)) (now (fans .entry)) (placesIn (now (runs .entry)) l places) k))
+        (furtherBy (now (table .entry)) (now (widths .entry)) (placesIn (now (runs .entry)) l places) k))
         × (now (runs .exit) ≡ runsAfter places
-        (furtherBy (now (table .entry)) (now (fans .entry)) (placesIn (now (runs .entry)) l places) k) (now (runs .entry))) ⌝ }
+        (furtherBy (now (table .entry)) (now (widths .entry)) (placesIn (now (runs .entry)) l places) k) (now (runs .entry))) ⌝ }
 {
     let mut found = places;
     let mut j = 0;
     while j < k {
         j += 1;
-        found = list_longer(table, fans, runs, places, found, l, j);
+        found = list_longer(table, widths, runs, places, found, l, j);
     }
     found
 }
@@ -277,18 +276,18 @@ fn list_further(
 // Lists a train's runs: the paths of l segments, which are its places, then those of l + 1, .. l + k.
 // The tables hold the successors of the book's directed segments. Answers how many runs there are, as
 // far as 257.
-pub fn list_runs(b: Book, t: Train, table: &[u8], fans: &[u8], runs: &mut [u8]) -> usize
+pub fn list_runs(b: Book, t: Train, table: &[u8], widths: &[u8], runs: &mut [u8]) -> usize
     requires { ⌜ CountsFit b × NumbersFit b × (1 ≤ b .«segment_metres») × (t .metres < 65536) × (t .speed < 65536)
         × T (reachFits (held b) (heldTrain t))
-        × SuccessorsHeld (held b) (now table) (now fans) × (length (now runs) ≡ trainBytes) ⌝ }
+        × SuccessorsHeld (held b) (now table) (now widths) × (length (now runs) ≡ trainBytes) ⌝ }
     ensures { λ r. ⌜ (r ≡ countAfter 0 (runsOf (held b) (heldTrain t)))
         × (now (runs .exit) ≡ runsAfter 0 (runsOf (held b) (heldTrain t)) (now (runs .entry))) ⌝ }
 {
     let l = length_in_segments(b, t);
     let k = speed_in_segments(b, t);
     let directed = 2 * b.segment_count;
-    let places = list_paths(table, fans, directed, runs, l);
-    list_further(table, fans, runs, places, l, k)
+    let places = list_paths(table, widths, directed, runs, l);
+    list_further(table, widths, runs, places, l, k)
 }
 
 // Lists the runs of every train, each in its part of the table; answers how many each has, as far as
@@ -299,14 +298,14 @@ pub fn list_trains(b: Book, runs: &mut [u8]) -> Counts
 {
     let n = b.train_count;
     let mut table = [0u8; SUCCESSOR_BYTES];
-    let mut fans = [0u8; FAN_BYTES];
-    fill_successors(b, &mut table, &mut fans);
+    let mut widths = [0u8; FAN_BYTES];
+    fill_successors(b, &mut table, &mut widths);
     let mut counts = [0usize; MAX_TRAINS];
     let mut i = 0;
     while i < n {
         let t = b.trains[i];
         let at = i * TRAIN_BYTES;
-        counts[i] = list_runs(b, t, &table, &fans, &mut runs[at..at + TRAIN_BYTES]);
+        counts[i] = list_runs(b, t, &table, &widths, &mut runs[at..at + TRAIN_BYTES]);
         i += 1;
     }
     counts

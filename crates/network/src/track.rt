@@ -1,10 +1,11 @@
 // The track of a book: what touches a node, where a directed segment begins and ends, which directed
-// segments lead to which, lengths and speeds in segments, and whether a row is a path. Reader, run
+// segments lead to which, lengths and speeds in segments, and whether a place is a path. Reader, run
 // lists, formula and plan check go by these; only the filler of the run lists' successors asks for the
 // two halves of "leads to" by itself. Assumes nothing.
 use frames::bytes::wide;
 use model::Book;
 use model::Join;
+use model::MAX_REACH;
 use model::Segment;
 use model::Train;
 ghost use mathlib.Core.Path.{_≡_};
@@ -16,6 +17,7 @@ ghost use lib.Dec.{T, ltb, eqb};
 ghost use Rattle.spec.specs.Lists as lists;
 ghost use Rattle.spec.specs.Book as book;
 ghost use Rattle.spec.specs.Runs as runs;
+ghost use Rattle.spec.specs.Read.{maxReach};
 ghost use Rattle.spec.specs.Held.{held, heldTrain, CountsFit, NumbersFit};
 
 // Whether a node of this kind may never have a border.
@@ -124,16 +126,16 @@ pub fn speed_in_segments(b: Book, t: Train) -> usize
     t.speed * b.interval_seconds * 5 / (18 * b.segment_metres)
 }
 
-// Whether the first n directed segments of the row are on different segments.
-fn all_different(row: [u8; 8], n: usize) -> bool
-    requires { ⌜ n ≤ 8 ⌝ }
-    ensures { λ r. ⌜ r ≡ lists.different (map book.segmentOf (take n row)) ⌝ }
+// Whether the first n directed segments of the place are on different segments.
+fn all_different(place: [u8; MAX_REACH], n: usize) -> bool
+    requires { ⌜ n ≤ maxReach ⌝ }
+    ensures { λ r. ⌜ r ≡ lists.different (map book.segmentOf (take n place)) ⌝ }
 {
     let mut i = 0;
     while i < n {
         let mut j = i + 1;
         while j < n {
-            if row[i] / 2 == row[j] / 2 {
+            if place[i] / 2 == place[j] / 2 {
                 return false;
             }
             j += 1;
@@ -143,14 +145,14 @@ fn all_different(row: [u8; 8], n: usize) -> bool
     true
 }
 
-// Whether each of the first n directed segments of the row leads to the next.
-fn all_linked(b: Book, row: [u8; 8], n: usize) -> bool
-    requires { ⌜ CountsFit b × (n ≤ 8) × T (lists.all (λ d. ltb d (2 * b .«segment_count»)) (take n row)) ⌝ }
-    ensures { λ r. ⌜ r ≡ runs.linked (held b) (take n row) ⌝ }
+// Whether each of the first n directed segments of the place leads to the next.
+fn all_linked(b: Book, place: [u8; MAX_REACH], n: usize) -> bool
+    requires { ⌜ CountsFit b × (n ≤ maxReach) × T (lists.all (λ d. ltb d (2 * b .«segment_count»)) (take n place)) ⌝ }
+    ensures { λ r. ⌜ r ≡ runs.linked (held b) (take n place) ⌝ }
 {
     let mut i = 1;
     while i < n {
-        if !leads_to(b, wide(row[i - 1]), wide(row[i])) {
+        if !leads_to(b, wide(place[i - 1]), wide(place[i])) {
             return false;
         }
         i += 1;
@@ -158,10 +160,10 @@ fn all_linked(b: Book, row: [u8; 8], n: usize) -> bool
     true
 }
 
-// Whether the first n directed segments of the row are a path.
-pub fn is_path(b: Book, row: [u8; 8], n: usize) -> bool
-    requires { ⌜ CountsFit b × (n ≤ 8) × T (lists.all (λ d. ltb d (2 * b .«segment_count»)) (take n row)) ⌝ }
-    ensures { λ r. ⌜ r ≡ runs.isPath (held b) (take n row) ⌝ }
+// Whether the first n directed segments of the place are a path.
+pub fn is_path(b: Book, place: [u8; MAX_REACH], n: usize) -> bool
+    requires { ⌜ CountsFit b × (n ≤ maxReach) × T (lists.all (λ d. ltb d (2 * b .«segment_count»)) (take n place)) ⌝ }
+    ensures { λ r. ⌜ r ≡ runs.isPath (held b) (take n place) ⌝ }
 {
-    all_different(row, n) && all_linked(b, row, n)
+    all_different(place, n) && all_linked(b, place, n)
 }

@@ -1,32 +1,21 @@
 -- A train's block in an interval: its numbers are the train's, and where it ends. Assumes nothing.
 use mathlib.Core.Path.{_≡_, refl, ap, ap₂, _∙_, subst}
-use mathlib.Core.Logic.{inl, inr}
-use Prim.Native.Nat.{ℕ, zero, suc, _+_, _*_, _≤_, _<_}
+use Prim.Native.Nat.{ℕ, suc, _+_, _*_, _≤_, _<_}
 use native.Mathlib.Nat.{suc-mul, mul-le-mul-right}
 use native.Mathlib.Omega.{arith}
 use Rattle.model.specs.declared.Book.{Book as BookStruct}
-use Rattle.spec.specs.Lists.{Bytes, sumTo}
+use Rattle.spec.specs.Lists.{Bytes}
 use Rattle.spec.specs.Instance.{Instance, instanceOf}
 use Rattle.spec.specs.Plan.{moveCode}
 use Rattle.spec.specs.Extra.{extraVariables}
 use Rattle.spec.specs.Formula.{width, firstVar, base, runVar, goneVar, variables, ownVariables}
 use Rattle.spec.specs.Assignment.{assigned, decoded}
 use Rattle.spec.specs.Held.{held}
-use Rattle.laws.proofs.Tests.{le-or-lt}
+use Rattle.demands.proofs.Words.{sum-below}
 use Rattle.tables.proofs.Small.{first-next, width-is}
 use Rattle.layout.specs.declared.blocks.Block.{Block}
 use Rattle.layout.specs.Blocks.{BlockOf}
 use Rattle.plan_coding.specs.Decoded.{codeOf}
-
--- a part of a sum ends by the sum's end
-sum-below : (f : ℕ → ℕ) (n i : ℕ) → i < n → sumTo f i + f i ≤ sumTo f n
-unfolding sumTo
-sum-below f zero i h = omega arith
-sum-below f (suc n) i h =
-    elim (le-or-lt n i) [
-      | inl l ↦ (let e : i ≡ n = omega arith in rw e (omega arith))
-      | inr l ↦ omega (arith, sum-below f n i l)
-    ]
 
 module _ (I : Instance) (i : ℕ) where
   -- an interval's first variable is behind the train's and the intervals before it

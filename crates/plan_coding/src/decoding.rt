@@ -15,6 +15,7 @@ ghost use Prim.Native.Nat.{_+_, _≤_, _<_};
 ghost use lib.ListN.{length};
 ghost use lib.Seq.{sets};
 ghost use Rattle.spec.specs.Numbers.{littleEndian};
+ghost use Rattle.spec.specs.Read.{maxRuns};
 ghost use Rattle.spec.specs.Instance.{instanceOf};
 ghost use Rattle.spec.specs.Plan.{moveAt, planLength};
 ghost use Rattle.spec.specs.Assignment as assignment;
@@ -28,7 +29,7 @@ ghost use Rattle.plan_coding.specs.Decoded.{borderBytes, codeOf, trainBy
 
 // The first of n runs whose variable is 1, or n where none is; run r's variable is base + r.
 fn first_run(base: usize, n: usize, values: &[u8]) -> usize
-    requires { ⌜ (base < blockRoom) × (n ≤ 256) ⌝ }
+    requires { ⌜ (base < blockRoom) × (n ≤ maxRuns) ⌝ }
     ensures { λ r. ⌜ r ≡ leastFrom (λ k. assigned (now (values .entry)) (base + k)) 0 n ⌝ }
 {
     let mut r = 0;
@@ -44,7 +45,7 @@ fn first_run(base: usize, n: usize, values: &[u8]) -> usize
 // The plan's number of an interval whose first variable is `base`, of a train with n runs: the run's,
 // or the one for gone, or for absent.
 fn code_of(base: usize, n: usize, values: &[u8]) -> usize
-    requires { ⌜ (base < blockRoom) × (n ≤ 256) ⌝ }
+    requires { ⌜ (base < blockRoom) × (n ≤ maxRuns) ⌝ }
     ensures { λ r. ⌜ (r ≡ codeOf (now (values .entry)) base n) × (r < 65536) ⌝ }
 {
     let r = first_run(base, n, values);

@@ -11,6 +11,7 @@ use layout::numbering::claims_from;
 use layout::numbering::gone_variable;
 use model::Book;
 use model::Counts;
+use model::MAX_SEGMENTS;
 use plan_rules::apart::mark;
 use plan_rules::apart::stretch_of;
 ghost use mathlib.Core.Path.{_≡_};
@@ -20,6 +21,7 @@ ghost use lib.ListN.{length, getD};
 ghost use lib.Seq.{sets};
 ghost use lib.Dec.{eqb};
 ghost use Rattle.spec.specs.Lists.{upTo};
+ghost use Rattle.spec.specs.Read.{maxSegments};
 ghost use Rattle.spec.specs.Instance.{instanceOf};
 ghost use Rattle.spec.specs.Plan as plans;
 ghost use Rattle.spec.specs.Formula.{firstVar, base, variables};
@@ -70,8 +72,8 @@ fn write_move(at: usize, n: usize, m: Move, out: &mut [u8])
 }
 
 // Writes a byte for each of the first n segments from `at` on: 1 where its label is marked.
-fn write_marked(at: usize, n: usize, labels: &[usize], marks: &[u8; 64], out: &mut [u8])
-    requires { ⌜ (n ≤ length (now labels)) × ((s : ℕ) → s < n → getD (now labels) s 0 < 64) × (at + n ≤ length (now out)) ⌝ }
+fn write_marked(at: usize, n: usize, labels: &[usize], marks: &[u8; MAX_SEGMENTS], out: &mut [u8])
+    requires { ⌜ (n ≤ length (now labels)) × ((s : ℕ) → s < n → getD (now labels) s 0 < maxSegments) × (at + n ≤ length (now out)) ⌝ }
     ensures { λ _. ⌜ now (out .exit) ≡ sets (now (out .entry)) at
         (map (λ s. plans.bit (isMarked (now (marks .entry)) (getD (now (labels .entry)) s 0))) (upTo n)) ⌝ }
 {
@@ -101,7 +103,7 @@ fn write_interval(
 {
     let m = move_at(b, plan, block.train, interval);
     write_move(block.base, block.runs, m, out);
-    let mut marks = [0u8; 64];
+    let mut marks = [0u8; MAX_SEGMENTS];
     mark(stretch_of(m, runs, block.train), runs, labels, &mut marks);
     let claims = claims_from(block.base, block.runs);
     write_marked(claims, b.segment_count, labels, &marks, out);

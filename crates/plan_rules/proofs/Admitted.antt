@@ -8,34 +8,27 @@ use Rattle.laws.proofs.Tests.{leb-iff, from-true}
 use Rattle.spec.specs.Lists.{Bytes, Verdict, accepted, refused, andThen}
 use Rattle.spec.specs.Instance.{Instance}
 use Rattle.spec.specs.Plan.{Plan, planOf}
-use Rattle.spec.specs.Entry.{demand, judgePlan, afterPlan}
-use Rattle.plan_rules.specs.Admitted.{admitPlan}
+use Rattle.spec.specs.Entry.{demand, judgePlan, admitPlan, afterPlan}
 use Rattle.reader.specs.declared.reading.Answer.{Answer}
 use Rattle.reader.specs.declared.reading.Answer.the-variants.{Accepted, Refused}
 use Rattle.reader.specs.BookAnswers.{answerOf}
 use Rattle.reader.proofs.Steps.{never}
-
--- room, a judgement, and what then decides
-abbrev row : {A : Type 0} → Bool → Verdict (Unit {0}) → Verdict A → Verdict A
-row fits v w = andThen (demand fits 12) λ _. andThen v λ _. w
 
 -- a refusal, as a verdict
 back : {A : Type 0} → Answer → Verdict A
 back Accepted = refused 0 0
 back (Refused n d) = refused n d
 
-row-refused : {A : Type 0} (fits : Bool) (v : Verdict (Unit {0})) (w : Verdict A) {n d : ℕ}
-    → Refused n d ≡ answerOf (row fits v (accepted (tt {0}))) → row fits v w ≡ refused n d
-unfolding demand andThen back
-row-refused true (accepted u) w e = never cc
-row-refused true (refused k c) w e = sym (ap back e)
-row-refused false v w e = sym (ap back e)
+then-refused : {A : Type 0} (v : Verdict (Unit {0})) (w : Verdict A) {n d : ℕ} → Refused n d ≡ answerOf v → (andThen v λ _. w) ≡ refused n d
+unfolding andThen back
+then-refused (accepted u) w e = never cc
+then-refused (refused k c) w e = sym (ap back e)
 
-row-accepted : (fits : Bool) (v : Verdict (Unit {0})) → Accepted ≡ answerOf (row fits v (accepted (tt {0}))) → (fits ≡ true) × (v ≡ accepted tt)
+both-accepted : (fits : Bool) (v : Verdict (Unit {0})) → Accepted ≡ answerOf (andThen (demand fits 12) λ _. v) → (fits ≡ true) × (v ≡ accepted tt)
 unfolding demand andThen
-row-accepted true (accepted u) e = (refl, refl)
-row-accepted true (refused k c) e = never cc
-row-accepted false v e = never cc
+both-accepted true (accepted u) e = (refl, refl)
+both-accepted true (refused k c) e = never cc
+both-accepted false v e = never cc
 
 module _ (I : Instance) (s : Bytes) (need room : ℕ) where
   -- the answer before what is to be written is looked at
@@ -43,13 +36,12 @@ module _ (I : Instance) (s : Bytes) (need room : ℕ) where
   admitted = answerOf (admitPlan I s need room)
 
   pub after-refused : {A : Type 0} (own : Plan → Verdict A) {n d : ℕ} → Refused n d ≡ admitted → afterPlan I s need room own ≡ refused n d
-  unfolding afterPlan admitPlan
-  after-refused own e = row-refused (leb need room) (judgePlan I s) (own (planOf I s)) e
+  unfolding afterPlan
+  after-refused own e = then-refused (admitPlan I s need room) (own (planOf I s)) e
 
   module _ (e : Accepted ≡ admitted) where
     both : (leb need room ≡ true) × (judgePlan I s ≡ accepted tt)
-    unfolding afterPlan admitPlan
-    both = row-accepted (leb need room) (judgePlan I s) e
+    both = both-accepted (leb need room) (judgePlan I s) e
 
     pub after-room : need ≤ room
     after-room = leb-iff need room .0 (from-true (both .0))

@@ -9,12 +9,11 @@ use Prim.Native.Nat.{ℕ, zero, suc, _≤_, _<_}
 use Rattle.spec.specs.Lists.{Bytes, Verdict, accepted, refused, one, _when_, firstFault, andThen}
 use Rattle.spec.specs.Instance.{Instance}
 use Rattle.spec.specs.Plan.{planFits, planOf, rule6, brokenRule}
-use Rattle.spec.specs.Entry.{demand, judgePlan, afterPlan}
+use Rattle.spec.specs.Entry.{demand, judgePlan, admitPlan}
 use Rattle.reader.specs.declared.reading.Answer.the-variants.{Accepted, Refused}
 use Rattle.reader.specs.BookAnswers.{answerOf}
 use Rattle.reader.proofs.Verdicts.{judged-unfit, judged-found, judged-none}
 use Rattle.plan_rules.specs.Kept.{firstBroken}
-use Rattle.plan_rules.specs.Admitted.{admitPlan}
 use Rattle.plan_rules.proofs.Broken.{broken-early, broken-last}
 
 -- rule 6 alone
@@ -51,13 +50,9 @@ module _ (I : Instance) (s : Bytes) where
 -- room is asked for before that
 module _ (I : Instance) (s : Bytes) (need room : ℕ) where
   pub answer-narrow : room < need → Refused 12 0 ≡ answerOf (admitPlan I s need room)
-  unfolding admitPlan afterPlan andThen demand
+  unfolding andThen demand
   answer-narrow h = rw (lt-leb need room h)
 
   pub answer-judged : need ≤ room → answerOf (judgePlan I s) ≡ answerOf (admitPlan I s need room)
-  unfolding admitPlan afterPlan andThen demand
-  answer-judged h = rw (le-leb need room h) (same (judgePlan I s))
-    where
-      same : (v : Verdict (Unit {0})) → answerOf v ≡ answerOf (andThen v (λ _. accepted (tt {0})))
-      same (accepted u) = refl
-      same (refused n d) = refl
+  unfolding andThen demand
+  answer-judged h = rw (le-leb need room h)

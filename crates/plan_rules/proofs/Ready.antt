@@ -14,8 +14,8 @@ use Rattle.spec.specs.Plan as plan
 use Rattle.spec.specs.Plan.{run, absent, gone, ifRun, isMove, planOf, planLength, planFits}
 use Rattle.spec.specs.Held.{held}
 use Rattle.laws.proofs.Tests.{and-iff, eqb-iff, ltb-iff, all-upTo}
-use Rattle.listing.specs.Listed.{trainBytes}
-use Rattle.tables.specs.Placed.{placeAt, sizeAt, startAt, endAt}
+use Rattle.listing.specs.Listed.{trainBytes, placeAt, startAt}
+use Rattle.tables.specs.Placed.{sizeAt, endAt}
 use Rattle.tables.specs.Tables.{Passed}
 use Rattle.tables.proofs.Answers.{end-inside, least-held, ending-held}
 use Rattle.tables.proofs.Here.{in-instance}

@@ -21,7 +21,7 @@ use Rattle.laws.proofs.Rows.{any-map, any-append, any-one}
 use Rattle.laws.proofs.Parts.{upTo-suc}
 use Rattle.demands.proofs.Wellformed.{map-at}
 use Rattle.listing.proofs.Successors.{getD-slice, length-part}
-use Rattle.tables.specs.Placed.{placeAt}
+use Rattle.listing.specs.Listed.{placeAt}
 use Rattle.tables.proofs.Small.{segments-is}
 use Rattle.plan_rules.specs.declared.apart.Stretch.{Stretch}
 use Rattle.plan_rules.specs.Marks.{PlanLabelled, StretchFits, stretchOf, labelsOf, isMarked, marking, touched, sharesBefore, intervalApart}

@@ -14,10 +14,10 @@ use Rattle.spec.specs.Plan.{Move, run, absent, gone, ofRun, isMove}
 use Rattle.spec.specs.Held.{held}
 use Rattle.laws.proofs.Tests.{ltb-iff}
 use Rattle.demands.proofs.Wellformed.{sound}
-use Rattle.listing.specs.Listed.{trainBytes, entryAt}
+use Rattle.listing.specs.Listed.{trainBytes, entryAt, placeAt, startAt}
 use Rattle.listing.proofs.Filled.{slice-tail}
 use Rattle.listing.proofs.Successors.{getD-slice}
-use Rattle.tables.specs.Placed.{placeAt, sizeAt, startAt, runHeld}
+use Rattle.tables.specs.Placed.{sizeAt, runHeld}
 use Rattle.tables.specs.Ready.{RunsHeld, RunsReady}
 use Rattle.tables.proofs.Here.{few-trains, in-instance}
 use Rattle.plan_rules.specs.Marks.{stretchOf}

@@ -7,6 +7,7 @@ use lib.ListN.{take}
 use lib.Dec.{T}
 use Rattle.model.specs.declared.Book.{Book as BookStruct}
 use Rattle.spec.specs.Lists.{Bytes, all, upTo, firstFault, orZero}
+use Rattle.spec.specs.Read.{maxReach}
 use Rattle.spec.specs.Instance.{Instance, instanceOf, trainLength}
 use Rattle.spec.specs.Plan.{Plan, planFits, departs, leavesRightly, runsOn, keepsCalls, ruleFaults}
 use Rattle.spec.specs.Held.{held}
@@ -43,5 +44,5 @@ pub record TrainReady (b : BookStruct) (i l : ℕ) (runs : Bytes) : Type 0 where
   pub passed : Passed b
   pub known : i < b .«train_count»
   pub reached : l ≡ trainLength (held b) i
-  pub short : l ≤ 8
+  pub short : l ≤ maxReach
   pub table : RunsHeld (held b) i runs

@@ -7,12 +7,12 @@ use lib.Dec.{T, eqb}
 use Rattle.model.specs.declared.Book.{Book as BookStruct}
 use Rattle.spec.specs.Lists.{Bytes, any, all, upTo}
 use Rattle.spec.specs.Book.{segmentOf}
+use Rattle.spec.specs.Read.{maxSegments}
 use Rattle.spec.specs.Instance.{Instance, instanceOf}
 use Rattle.spec.specs.Sections.{shareSection}
 use Rattle.spec.specs.Plan.{Plan, Move, run, absent, gone, ofRun, planOf, planFits}
 use Rattle.spec.specs.Held.{held}
-use Rattle.listing.specs.Listed.{trainBytes, entryAt}
-use Rattle.tables.specs.Placed.{placeAt, startAt}
+use Rattle.listing.specs.Listed.{trainBytes, entryAt, placeAt, startAt}
 use Rattle.tables.specs.Ready.{RunsReady}
 use Rattle.sections.specs.Labels.{LabelsHeld}
 use Rattle.plan_rules.specs.declared.apart.Stretch.{Stretch}
@@ -33,11 +33,11 @@ stretchOf runs i gone = record { at = 0; size = 0 }
 unfoldable pub labelsOf : List ℕ → Bytes → Stretch → List ℕ
 labelsOf labels runs s = map (λ d. getD labels (segmentOf d) 0) (placeAt runs (s .at) (s .size))
 
--- a stretch whose segments have labels below 64
+-- a stretch of segments with labels: each has a mark
 pub record StretchFits (labels : List ℕ) (runs : Bytes) (s : Stretch) : Type 0 where
   pub fits : s .at + s .size ≤ length runs
   pub inside : (k : ℕ) → s .at ≤ k → k < s .at + s .size → getD runs k 0 / 2 < length labels
-  pub below : (k : ℕ) → s .at ≤ k → k < s .at + s .size → getD labels (getD runs k 0 / 2) 0 < 64
+  pub below : (k : ℕ) → s .at ≤ k → k < s .at + s .size → getD labels (getD runs k 0 / 2) 0 < maxSegments
 
 -- a mark a label: 1 where it is marked
 unfoldable pub isMarked : Bytes → ℕ → Bool

@@ -8,12 +8,14 @@ use listing::ENTRY_BYTES;
 use listing::TRAIN_BYTES;
 use model::Book;
 use model::Counts;
+use model::MAX_SEGMENTS;
 use tables::places::start_of;
 ghost use mathlib.Core.Path.{_≡_};
 ghost use Prim.Native.Nat.{_<_};
 ghost use lib.ListN.{length};
 ghost use lib.Dec.{T, ltb};
 ghost use Rattle.spec.specs.Lists.{any};
+ghost use Rattle.spec.specs.Read.{maxTrains, maxRuns};
 ghost use Rattle.spec.specs.Instance.{instanceOf};
 ghost use Rattle.spec.specs.Plan.{ifRun, planOf, rule6};
 ghost use Rattle.spec.specs.Held.{held};
@@ -29,7 +31,7 @@ pub struct Stretch {
 
 // Where the table holds the run that a train's move is; a stretch of no segments where it is none.
 pub fn stretch_of(m: Move, runs: &[u8], train: usize) -> Stretch
-    requires { ⌜ (train < 8) × (length (now runs) ≡ tableBytes) × T (ifRun (heldMove m) (λ r. ltb r 256)) ⌝ }
+    requires { ⌜ (train < maxTrains) × (length (now runs) ≡ tableBytes) × T (ifRun (heldMove m) (λ r. ltb r maxRuns)) ⌝ }
     ensures { λ r. ⌜ r ≡ stretchOf (now (runs .entry)) train (heldMove m) ⌝ }
 {
     match m {
@@ -45,7 +47,7 @@ pub fn stretch_of(m: Move, runs: &[u8], train: usize) -> Stretch
 }
 
 // Whether some segment of a stretch has a marked label.
-fn touches(stretch: Stretch, runs: &[u8], labels: &[usize], marks: &[u8; 64]) -> bool
+fn touches(stretch: Stretch, runs: &[u8], labels: &[usize], marks: &[u8; MAX_SEGMENTS]) -> bool
     requires { ⌜ StretchFits (now labels) (now runs) stretch ⌝ }
     ensures { λ r. ⌜ r ≡ any (isMarked (now (marks .entry))) (labelsOf (now (labels .entry)) (now (runs .entry)) stretch) ⌝ }
 {
@@ -62,7 +64,7 @@ fn touches(stretch: Stretch, runs: &[u8], labels: &[usize], marks: &[u8; 64]) ->
 }
 
 // Marks the labels of a stretch's segments.
-pub fn mark(stretch: Stretch, runs: &[u8], labels: &[usize], marks: &mut [u8; 64])
+pub fn mark(stretch: Stretch, runs: &[u8], labels: &[usize], marks: &mut [u8; MAX_SEGMENTS])
     requires { ⌜ StretchFits (now labels) (now runs) stretch ⌝ }
     ensures { λ _. ⌜ now (marks .exit) ≡ marking (now (marks .entry)) (labelsOf (now (labels .entry)) (now (runs .entry)) stretch) ⌝ }
 {
@@ -88,7 +90,7 @@ fn interval_apart(
     ensures { λ r. ⌜ r ≡ intervalApart (instanceOf (held b)) (planOf (instanceOf (held b)) (now (plan .entry))) interval ⌝ }
 {
     let trains = b.train_count;
-    let mut marks = [0u8; 64];
+    let mut marks = [0u8; MAX_SEGMENTS];
     let mut i = 0;
     while i < trains {
         let m = move_at(b, plan, i, interval);

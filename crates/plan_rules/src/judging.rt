@@ -12,10 +12,9 @@ use sections::labels::label_sections;
 ghost use mathlib.Core.Path.{_≡_};
 ghost use Rattle.spec.specs.Instance.{instanceOf};
 ghost use Rattle.spec.specs.Held.{held};
-ghost use Rattle.spec.specs.Entry.{judgePlan};
+ghost use Rattle.spec.specs.Entry.{judgePlan, admitPlan};
 ghost use Rattle.reader.specs.BookAnswers.{answerOf};
 ghost use Rattle.tables.specs.Ready.{RunsReady, MeetsReady};
-ghost use Rattle.plan_rules.specs.Admitted.{admitPlan};
 
 // The verdict on a plan, by the tables of a book.
 pub fn judge_plan(b: Book, counts: Counts, runs: &[u8], meets: &[u8], plan: &[u8]) -> Answer

@@ -84,20 +84,20 @@ pub fn refutation_text(
     book: &[u8],
     r: &[u8],
     words: &mut [i32],
-    clauses: &mut [usize],
+    starts: &mut [usize],
     values: &mut [u8],
     trail: &mut [usize],
     line: &mut [u8],
 ) -> Said
     requires { ⌜ length (now line) ≡ 64 ⌝ }
     ensures { λ s. ⌜ Tells (bare (checkRefutation (now (book .entry)) (now (r .entry))
-        (lengths (now (words .entry)) (now (clauses .entry)) (now (values .entry)) (now (trail .entry))))) (now (line .entry)) (now (line .exit)) s
+        (lengths (now (words .entry)) (now (starts .entry)) (now (values .entry)) (now (trail .entry))))) (now (line .entry)) (now (line .exit)) s
         × (now (words .exit) ≡ zeroed (pos 0) (length (now (words .entry))))
-        × (now (clauses .exit) ≡ zeroed 0 (length (now (clauses .entry))))
+        × (now (starts .exit) ≡ zeroed 0 (length (now (starts .entry))))
         × (now (values .exit) ≡ zeroed 0 (length (now (values .entry))))
         × (now (trail .exit) ≡ zeroed 0 (length (now (trail .entry)))) ⌝ }
 {
-    let answer = check_refutation(book, r, words, clauses, values, trail);
+    let answer = check_refutation(book, r, words, starts, values, trail);
     match answer {
         Answer::Accepted => say(OutputAnswer::Wrote(0), line),
         Answer::Refused(number, detail) => say(OutputAnswer::Refused(number, detail), line),
@@ -110,14 +110,14 @@ fn lent_refutation_text(book: &[u8], r: &[u8], line: &mut [u8]) -> Said
     ensures { λ s. ⌜ Tells (bare (checkRefutation (now (book .entry)) (now (r .entry)) programLent)) (now (line .entry)) (now (line .exit)) s ⌝ }
 {
     let mut words = [0i32; 16384];
-    let mut clauses = [0usize; 8192];
+    let mut starts = [0usize; 8192];
     let mut values = [0u8; 65536];
     let mut trail = [0usize; 8192];
     refutation_text(
         book,
         r,
         &mut words,
-        &mut clauses,
+        &mut starts,
         &mut values,
         &mut trail,
         line,

@@ -1,4 +1,4 @@
--- Clauses that are stored are kept: the formula's, and a clause with its 0 behind those that are kept already. Assumes nothing.
+-- Clauses that are stored are kept (`kept-of`), and so is a clause with its 0 behind them (`kept-added`). Assumes nothing.
 use mathlib.Core.Path.{_≡_, sym, ap, ap₂, _∙_, subst}
 use mathlib.Core.Bool.{_&&_}
 use Prim.Native.Nat.{ℕ, _+_, _≤_, _<_}
@@ -17,7 +17,6 @@ use Rattle.spec.specs.Formula.{Clause, wordsOf}
 use Rattle.spec.specs.Refutation.{variableOf, risesFrom, literalsFit, clausesOf, inRange}
 use Rattle.demands.proofs.Words.{range-proper, words-back, words-append, words-one}
 use Rattle.propagation.specs.Kept.{startsFrom, Kept}
-use Rattle.propagation.proofs.Lookup.{length-starts}
 
 -- a clause behind clauses begins where their words end
 pub starts-append : (at : ℕ) (cs : List Clause) (c : Clause) → startsFrom at (cs ++ one c) ≡ startsFrom at cs ++ one (at + length (wordsOf cs))
@@ -38,7 +37,7 @@ rises-ranged vars low (l ∷ c) h =
     simp (and-iff, leb-iff) ((omega arith, k .0 .1), rises-ranged vars (variableOf l) c (k .1))
 
 -- clauses over the variables whose words and places are held are kept
-kept-of : {vars : ℕ} (cs : List Clause) {words : List ℤ} {starts : List ℕ} → T (inRange vars cs) → words ≡ wordsOf cs
+pub kept-of : {vars : ℕ} (cs : List Clause) {words : List ℤ} {starts : List ℕ} → T (inRange vars cs) → words ≡ wordsOf cs
     → starts ≡ startsFrom 0 cs → Kept vars words starts × (clausesOf words ≡ cs)
 kept-of {vars} cs {words} r w s =
     let e : clausesOf words ≡ cs = ap clausesOf w ∙ words-back cs (range-proper vars cs r) in (
@@ -74,13 +73,3 @@ kept-added {vars} {used} {count} words {words′} starts {starts′} c k hw hs f
     ∙ ap₂ (λ (l : List ℕ) (n : ℕ). l ++ one n) (k .starting) (sym begins ∙ sym (zero-add (length (wordsOf cs))))
     ∙ sym (starts-append 0 cs c) in
     kept-of (cs ++ one c) (simp (all-append, all-one, and-iff) (k .ranged, rises-ranged vars 0 c fit)) w s
-
--- the formula's clauses are stored
-pub kept-formula : {vars : ℕ} (cs : List Clause) (words : List ℤ) (starts : List ℕ) {starts′ : List ℕ} → T (inRange vars cs)
-    → take (length (wordsOf cs)) words ≡ wordsOf cs → length cs ≤ length starts → starts′ ≡ sets starts 0 (startsFrom 0 cs)
-    → Kept vars (take (length (wordsOf cs)) words) (take (length cs) starts′) × (clausesOf (take (length (wordsOf cs)) words) ≡ cs)
-kept-formula cs words starts {starts′} r w room es =
-    let size = length-starts 0 cs in
-    let s : take (length cs) starts′ ≡ startsFrom 0 cs =
-    ap (take (length cs)) (es ∙ sets-eq (startsFrom 0 cs) starts 0 (omega arith)) ∙ take-at (startsFrom 0 cs) _ (length cs) size in
-    kept-of cs r w s

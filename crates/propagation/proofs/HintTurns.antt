@@ -20,20 +20,20 @@ use Rattle.spec.specs.Refutation.{Hinted, proves, makes, useless, hinted, hints
 use Rattle.laws.proofs.Tests.{and-iff, eqb-iff, leb-iff, all-at, empty-length, bool-ext}
 use Rattle.propagation.specs.Known.{valueIn, valuesIn, trueByte, Trailed}
 use Rattle.propagation.specs.Kept.{Kept}
-use Rattle.refutation_file.specs.Rows.{numberCount, numbersIn}
+use Rattle.refutation_file.specs.Numbers.{numberCount, numbersIn}
 use Rattle.propagation.proofs.Values.{made-true, zero-byte}
 use Rattle.propagation.proofs.Lookup.{clause-found, clause-ranged}
-use Rattle.refutation_file.proofs.RowNumbers.{numbers-length}
+use Rattle.refutation_file.proofs.NumberLists.{numbers-length}
 use Rattle.propagation.proofs.Scan.{OpenOne, Scanning, begins}
 use Rattle.propagation.proofs.Trail.{pushed, trail-room, behind-next}
 
 -- a hint of a step names a clause
-pub hint-fits : (own : ℕ) (row : Bytes) (k : ℕ) → T (hintsFit own (numbersIn row)) → k < numberCount row
-    → (1 ≤ getD (numbersIn row) k 0) × (getD (numbersIn row) k 0 < own)
+pub hint-fits : (own : ℕ) (list : Bytes) (k : ℕ) → T (hintsFit own (numbersIn list)) → k < numberCount list
+    → (1 ≤ getD (numbersIn list) k 0) × (getD (numbersIn list) k 0 < own)
 unfolding hintsFit
-hint-fits own row k t h =
-    let n : k < length (numbersIn row) = omega (arith, numbers-length row) in
-    simp (and-iff, leb-iff) at (all-at _ (numbersIn row) k 0 t n)
+hint-fits own list k t h =
+    let n : k < length (numbersIn list) = omega (arith, numbers-length list) in
+    simp (and-iff, leb-iff) at (all-at _ (numbersIn list) k 0 t n)
 
 -- ---- one hint
 

@@ -1,4 +1,4 @@
--- The literals of a row are taken false, the last one first: i of them are, and their variables are on the trail. Since the literals
+-- The literals of a list are taken false, the last one first: i of them are, and their variables are on the trail. Since the literals
 -- rise by variable, the variable of the next one is open. Assumes nothing.
 use mathlib.Core.Path.{_≡_, refl, sym, ap, _∙_, subst}
 use Prim.Native.Nat.{ℕ, zero, suc, _+_, _-_, _≤_, _<_}
@@ -29,7 +29,7 @@ made-other known (pos (suc u)) v b = let e = ne-eqb v u (λ e. omega arith) in r
 made-other known (negsuc u) v b = let e = ne-eqb v u (λ e. omega arith) in rw e refl
 
 module _ (vars : ℕ) where
-  -- a literal of a rising row is above `low` and within the variables, and those behind it rise from it
+  -- a literal of a rising list is above `low` and within the variables, and those behind it rise from it
   rises-at : (low : ℕ) (ls : Clause) (k : ℕ) → T (risesFrom vars low ls) → k < length ls → let l = getD ls k (pos 0) in
       (low < variableOf l) × (variableOf l ≤ vars) × T (risesFrom vars (variableOf l) (drop (suc k) ls))
   unfolding risesFrom

@@ -1,7 +1,7 @@
 // The clauses that hints may name: their words, each clause closed by 0, and a table of where each
 // begins. Assumes nothing.
 use frames::NUMBER;
-use refutation_file::rows::literal_at;
+use refutation_file::numbers::literal_at;
 ghost use mathlib.Core.Path.{_≡_};
 ghost use mathlib.Core.List.{_++_};
 ghost use Prim.Native.Nat.{_+_, _≤_};
@@ -12,18 +12,18 @@ ghost use Rattle.spec.specs.Lists.{one};
 ghost use Rattle.spec.specs.Formula.{wordsOf};
 ghost use Rattle.spec.specs.Entry.{zeroed};
 ghost use Rattle.spec.specs.Refutation.{clausesOf};
-ghost use Rattle.refutation_file.specs.Rows.{numberCount, literalsIn};
+ghost use Rattle.refutation_file.specs.Numbers.{numberCount, literalsIn};
 ghost use Rattle.propagation.specs.Kept.{startsFrom};
 
-// Stores the clause of a row of literals, and the 0 behind it, from `at` on.
-pub fn store_clause(row: &[u8], words: &mut [i32], at: usize)
-    requires { ⌜ at + (numberCount (now row) + 1) ≤ length (now words) ⌝ }
-    ensures { λ _. ⌜ now (words .exit) ≡ sets (now (words .entry)) at (literalsIn (now (row .entry)) ++ one (pos 0)) ⌝ }
+// Stores the clause of a list of literals, and the 0 behind it, from `at` on.
+pub fn store_clause(list: &[u8], words: &mut [i32], at: usize)
+    requires { ⌜ at + (numberCount (now list) + 1) ≤ length (now words) ⌝ }
+    ensures { λ _. ⌜ now (words .exit) ≡ sets (now (words .entry)) at (literalsIn (now (list .entry)) ++ one (pos 0)) ⌝ }
 {
-    let n = row.len() / NUMBER;
+    let n = list.len() / NUMBER;
     let mut i = 0;
     while i < n {
-        words[at + i] = literal_at(row, i);
+        words[at + i] = literal_at(list, i);
         i += 1;
     }
     words[at + n] = 0;

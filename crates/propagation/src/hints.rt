@@ -2,9 +2,9 @@
 // false; the trail has the variables that were set, so that a step costs what it sets and not the
 // number of variables. Assumes nothing.
 use frames::NUMBER;
-use refutation_file::rows::literal_at;
-use refutation_file::rows::number_at;
-use refutation_file::rows::variable;
+use refutation_file::numbers::literal_at;
+use refutation_file::numbers::number_at;
+use refutation_file::numbers::variable;
 ghost use mathlib.Core.Path.{_≡_};
 ghost use Prim.Native.Nat.{_+_, _-_, _≤_, _<_};
 ghost use lib.ListN as lists;
@@ -13,7 +13,7 @@ ghost use lib.Dec.{T};
 ghost use Rattle.spec.specs.Assignment as spec;
 ghost use Rattle.spec.specs.Refutation.{variableOf, literalsFit, hintsFit, refuting, goThrough, followsRule, clausesOf};
 ghost use Rattle.spec.specs.Entry.{zeroed};
-ghost use Rattle.refutation_file.specs.Rows.{numbersIn, literalsIn};
+ghost use Rattle.refutation_file.specs.Numbers.{numbersIn, literalsIn};
 ghost use Rattle.propagation.specs.Kept.{Kept};
 ghost use Rattle.propagation.specs.Known.{valuesIn, answered, trueByte, falseByte, Trailed, LeftOnTrail};
 
@@ -62,18 +62,18 @@ fn make_false(values: &mut [u8], trail: &mut [usize], set: usize, l: i32)
     trail[set] = v;
 }
 
-// Takes each literal of a row false where all variables are open, the last literal first. Answers how
+// Takes each literal of a list false where all variables are open, the last literal first. Answers how
 // many variables it set. They are on the trail, in an order that is free, and what is behind them stays.
-fn take_false(row: &[u8], values: &mut [u8], trail: &mut [usize]) -> usize
-    requires { ⌜ T (literalsFit (length (now values)) (literalsIn (now row))) × (now values ≡ zeroed 0 (length (now values)))
+fn take_false(list: &[u8], values: &mut [u8], trail: &mut [usize]) -> usize
+    requires { ⌜ T (literalsFit (length (now values)) (literalsIn (now list))) × (now values ≡ zeroed 0 (length (now values)))
         × (length (now values) ≤ length (now trail)) × (length (now values) < 2147483648) ⌝ }
-    ensures { λ r. ⌜ (valuesIn (now (values .exit)) ≡ refuting (literalsIn (now (row .entry))))
+    ensures { λ r. ⌜ (valuesIn (now (values .exit)) ≡ refuting (literalsIn (now (list .entry))))
         × Trailed (now (values .exit)) (now (trail .exit)) r × (drop r (now (trail .exit)) ≡ drop r (now (trail .entry))) ⌝ }
 {
-    let n = row.len() / NUMBER;
+    let n = list.len() / NUMBER;
     let mut i = 0;
     while i < n {
-        make_false(values, trail, i, literal_at(row, n - 1 - i));
+        make_false(values, trail, i, literal_at(list, n - 1 - i));
         i += 1;
     }
     n

@@ -1,5 +1,5 @@
 -- What the step at the start of some bytes says of them: its frame is good, its counts are those of its payload, and its literals
--- and its hints are the rows of numbers in their stretches. Assumes nothing.
+-- and its hints are the lists of numbers in their stretches. Assumes nothing.
 use mathlib.Core.Path.{_≡_, refl, sym, ap, _∙_}
 use mathlib.Core.Logic.{_↔_}
 use mathlib.Core.Bool.{Bool, true, false, not}
@@ -20,7 +20,7 @@ use Rattle.spec.specs.Frames.{frameHead, numberWidth, stepFixed, stepKind, step
 use Rattle.spec.specs.Refutation.{literalCount, hintCount, stepIn, hintBytes, isBad}
 use Rattle.refutation_file.specs.declared.steps.Step.{Step}
 use Rattle.refutation_file.specs.declared.steps.Step.the-variants.{Whole, Bad}
-use Rattle.refutation_file.specs.Rows.{numberCount, numbersIn, literalsIn}
+use Rattle.refutation_file.specs.Numbers.{numberCount, numbersIn, literalsIn}
 use Rattle.refutation_file.specs.Found.{badOr, stepFound, stepRefusal, literalBytes, stepBytes}
 
 -- 0 is not 1
@@ -101,33 +101,33 @@ pub hints-size : (s : Bytes) {n h : ℕ} → stepFound s ≡ Whole n h → lengt
 unfolding hintBytes
 hints-size s e = rw (whole-step s e .1, length-drop) (omega (arith, payload-length s e))
 
--- ---- rows of numbers
+-- ---- lists of numbers
 
-numbers-in : (row : Bytes) (n : ℕ) → length row ≡ numberWidth * n → numbersIn row ≡ map (λ i. field row (numberWidth * i) numberWidth) (upTo n)
+numbers-in : (list : Bytes) (n : ℕ) → length list ≡ numberWidth * n → numbersIn list ≡ map (λ i. field list (numberWidth * i) numberWidth) (upTo n)
 unfolding numbersIn
-numbers-in row n e = let q : numberCount row ≡ n = omega arith in rw q
+numbers-in list n e = let q : numberCount list ≡ n = omega arith in rw q
 
--- the literals of a step are the row in their stretch
-pub literals-row : (s : Bytes) {n h : ℕ} → stepFound s ≡ Whole n h
+-- the literals of a step are the list in their stretch
+pub literals-list : (s : Bytes) {n h : ℕ} → stepFound s ≡ Whole n h
     → (stepIn (payloadOf s) .literals ≡ literalsIn (literalBytes (payloadOf s))) × (length (literalBytes (payloadOf s)) ≡ numberWidth * n)
 unfolding stepIn literalsIn literalBytes
-literals-row s {n} e =
+literals-list s {n} e =
     let p = payloadOf s in
-    let row = take (numberWidth * n) (drop stepFixed p) in
+    let list = take (numberWidth * n) (drop stepFixed p) in
     let size = literals-size s e in
     let w = whole-step s e .1 in
-    let numbers = ap (map (signed numberWidth)) (numbers-in row n (rw w at size)) in
+    let numbers = ap (map (signed numberWidth)) (numbers-in list n (rw w at size)) in
     let each-one = map-same _ _ n λ i l.
     ap (signed numberWidth)
     (field-in (numberWidth * n) numberWidth (numberWidth * i) (drop stepFixed p) (omega arith)
     ∙ field-drop p stepFixed (numberWidth * i) numberWidth) in
-    (rw w (sym (numbers ∙ map-map (signed numberWidth) (λ i. field row (numberWidth * i) numberWidth) (upTo n) ∙ each-one)), size)
+    (rw w (sym (numbers ∙ map-map (signed numberWidth) (λ i. field list (numberWidth * i) numberWidth) (upTo n) ∙ each-one)), size)
 
--- and its hints the row in theirs
-pub hints-row : (s : Bytes) {n h : ℕ} → stepFound s ≡ Whole n h
+-- and its hints the list in theirs
+pub hints-list : (s : Bytes) {n h : ℕ} → stepFound s ≡ Whole n h
     → (stepIn (payloadOf s) .hints ≡ numbersIn (hintBytes (payloadOf s))) × (length (hintBytes (payloadOf s)) ≡ numberWidth * h)
 unfolding stepIn hintBytes
-hints-row s {n} {h} e =
+hints-list s {n} {h} e =
     let p = payloadOf s in
     let size = hints-size s e in
     let at = stepFixed + numberWidth * literalCount p in

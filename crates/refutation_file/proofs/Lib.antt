@@ -1,4 +1,4 @@
-pub mod RowNumbers
+pub mod NumberLists
 pub mod Signs
 pub mod Found
 pub mod Places

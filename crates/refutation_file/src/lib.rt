@@ -1,3 +1,3 @@
-// A refutation's file: rows of four-byte numbers, and steps in their frames.
-pub mod rows;
+// A refutation's file: lists of four-byte numbers, and steps in their frames.
+pub mod numbers;
 pub mod steps;

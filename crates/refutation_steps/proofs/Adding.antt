@@ -18,7 +18,7 @@ use Rattle.propagation.proofs.Lookup.{length-starts}
 use Rattle.propagation.proofs.Adding.{starts-append}
 use Rattle.propagation.specs.Known.{LeftOnTrail}
 use Rattle.propagation.proofs.Trail.{left-alone, left-both}
-use Rattle.refutation_steps.specs.declared.one_step.Filled.{Filled}
+use Rattle.refutation_steps.specs.declared.one_step.Extent.{Extent}
 use Rattle.refutation_steps.specs.declared.one_step.StepAnswer.{StepAnswer}
 use Rattle.refutation_steps.specs.declared.one_step.StepAnswer.the-variants.{Proved, Refused}
 use Rattle.refutation_steps.specs.Checked.{stepChecked}
@@ -63,7 +63,7 @@ sets-append l i (x ∷ xs) ys =
     let e : suc i + length xs ≡ i + suc (length xs) = omega arith in
     sets-append (set l i x) (suc i) xs ys ∙ ap (λ (k : ℕ). sets (sets (set l i x) (suc i) xs) k ys) e
 
-module _ {filled₀ : Filled} {words₀ : List ℤ} {starts₀ : List ℕ} {values₀ : Bytes} {trail₀ : List ℕ} where
+module _ {filled₀ : Extent} {words₀ : List ℤ} {starts₀ : List ℕ} {values₀ : Bytes} {trail₀ : List ℕ} where
   -- before the first step
   pub nothing-yet : Adds [] filled₀ words₀ starts₀ values₀ trail₀ words₀ starts₀ values₀ trail₀
   unfolding wordsOf each startsFrom
@@ -87,7 +87,7 @@ module _ {filled₀ : Filled} {words₀ : List ℤ} {starts₀ : List ℕ} {valu
     }
 
     -- a proved step
-    pub grows : (c : Clause) {words′ : List ℤ} {starts′ : List ℕ} {values′ : Bytes} {trail′ : List ℕ} {filled : Filled}
+    pub grows : (c : Clause) {words′ : List ℤ} {starts′ : List ℕ} {values′ : Bytes} {trail′ : List ℕ} {filled : Extent}
         → filled .words ≡ filled₀ .words + length (wordsOf new) → filled .clauses ≡ filled₀ .clauses + length new
         → words′ ≡ sets words (filled .words) (c ++ one (pos 0)) → starts′ ≡ set starts (filled .clauses) (filled .words)
         → values′ ≡ values → LeftOnTrail (length values) trail trail′

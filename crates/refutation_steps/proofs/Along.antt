@@ -21,7 +21,7 @@ use Rattle.spec.specs.Refutation.{stepIn, stepDetail, checkSteps, checkFile, cl
 use Rattle.reader.specs.declared.reading.Answer.{Answer}
 use Rattle.reader.specs.declared.reading.Answer.the-variants.{Accepted, Refused}
 use Rattle.reader.specs.BookAnswers.{answerOf}
-use Rattle.refutation_steps.specs.declared.one_step.Filled.{Filled}
+use Rattle.refutation_steps.specs.declared.one_step.Extent.{Extent}
 use Rattle.refutation_steps.specs.declared.one_step.StepAnswer.{StepAnswer}
 use Rattle.refutation_steps.specs.declared.one_step.StepAnswer.the-variants as step
 use Rattle.refutation_file.specs.Found.{stepBytes}
@@ -43,7 +43,7 @@ none-left r at l =
     empty-length (drop at r) ∙ ap (λ (k : ℕ). eqb k 0) (length-drop at r) ∙ eq-eqb (length r - at) 0 (omega arith)
 
 -- the file, and the slices as they were at first
-module _ (r : Bytes) (filled₀ : Filled) (words₀ : List ℤ) (starts₀ : List ℕ) (values₀ : Bytes) (trail₀ : List ℕ) where
+module _ (r : Bytes) (filled₀ : Extent) (words₀ : List ℤ) (starts₀ : List ℕ) (values₀ : Bytes) (trail₀ : List ℕ) where
   -- the verdict on the whole file
   abbrev verdict : Verdict (Unit {0})
   verdict = checkFile (lentBy (length words₀) (length starts₀)) (length values₀) (clausesOf (take (filled₀ .words) words₀)) r
@@ -59,7 +59,7 @@ module _ (r : Bytes) (filled₀ : Filled) (words₀ : List ℤ) (starts₀ : Lis
 
   -- what is known at a place: the whole's verdict is the rest's, whatever fuel is left; the clauses so far were added to the slices,
   -- and the rest's are all others; the slices are ready for the next step
-  pub record Along (words : List ℤ) (starts : List ℕ) (values : Bytes) (trail : List ℕ) (filled : Filled) (at number : ℕ) : Type 0 where
+  pub record Along (words : List ℤ) (starts : List ℕ) (values : Bytes) (trail : List ℕ) (filled : Extent) (at number : ℕ) : Type 0 where
     pub fuel : ℕ
     pub enough : length r < at + fuel
     pub same : verdict
@@ -80,7 +80,7 @@ module _ (r : Bytes) (filled₀ : Filled) (words₀ : List ℤ) (starts₀ : Lis
     pub trailLength : length trail ≡ length trail₀
 
 -- before the first step
-pub sets-out : (r : Bytes) {words : List ℤ} {starts : List ℕ} {values : Bytes} {trail : List ℕ} {filled : Filled}
+pub sets-out : (r : Bytes) {words : List ℤ} {starts : List ℕ} {values : Bytes} {trail : List ℕ} {filled : Extent}
     → Ready filled words starts values trail → Along r filled words starts values trail words starts values trail filled 0 1
 unfolding checkFile added wordsOf each
 sets-out r ready = record {
@@ -101,8 +101,8 @@ sets-out r ready = record {
   trailLength = refl;
 }
 
-module _ {r : Bytes} {filled₀ : Filled} {words₀ : List ℤ} {starts₀ : List ℕ} {values₀ : Bytes} {trail₀ : List ℕ}
-    {words : List ℤ} {starts : List ℕ} {values : Bytes} {trail : List ℕ} {filled : Filled} {at number : ℕ}
+module _ {r : Bytes} {filled₀ : Extent} {words₀ : List ℤ} {starts₀ : List ℕ} {values₀ : Bytes} {trail₀ : List ℕ}
+    {words : List ℤ} {starts : List ℕ} {values : Bytes} {trail : List ℕ} {filled : Extent} {at number : ℕ}
     (a : Along r filled₀ words₀ starts₀ values₀ trail₀ words starts values trail filled at number) where
   -- the verdict on the whole file, and the clauses that it adds
   abbrev whole : Verdict (Unit {0})

@@ -1,4 +1,4 @@
--- The answer to a whole step, from what the tests of its rows of bytes give, and what a proved step leaves. The number of clauses
+-- The answer to a whole step, from what the tests of its lists of numbers give, and what a proved step leaves. The number of clauses
 -- before it and their words are those that `Ready` counts. Assumes nothing.
 use mathlib.Core.Path.{_≡_, sym, ap, _∙_}
 use mathlib.Core.Bool.{Bool, true, false, not, _&&_}
@@ -15,29 +15,29 @@ use Rattle.spec.specs.Lists.{Bytes, one}
 use Rattle.spec.specs.Frames.{payloadOf}
 use Rattle.spec.specs.Formula.{Clause, wordsOf}
 use Rattle.spec.specs.Refutation.{ProofStep, stepIn, literalsFit, hintsFit, hintBytes, clausesFit, followsRule, clausesOf, isBad}
-use Rattle.refutation_file.specs.Rows.{numberCount, numbersIn, literalsIn}
+use Rattle.refutation_file.specs.Numbers.{numberCount, numbersIn, literalsIn}
 use Rattle.refutation_file.specs.Found.{stepFound, literalBytes}
 use Rattle.propagation.specs.Known.{LeftOnTrail}
 use Rattle.refutation_steps.specs.Checked.{Ready, stepChecked, lentBy, Leaves}
 use Rattle.refutation_file.specs.declared.steps.Step.the-variants.{Whole}
-use Rattle.refutation_steps.specs.declared.one_step.Filled.{Filled}
+use Rattle.refutation_steps.specs.declared.one_step.Extent.{Extent}
 use Rattle.refutation_steps.specs.declared.one_step.StepAnswer.{StepAnswer}
 use Rattle.refutation_steps.specs.declared.one_step.StepAnswer.the-variants.{Proved, Refused}
-use Rattle.refutation_file.proofs.RowNumbers.{literals-length}
-use Rattle.refutation_file.proofs.Found.{whole-step, literals-row, hints-row}
+use Rattle.refutation_file.proofs.NumberLists.{literals-length}
+use Rattle.refutation_file.proofs.Found.{whole-step, literals-list, hints-list}
 use Rattle.propagation.proofs.Lookup.{starts-length}
 use Rattle.propagation.proofs.Adding.{kept-added}
 use Rattle.refutation_steps.proofs.StepFaults.{room-one, literals-bad, hints-bad, no-room, rule-broken, proved}
 
--- A whole step s of n literals and h hints, in the rows ls and hs, where the slices are ready for it.
-pub record Given (filled : Filled) (n h : ℕ) (words : List ℤ) (starts : List ℕ) (values : Bytes) (trail : List ℕ) (s ls hs : Bytes)
+-- A whole step s of n literals and h hints, in the lists ls and hs, where the slices are ready for it.
+pub record Given (filled : Extent) (n h : ℕ) (words : List ℤ) (starts : List ℕ) (values : Bytes) (trail : List ℕ) (s ls hs : Bytes)
     : Type 0 where
   pub ready : Ready filled words starts values trail
   pub whole : stepFound s ≡ Whole n h
-  pub literalRow : ls ≡ literalBytes (payloadOf s)
-  pub hintRow : hs ≡ hintBytes (payloadOf s)
+  pub literalList : ls ≡ literalBytes (payloadOf s)
+  pub hintList : hs ≡ hintBytes (payloadOf s)
 
-module _ {filled : Filled} {n h : ℕ} {words : List ℤ} {starts : List ℕ} {values : Bytes} {trail : List ℕ} {s ls hs : Bytes}
+module _ {filled : Extent} {n h : ℕ} {words : List ℤ} {starts : List ℕ} {values : Bytes} {trail : List ℕ} {s ls hs : Bytes}
     (given : Given filled n h words starts values trail s ls hs) where
   -- the clauses before the step, the step, and the answer that is to be given
   abbrev before : List Clause
@@ -57,21 +57,21 @@ module _ {filled : Filled} {n h : ℕ} {words : List ℤ} {starts : List ℕ} {v
   worded : length (wordsOf before) ≡ filled .words
   worded = ap length (sym (given .ready .kept .closed)) ∙ length-take-le (filled .words) words (given .ready .wordsRoom)
 
-  -- the rows are the step's
+  -- the lists are the step's
   literals-are : step .literals ≡ literalsIn ls
-  literals-are = literals-row s (given .whole) .0 ∙ ap literalsIn (sym (given .literalRow))
+  literals-are = literals-list s (given .whole) .0 ∙ ap literalsIn (sym (given .literalList))
 
   hints-are : step .hints ≡ numbersIn hs
-  hints-are = hints-row s (given .whole) .0 ∙ ap numbersIn (sym (given .hintRow))
+  hints-are = hints-list s (given .whole) .0 ∙ ap numbersIn (sym (given .hintList))
 
   -- n literals
-  in-row : numberCount ls ≡ n
-  in-row = omega (arith, ap length (given .literalRow), literals-row s (given .whole) .1)
+  in-list : numberCount ls ≡ n
+  in-list = omega (arith, ap length (given .literalList), literals-list s (given .whole) .1)
 
   in-step : length (step .literals) ≡ n
-  in-step = ap length literals-are ∙ literals-length ls ∙ in-row
+  in-step = ap length literals-are ∙ literals-length ls ∙ in-list
 
-  -- ---- the tests of the rows and the slices are those of the specification
+  -- ---- the tests of the lists and the slices are those of the specification
 
   whole-is : isBad s ≡ false
   whole-is = whole-step s (given .whole) .0
@@ -121,7 +121,7 @@ module _ {filled : Filled} {n h : ℕ} {words : List ℤ} {starts : List ℕ} {v
 
   -- where there is room for the words
   pub words-room : n < length words - filled .words → filled .words + (numberCount ls + 1) ≤ length words
-  words-room w = omega (arith, in-row)
+  words-room w = omega (arith, in-list)
 
   -- and for the entry
   pub entry-room : eqb (length starts) (filled .clauses) ≡ false → filled .clauses < length starts

@@ -13,7 +13,7 @@ use Rattle.spec.specs.Refutation.{Lent, stepIn, literalCount, hintCount, stepFa
 use Rattle.spec.specs.Entry.{zeroed}
 use Rattle.propagation.specs.Kept.{Kept}
 use Rattle.propagation.specs.Known.{LeftOnTrail}
-use Rattle.refutation_steps.specs.declared.one_step.Filled.{Filled}
+use Rattle.refutation_steps.specs.declared.one_step.Extent.{Extent}
 use Rattle.refutation_steps.specs.declared.one_step.StepAnswer.{StepAnswer}
 use Rattle.refutation_steps.specs.declared.one_step.StepAnswer.the-variants.{Proved, Refused}
 
@@ -23,7 +23,7 @@ lentBy words clauses = record { words = words; clauses = clauses; values = 0; tr
 
 -- The slices are filled with the clauses that hints may name, their words and where each begins; no variable has a value; the trail
 -- has room.
-pub record Ready (filled : Filled) (words : List ℤ) (starts : List ℕ) (values : Bytes) (trail : List ℕ) : Type 0 where
+pub record Ready (filled : Extent) (words : List ℤ) (starts : List ℕ) (values : Bytes) (trail : List ℕ) : Type 0 where
   pub wordsRoom : filled .words ≤ length words
   pub startsRoom : filled .clauses ≤ length starts
   pub trailRoom : length values ≤ length trail
@@ -32,7 +32,7 @@ pub record Ready (filled : Filled) (words : List ℤ) (starts : List ℕ) (value
   pub allOpen : values ≡ zeroed 0 (length values)
 
 -- filled with one clause more, of n literals
-abbrev pub oneMore : Filled → ℕ → Filled
+abbrev pub oneMore : Extent → ℕ → Extent
 oneMore filled n = record { words = filled .words + (n + 1); clauses = filled .clauses + 1 }
 
 -- the answer to a step with this first fault
@@ -47,7 +47,7 @@ stepChecked wordsLent clausesLent variables cs s =
 
 -- What a step leaves in the slices: a proved one adds its clause behind those before, and nothing else; a refused one changes
 -- nothing. Which variables either leaves on the trail is free, and what is behind them there stays.
-abbrev pub Leaves : StepAnswer → Bytes → Filled → List ℤ → List ℕ → Bytes → List ℕ → List ℤ → List ℕ → Bytes → List ℕ → Type 0
+abbrev pub Leaves : StepAnswer → Bytes → Extent → List ℤ → List ℕ → Bytes → List ℕ → List ℤ → List ℕ → Bytes → List ℕ → Type 0
 Leaves (Proved n h) s filled words starts values trail words′ starts′ values′ trail′ =
     Ready (oneMore filled n) words′ starts′ values′ trail′
     × (clausesOf (take (oneMore filled n .words) words′) ≡ clausesOf (take (filled .words) words) ++ one (stepIn (payloadOf s) .literals))

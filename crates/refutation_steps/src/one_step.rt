@@ -3,8 +3,8 @@
 // nothing.
 use propagation::clause_table::store_clause;
 use propagation::hints::follows_rule;
-use refutation_file::rows::hints_fit;
-use refutation_file::rows::literals_fit;
+use refutation_file::numbers::hints_fit;
+use refutation_file::numbers::literals_fit;
 use refutation_file::steps::Step;
 use refutation_file::steps::hints_at;
 use refutation_file::steps::literals_at;
@@ -17,7 +17,7 @@ ghost use Rattle.refutation_steps.specs.Checked.{Ready, stepChecked, Lea
 
 // How far the lent slices are filled with the clauses that a step may name: so many words, so many
 // clauses.
-pub struct Filled {
+pub struct Extent {
     pub words: usize,
     pub clauses: usize,
 }
@@ -33,7 +33,7 @@ pub enum StepAnswer {
 pub fn check_step(
     r: &[u8],
     at: usize,
-    filled: Filled,
+    filled: Extent,
     words: &mut [i32],
     starts: &mut [usize],
     values: &mut [u8],

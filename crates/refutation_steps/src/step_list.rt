@@ -1,6 +1,6 @@
 // The whole list of steps of a refutation: each step by the clauses before it, and the ending (21).
 // Assumes nothing.
-use crate::one_step::Filled;
+use crate::one_step::Extent;
 use crate::one_step::StepAnswer;
 use crate::one_step::check_step;
 use reader::reading::Answer;
@@ -24,7 +24,7 @@ fn detail_of(number: usize, step: usize) -> usize
 // the trail is free.
 pub fn check_steps(
     r: &[u8],
-    formula: Filled,
+    formula: Extent,
     words: &mut [i32],
     starts: &mut [usize],
     values: &mut [u8],

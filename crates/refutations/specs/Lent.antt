@@ -7,5 +7,5 @@ use Rattle.spec.specs.Lists.{Bytes}
 use Rattle.spec.specs.Refutation.{Lent}
 
 abbrev pub lengths : List ℤ → List ℕ → Bytes → List ℕ → Lent
-lengths words clauses values trail = record
-  { words = length words; clauses = length clauses; values = length values; trail = length trail }
+lengths words starts values trail = record
+  { words = length words; clauses = length starts; values = length values; trail = length trail }

@@ -11,7 +11,7 @@ use propagation::clause_table::clear_numbers;
 use propagation::clause_table::clear_words;
 use propagation::clause_table::index_clauses;
 use reader::reading::Answer;
-use refutation_steps::one_step::Filled;
+use refutation_steps::one_step::Extent;
 use refutation_steps::step_list::check_steps;
 use tables::chains::ALL_CHAINS;
 use tables::meets::MEET_BYTES;
@@ -25,10 +25,10 @@ ghost use Rattle.spec.specs.Entry.{zeroed, refutedFor, checkRefutation};
 ghost use Rattle.reader.specs.BookAnswers.{answerOf};
 ghost use Rattle.tables.specs.Ready.{Counted, RunsReady, ChainsReady, MeetsReady};
 ghost use Rattle.refutations.specs.Lent.{lengths};
-ghost use Rattle.refutations.specs.Standing.{Stands};
+ghost use Rattle.refutations.specs.Standing.{extentOf, wordsLoaded, startsLoaded, Stands};
 
 // Writes the formula's words and where each clause begins, where the slices have room for them; answers
-// how many words and clauses these are. Else what the slices hold is left free.
+// how many words and clauses these are.
 fn load_formula(
     b: Book,
     counts: Counts,
@@ -36,22 +36,24 @@ fn load_formula(
     chains: &[usize],
     meets: &[u8],
     words: &mut [i32],
-    clauses: &mut [usize],
-) -> Filled
+    starts: &mut [usize],
+) -> Extent
     requires { ⌜ RunsReady b counts (now runs) × ChainsReady b (now chains) × MeetsReady b (now meets) ⌝ }
-    ensures { λ f. ⌜ Stands (instanceOf (held b)) f (now (words .exit)) (now (clauses .exit)) ⌝ }
+    ensures { λ f. ⌜ (f ≡ extentOf (instanceOf (held b)))
+        × (now (words .exit) ≡ wordsLoaded (instanceOf (held b)) (now (words .entry)) (now (starts .entry)))
+        × (now (starts .exit) ≡ startsLoaded (instanceOf (held b)) (now (words .entry)) (now (starts .entry))) ⌝ }
 {
     let none = &runs[0..0];
     let measured = walk_formula(b, counts, runs, chains, meets, none, &mut words[0..0]);
-    let filled = Filled {
+    let filled = Extent {
         words: measured.words,
         clauses: measured.clauses,
     };
-    if words.len() < measured.words || clauses.len() < measured.clauses {
+    if words.len() < measured.words || starts.len() < measured.clauses {
         return filled;
     }
     walk_formula(b, counts, runs, chains, meets, none, words);
-    index_clauses(&words[..measured.words], clauses);
+    index_clauses(&words[..measured.words], starts);
     filled
 }
 
@@ -59,26 +61,27 @@ fn load_formula(
 fn check_loaded(
     b: Book,
     counts: Counts,
-    formula: Filled,
+    formula: Extent,
     r: &[u8],
     words: &mut [i32],
-    clauses: &mut [usize],
+    starts: &mut [usize],
     values: &mut [u8],
     trail: &mut [usize],
 ) -> Answer
-    requires { ⌜ Counted b counts × Stands (instanceOf (held b)) formula (now words) (now clauses) ⌝ }
+    requires { ⌜ Counted b counts × (formula ≡ extentOf (instanceOf (held b)))
+        × Stands (instanceOf (held b)) (now words) (now starts) ⌝ }
     ensures { λ a. ⌜ a ≡ answerOf (refutedFor (instanceOf (held b)) (now (r .entry))
-        (lengths (now (words .entry)) (now (clauses .entry)) (now (values .entry)) (now (trail .entry)))) ⌝ }
+        (lengths (now (words .entry)) (now (starts .entry)) (now (values .entry)) (now (trail .entry)))) ⌝ }
 {
     let variables = variable_count(b, counts);
-    if words.len() < formula.words || clauses.len() < formula.clauses {
+    if words.len() < formula.words || starts.len() < formula.clauses {
         return Answer::Refused(12, 0);
     }
     if values.len() < variables || trail.len() < variables {
         return Answer::Refused(12, 0);
     }
     clear_bytes(values);
-    check_steps(r, formula, words, clauses, &mut values[..variables], trail)
+    check_steps(r, formula, words, starts, &mut values[..variables], trail)
 }
 
 // The verdict on the bytes of a book and of a refutation. What the slices hold after it is left free.
@@ -86,18 +89,18 @@ fn refute(
     book: &[u8],
     r: &[u8],
     words: &mut [i32],
-    clauses: &mut [usize],
+    starts: &mut [usize],
     values: &mut [u8],
     trail: &mut [usize],
 ) -> Answer
     ensures { λ a. ⌜ a ≡ answerOf (checkRefutation (now (book .entry)) (now (r .entry))
-        (lengths (now (words .entry)) (now (clauses .entry)) (now (values .entry)) (now (trail .entry)))) ⌝ }
+        (lengths (now (words .entry)) (now (starts .entry)) (now (values .entry)) (now (trail .entry)))) ⌝ }
 {
     let mut runs = [0u8; TABLE_BYTES];
     let mut chains = [0usize; ALL_CHAINS];
     let mut meets = [0u8; MEET_BYTES];
     let p = prepare_chains(book, &mut runs, &mut chains, &mut meets);
-    let end = p.meets;
+    let end = p.meet_bytes;
     let read = p.read;
     let b = read.book;
     let counts = read.counts;
@@ -105,8 +108,8 @@ fn refute(
     match answer {
         Answer::Refused(number, detail) => Answer::Refused(number, detail),
         Answer::Accepted => {
-            let formula = load_formula(b, counts, &runs, &chains, &meets[..end], words, clauses);
-            check_loaded(b, counts, formula, r, words, clauses, values, trail)
+            let formula = load_formula(b, counts, &runs, &chains, &meets[..end], words, starts);
+            check_loaded(b, counts, formula, r, words, starts, values, trail)
         }
     }
 }
@@ -116,20 +119,20 @@ pub fn check_refutation(
     book: &[u8],
     r: &[u8],
     words: &mut [i32],
-    clauses: &mut [usize],
+    starts: &mut [usize],
     values: &mut [u8],
     trail: &mut [usize],
 ) -> Answer
     ensures { λ a. ⌜ (a ≡ answerOf (checkRefutation (now (book .entry)) (now (r .entry))
-        (lengths (now (words .entry)) (now (clauses .entry)) (now (values .entry)) (now (trail .entry)))))
+        (lengths (now (words .entry)) (now (starts .entry)) (now (values .entry)) (now (trail .entry)))))
         × (now (words .exit) ≡ zeroed (pos 0) (length (now (words .entry))))
-        × (now (clauses .exit) ≡ zeroed 0 (length (now (clauses .entry))))
+        × (now (starts .exit) ≡ zeroed 0 (length (now (starts .entry))))
         × (now (values .exit) ≡ zeroed 0 (length (now (values .entry))))
         × (now (trail .exit) ≡ zeroed 0 (length (now (trail .entry)))) ⌝ }
 {
-    let answer = refute(book, r, words, clauses, values, trail);
+    let answer = refute(book, r, words, starts, values, trail);
     clear_words(words);
-    clear_numbers(clauses);
+    clear_numbers(starts);
     clear_bytes(values);
     clear_numbers(trail);
     answer

@@ -16,7 +16,7 @@ use Rattle.laws.proofs.Tests.{and-iff, or-iff, not-iff, implies-iff, eqb-iff, l
 use Rattle.laws.proofs.Tests.{decide, true-of, denied-of, le-or-lt}
 use Rattle.laws.proofs.Rows.{all-cons, any-cons, any-nil, all-each, any-each, all-only, any-only, all-one, any-one}
 use Rattle.demands.proofs.Sections.{neighbours-iff, together-refl, together-trans, together-step, together-sym, together-chain}
-use Rattle.tables.specs.Meets.{meetBytes}
+use Rattle.tables.specs.Meets.{meetTable}
 use Rattle.tables.proofs.Triples.{triples, triples-next, triples-end, triples-meet}
 use Rattle.sections.specs.Labels.{mergedLabel, joinedLabel}
 use Rattle.demands.proofs.Labels.{least, least-le, least-below, least-together}
@@ -81,7 +81,7 @@ pub record Joined (I : Instance) (border : Borders) (rest : Bytes) (f : ℕ → 
 
 module _ (I : Instance) (border : Borders) where
   -- at the start each segment is its own section
-  pub joined-start : (f : ℕ → ℕ) → ((s : ℕ) → s < I .segments → f s ≡ s) → Joined I border (meetBytes I) f
+  pub joined-start : (f : ℕ → ℕ) → ((s : ℕ) → s < I .segments → f s ≡ s) → Joined I border (meetTable I) f
   joined-start f h = record {
     below = λ s l. omega (arith, h s l);
     own = λ s l. rw (h s l) (together-refl I border s);

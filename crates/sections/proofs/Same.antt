@@ -11,10 +11,9 @@ use Rattle.model.specs.declared.Book.{Book as BookStruct}
 use Rattle.spec.specs.Lists.{Bytes}
 use Rattle.spec.specs.Instance.{Instance, instanceOf}
 use Rattle.spec.specs.Sections.{Borders}
-use Rattle.spec.specs.Plan.{planOf}
+use Rattle.spec.specs.Plan.{planOf, bordersOf}
 use Rattle.spec.specs.Held.{held}
 use Rattle.demands.proofs.Sections.{meet-sym}
-use Rattle.tables.specs.Placed.{bordersOf}
 use Rattle.tables.specs.Tables.{Passed}
 use Rattle.tables.proofs.Small.{passed-few}
 use Rattle.sections.specs.Labels.{sectionLabels, LabelsHeld}
@@ -44,6 +43,6 @@ module _ (b : BookStruct) (p : Passed b) (border : Borders) (old : List ℕ) (ro
 pub plan-labelled : (b : BookStruct) → Passed b → (plan : Bytes) (old : List ℕ) → length old ≡ 64
     → {labels : List ℕ} → labels ≡ sets old 0 (sectionLabels (instanceOf (held b)) (bordersOf plan))
     → LabelsHeld (instanceOf (held b)) (planOf (instanceOf (held b)) plan .border) labels
-unfolding bordersOf planOf
+unfolding planOf
 plan-labelled b p plan old room e =
     subst (LabelsHeld (instanceOf (held b)) (bordersOf plan)) (sym e) (labels-held b p (bordersOf plan) old room)

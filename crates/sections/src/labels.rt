@@ -9,9 +9,10 @@ ghost use Prim.Native.Nat.{_≤_, _<_};
 ghost use lib.ListN.{length, getD};
 ghost use lib.Seq.{sets};
 ghost use Rattle.spec.specs.Lists.{upTo};
+ghost use Rattle.spec.specs.Read.{maxSegments};
 ghost use Rattle.spec.specs.Instance.{instanceOf};
 ghost use Rattle.spec.specs.Held.{held};
-ghost use Rattle.tables.specs.Placed.{bordersOf};
+ghost use Rattle.spec.specs.Plan.{bordersOf};
 ghost use Rattle.tables.specs.Tables.{Passed};
 ghost use Rattle.tables.specs.Ready.{MeetsReady};
 ghost use Rattle.sections.specs.Labels.{mergedLabel, joinedLabel, sectionLabels};
@@ -69,7 +70,7 @@ fn join(labels: &mut [usize], segments: usize, s: usize, u: usize)
 // holds node, first and second segment, three bytes each. Each pair that meets at a node without a
 // border is joined.
 pub fn label_sections(b: Book, meets: &[u8], borders: &[u8], labels: &mut [usize])
-    requires { ⌜ Passed b × MeetsReady b (now meets) × (b .«node_count» ≤ length (now borders)) × (length (now labels) ≡ 64) ⌝ }
+    requires { ⌜ Passed b × MeetsReady b (now meets) × (b .«node_count» ≤ length (now borders)) × (length (now labels) ≡ maxSegments) ⌝ }
     ensures { λ _. ⌜ now (labels .exit)
         ≡ sets (now (labels .entry)) 0 (sectionLabels (instanceOf (held b)) (bordersOf (now (borders .entry)))) ⌝ }
 {

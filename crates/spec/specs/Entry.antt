@@ -109,13 +109,13 @@ planOutput book assignment old = overwrite old (written (checkAssignment book as
 unfoldable pub judgePlan : Instance → Bytes → Verdict (Unit {0})
 judgePlan I s = andThen (demand (planFits I s) 15) λ _. findNone (brokenRule I (planOf I s)) 16
 
--- "then 12; then the second input", for whatever is written of a plan: 12 by the output's length, then 15 and 16, then what the plan
--- is asked for, which may refuse it by a number of its own
+-- "then 12; then the second input", for whatever is written of a plan: 12 by the output's length, then 15 and 16
+abbrev pub admitPlan : Instance → Bytes → ℕ → ℕ → Verdict (Unit {0})
+admitPlan I plan need outLength = andThen (demand (leb need outLength) 12) λ _. judgePlan I plan
+
+-- then what the plan is asked for, which may refuse it by a number of its own
 unfoldable pub afterPlan : {A : Type 0} → Instance → Bytes → ℕ → ℕ → (Plan → Verdict A) → Verdict A
-afterPlan I plan need outLength own =
-    andThen (demand (leb need outLength) 12) λ _.
-    andThen (judgePlan I plan) λ _.
-    own (planOf I plan)
+afterPlan I plan need outLength own = andThen (admitPlan I plan need outLength) λ _. own (planOf I plan)
 
 -- the assignment that it is written as
 unfoldable pub encodedFor : Instance → Bytes → ℕ → Verdict Bytes

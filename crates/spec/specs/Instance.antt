@@ -5,11 +5,11 @@ use mathlib.Core.Bool.{Bool, true, false, not, _&&_, _||_, cond}
 use Prim.Native.Nat.{ℕ, zero, suc, _+_, _*_, _-_}
 use mathlib.Core.List.{List, [], _∷_, _++_, map}
 use lib.ListN.{length, getD}
-use lib.Dec.{leb, ltb, eqb}
 use Rattle.spec.specs.Lists.{same}
 use Rattle.spec.specs.Book.{Book, Train, Call, nodeKindAt, trainAt, callsOf, noCall, goalOf}
 use Rattle.spec.specs.Book.{deniesBorder, forcesBorder, shareNode, segmentOf, lengthInSegments}
 use Rattle.spec.specs.Runs.{runsOf, startPlace, endPlace, contains}
+use Rattle.spec.specs.Read.{between}
 
 pub record Instance : Type 0 where
   pub nodes : ℕ
@@ -88,7 +88,7 @@ instanceOf b = compile b (runLists b)
 
 -- "at some time from first to last"
 unfoldable pub inWindow : Instance → ℕ → ℕ → ℕ → Bool
-inWindow I i c time = leb (I .first i c) time && leb time (I .last i c)
+inWindow I i c time = between (I .first i c) (I .last i c) time
 
 -- "At time d its place is the given one": the call is served there
 unfoldable pub servedAtDeparture : Instance → ℕ → ℕ → Bool

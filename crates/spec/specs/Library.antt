@@ -12,7 +12,7 @@ use Rattle.spec.specs.Read.{readBook}
 use Rattle.spec.specs.Runs.{runsOf}
 use Rattle.spec.specs.Instance.{Instance, trainLength}
 use Rattle.spec.specs.Sections.{sectionLabels}
-use Rattle.spec.specs.Plan.{planLength, isBit}
+use Rattle.spec.specs.Plan.{planLength, bordersOf, isBit}
 use Rattle.spec.specs.Formula.{formula, variables, wordsOf}
 use Rattle.spec.specs.Entry.{demand, overwrite, written, readInstance}
 
@@ -59,7 +59,7 @@ unfoldable pub labelledFor : Instance → Bytes → ℕ → Verdict Bytes
 labelledFor I borders outLength =
     andThen (demand (leb (I .segments) outLength) 12) λ _.
     andThen (demand (bordersFit I borders) 15) λ _.
-    accepted (sectionLabels I (λ n. eqb (getD borders n 0) 1))
+    accepted (sectionLabels I (bordersOf borders))
 
 unfoldable pub labelSections : Bytes → Bytes → ℕ → Verdict Bytes
 labelSections book borders outLength = andThen (readInstance book) λ I. labelledFor I borders outLength

@@ -1,4 +1,4 @@
--- The words that the specification is written with: rows over ranges, tests over rows, and the first fault of a table.
+-- The words that the specification is written with: lists over ranges, tests over lists, and the first fault of a table.
 -- Assumes nothing.
 use mathlib.Core.Bool.{Bool, true, false, not, _&&_, _||_, cond}
 use Prim.Native.Nat.{ℕ, zero, suc, _+_, _-_}
@@ -23,17 +23,17 @@ upTo n = count 0 n
 unfoldable pub range : ℕ → ℕ → List ℕ
 range a z = count a (z - a)
 
--- the rows of each element, one behind the other
+-- the lists of each element, one behind the other
 unfoldable pub each {ℓ κ} : {A : Type ℓ} {B : Type κ} → List A → (A → List B) → List B
 each [] f = []
 each (x ∷ xs) f = f x ++ each xs f
 
--- a row where the test holds, else nothing
+-- a list where the test holds, else nothing
 unfoldable pub only {ℓ} : {A : Type ℓ} → Bool → List A → List A
 only true xs = xs
 only false xs = []
 
--- the row of one element
+-- the list of one element
 abbrev pub one {ℓ} : {A : Type ℓ} → A → List A
 one x = x ∷ []
 
@@ -63,7 +63,7 @@ unfoldable pub lastOr {ℓ} : {A : Type ℓ} → A → List A → A
 lastOr d [] = d
 lastOr d (x ∷ xs) = lastOr x xs
 
--- two rows of numbers are the same
+-- two lists of numbers are the same
 unfoldable pub same : List ℕ → List ℕ → Bool
 same [] [] = true
 same [] (y ∷ ys) = false

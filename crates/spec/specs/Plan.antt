@@ -6,7 +6,7 @@ use mathlib.Core.List.{List, [], _∷_, _++_, map}
 use mathlib.Core.Option.{Option, none, some}
 use lib.ListN.{length, getD}
 use lib.Dec.{T, leb, ltb, eqb}
-use Rattle.spec.specs.Lists.{Bytes, any, all, upTo, range, each, one, Fault, _when_, firstFault}
+use Rattle.spec.specs.Lists.{Bytes, any, all, upTo, range, each, one, Fault, _when_, firstFault, faultless}
 use Rattle.spec.specs.Numbers.{littleEndian, field}
 use Rattle.spec.specs.Instance.{Instance, inWindow, servedAtDeparture}
 use Rattle.spec.specs.Sections.{Borders, shareSection}
@@ -82,9 +82,13 @@ planLength I = I .nodes + I .trains * (I .intervals * 2)
 unfoldable pub moveAt : Instance → ℕ → ℕ → ℕ
 moveAt I i t = I .nodes + (i * (I .intervals * 2) + t * 2)
 
+-- the borders that bytes stand for
+abbrev pub bordersOf : Bytes → Borders
+bordersOf s n = eqb (getD s n 0) 1
+
 -- the plan that bytes stand for
 unfoldable pub planOf : Instance → Bytes → Plan
-planOf I s = record { border = λ n. eqb (getD s n 0) 1; move = λ i t. moveOf (field s (moveAt I i t) 2) }
+planOf I s = record { border = bordersOf s; move = λ i t. moveOf (field s (moveAt I i t) 2) }
 
 unfoldable pub isBit : ℕ → Bool
 isBit x = leb x 1
@@ -175,4 +179,4 @@ module _ (I : Instance) (p : Plan) where
 
   -- the plan keeps the six rules
   unfoldable pub keepsRules : Bool
-  keepsRules = all (λ f. not (f .holds)) ruleFaults
+  keepsRules = faultless ruleFaults

@@ -33,6 +33,6 @@ together I border s t = togetherBelow I border (I .segments) s t
 unfoldable pub sectionLabels : Instance → Borders → List ℕ
 sectionLabels I border = map (λ s. leastFrom (together I border s) 0 (I .segments)) (upTo (I .segments))
 
--- some section holds a segment of each of the two rows
+-- some section holds a segment of each of the two lists
 unfoldable pub shareSection : Instance → Borders → List ℕ → List ℕ → Bool
 shareSection I border xs ys = any (λ s. any (together I border s) ys) xs

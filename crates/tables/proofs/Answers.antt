@@ -17,9 +17,9 @@ use Rattle.spec.specs.Instance.{instanceOf, compile, runLists, runAt, callAt, t
 use Rattle.spec.specs.Held.{held, heldTrain, packed, packedTrain, padded}
 use Rattle.laws.proofs.Tests.{and-iff, eqb-iff, all-at}
 use Rattle.demands.proofs.Wellformed.{parts, map-at}
-use Rattle.listing.specs.Listed.{trainBytes}
+use Rattle.listing.specs.Listed.{trainBytes, placeAt}
 use Rattle.reader.proofs.Packing.{trains-counted}
-use Rattle.tables.specs.Placed.{placeAt, sizeAt, endAt}
+use Rattle.tables.specs.Placed.{sizeAt, endAt}
 use Rattle.tables.specs.Tables.{Passed}
 use Rattle.tables.specs.Ready.{RunsHeld}
 

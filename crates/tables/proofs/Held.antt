@@ -5,7 +5,8 @@ use Rattle.spec.specs.Lists.{Bytes}
 use Rattle.spec.specs.Book.{Book}
 use Rattle.spec.specs.Runs.{startPlace, endPlace}
 use Rattle.spec.specs.Instance.{instanceOf, runLists, runAt, trainLength}
-use Rattle.tables.specs.Placed.{placeAt, sizeAt, startAt, endAt, runHeld}
+use Rattle.listing.specs.Listed.{placeAt, startAt}
+use Rattle.tables.specs.Placed.{sizeAt, endAt, runHeld}
 use Rattle.tables.specs.Ready.{RunsHeld}
 
 module _ {b : Book} {i : ℕ} {runs : Bytes} (h : RunsHeld b i runs) (n : ℕ) (e : n ≡ instanceOf b .runs i) where

@@ -6,11 +6,11 @@ use Prim.Native.Nat.{ℕ, _+_, _*_, _-_, _≤_, _<_}
 use native.Mathlib.Omega.{arith}
 use mathlib.Core.List.{List}
 use lib.ListN.{length, getD, length-map, length-take}
-use lib.Dec.{leb}
 use Rattle.model.specs.declared.Book.{Book as BookStruct}
 use Rattle.model.specs.declared.Train.{Train as TrainStruct}
 use Rattle.spec.specs.Lists.{Bytes}
 use Rattle.spec.specs.Book.{Call, Train, trainAt, lengthInSegments}
+use Rattle.spec.specs.Read.{between}
 use Rattle.spec.specs.Instance.{Instance, instanceOf, compile, callAt, trainLength, placeServes, inWindow, servedAtDeparture}
 use Rattle.spec.specs.Held.{held, heldTrain, NumbersFit}
 use Rattle.reader.proofs.Packing.{trains-counted}
@@ -87,10 +87,10 @@ module _ (b : BookStruct) (p : Passed b) (i : ℕ) (known : i < b .«train_count
 -- ---- a train's call
 
 module _ (b : BookStruct) (i number : ℕ) {c : Call} (e : c ≡ callAt (held b) i number) where
-  pub window-answer : (time : ℕ) {test : Bool} → test ≡ (leb (c .first) time && leb time (c .last))
+  pub window-answer : (time : ℕ) {test : Bool} → test ≡ between (c .first) (c .last) time
       → test ≡ inWindow (instanceOf (held b)) i number time
   unfolding instanceOf compile inWindow
-  window-answer time t = t ∙ ap (λ (k : Call). leb (k .first) time && leb time (k .last)) e
+  window-answer time t = t ∙ ap (λ (k : Call). between (k .first) (k .last) time) e
 
   start-answer : {t : Train} {test : Bool} → t ≡ trainAt (held b) i → test ≡ placeServes (held b) c (t .place)
       → test ≡ instanceOf (held b) .servedAtStart i number
@@ -99,7 +99,7 @@ module _ (b : BookStruct) (i number : ℕ) {c : Call} (e : c ≡ callAt (held b)
 
   -- whether it is served at the departure, as `places::served_at_departure` answers it
   pub departure-answer : (p : Passed b) (known : i < b .«train_count») {test : Bool}
-      → test ≡ ((leb (c .first) (train b p i known .departure) && leb (train b p i known .departure) (c .last))
+      → test ≡ (between (c .first) (c .last) (train b p i known .departure)
       && placeServes (held b) c (heldTrain (train b p i known) .place))
       → test ≡ servedAtDeparture (instanceOf (held b)) i number
   unfolding servedAtDeparture

@@ -1,5 +1,6 @@
 -- The chains of the runs that follow a run: what is found in the table of a train's runs is what the instance says, and the two
--- numbers of each run chain, for every run, the runs that follow it (`ChainsHeld`). Assumes nothing.
+-- numbers of each run are in the table of chains (`ChainsHeld`); they chain, for every run, the runs that follow it
+-- (`next-follower`). Assumes nothing.
 use mathlib.Core.Path.{_≡_, refl, sym, ap, ap₂, _∙_}
 use mathlib.Core.Bool.{Bool}
 use Prim.Native.Nat.{ℕ, _+_, _*_, _-_, _≤_, _<_}
@@ -17,7 +18,8 @@ use Rattle.laws.proofs.Tests.{same-iff}
 use Rattle.laws.proofs.Parts.{Part, part-in, part-at, part-each, length-each, sum-constant, each-same}
 use Rattle.laws.proofs.Least.{least-same}
 use Rattle.listing.proofs.Leaves.{part-sets}
-use Rattle.tables.specs.Placed.{placeAt, startAt, endAt}
+use Rattle.listing.specs.Listed.{placeAt, startAt}
+use Rattle.tables.specs.Placed.{endAt}
 use Rattle.tables.specs.Tables.{leastFrom, firstFollower, nextAlike, chainsOf, trainChains}
 use Rattle.tables.specs.Ready.{RunsHeld, ChainsHeld}
 
@@ -71,9 +73,6 @@ module _ (b : Book) (i : ℕ) (few : instanceOf b .runs i ≤ 256) where
   abbrev count : ℕ
   count = instanceOf b .runs i
 
-  abbrev startOf : ℕ → List ℕ
-  startOf r = startPlace (trainLength b i) (runAt (runLists b) i r)
-
   abbrev links : ℕ → List ℕ
   links r = firstFollower b i r ∷ one (nextAlike b i r)
 
@@ -96,17 +95,21 @@ module _ (b : Book) (i : ℕ) (few : instanceOf b .runs i ≤ 256) where
     next-held : (r : ℕ) → r < count → getD chains (2 * r + 1) 0 ≡ nextAlike b i r
     next-held r m = part-at (part-links r m) 1 0 (omega arith)
 
-  -- behind a run that follows r, the next that follows r is the next that starts where it does
+  pub chains-held : (old : List ℕ) → length old ≡ trainChains → ChainsHeld b i (sets old 0 (chainsOf b i))
+  chains-held old e = record { long = length-sets old 0 (chainsOf b i) ∙ e; first = first-held old e; next = next-held old e }
+
+-- behind a run that follows r, the next that follows r is the next that starts where it does
+module _ (b : Book) (i : ℕ) where
+  abbrev startOf : ℕ → List ℕ
+  startOf r = startPlace (trainLength b i) (runAt (runLists b) i r)
+
   alike : (r q : ℕ) → T (instanceOf b .follows i r q) → (p : ℕ) → same (startOf q) (startOf p) ≡ instanceOf b .follows i r p
   unfolding instanceOf compile
   alike r q t p =
       let e = same-iff (endPlace (trainLength b i) (runAt (runLists b) i r)) (startOf q) .0 t in
       ap (λ (place : List ℕ). same place (startOf p)) (sym e)
 
-  pub chains-held : (old : List ℕ) → length old ≡ trainChains → ChainsHeld b i (sets old 0 (chainsOf b i))
-  unfolding firstFollower nextAlike
-  chains-held old e = record {
-    long = length-sets old 0 (chainsOf b i) ∙ e;
-    first = first-held old e;
-    next = λ r q m k t. next-held old e q k ∙ least-same _ _ (q + 1) (count - (q + 1)) (λ p _ _. alike r q t p);
-  }
+  pub next-follower : (r q : ℕ) → T (instanceOf b .follows i r q)
+      → nextAlike b i q ≡ leastFrom (instanceOf b .follows i r) (q + 1) (instanceOf b .runs i - (q + 1))
+  unfolding nextAlike
+  next-follower r q t = least-same _ _ (q + 1) (instanceOf b .runs i - (q + 1)) (λ p _ _. alike r q t p)

@@ -17,7 +17,7 @@ use Rattle.spec.specs.Held.{held, CountsFit}
 use Rattle.laws.proofs.Tests.{and-iff, false-of, from-false}
 use Rattle.laws.proofs.Parts.{length-each, sum-constant}
 use Rattle.listing.proofs.Lists.{sets-append, each-next, held-segments}
-use Rattle.tables.specs.Meets.{meetsOf, meetsAt, meetBytes}
+use Rattle.tables.specs.Meets.{meetsOf, meetsAt, meetTable}
 
 -- ---- rows in a table
 
@@ -129,8 +129,8 @@ module _ (b : BookStruct) (fits : CountsFit b) (full : length (b .segments) ≡ 
   unfolding meetsAt instanceOf compile
   meets-at node = ap (λ (n : ℕ). each (upTo n) (meetsOf (instanceOf (held b)) node)) (sym (held-segments b fits full))
 
-  pub meets-all : length (b .nodes) ≡ 96 → each (upTo (b .«node_count»)) (meetsAt (instanceOf (held b))) ≡ meetBytes (instanceOf (held b))
-  unfolding meetBytes instanceOf compile held
+  pub meets-all : length (b .nodes) ≡ 96 → each (upTo (b .«node_count»)) (meetsAt (instanceOf (held b))) ≡ meetTable (instanceOf (held b))
+  unfolding meetTable instanceOf compile held
   meets-all e =
       ap (λ (n : ℕ). each (upTo n) (meetsAt (instanceOf (held b)))) (sym (length-take-le (b .«node_count») (b .nodes) (omega arith)))
 

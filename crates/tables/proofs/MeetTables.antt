@@ -9,7 +9,7 @@ use Rattle.model.specs.declared.Book.{Book as BookStruct}
 use Rattle.spec.specs.Lists.{Bytes}
 use Rattle.spec.specs.Instance.{instanceOf}
 use Rattle.spec.specs.Held.{held}
-use Rattle.tables.specs.Meets.{meetBytes, meetRoom}
+use Rattle.tables.specs.Meets.{meetTable, meetRoom}
 use Rattle.tables.specs.Ready.{MeetsReady, MeetsFilled}
 use Rattle.tables.proofs.MeetsFew.{meets-few}
 
@@ -21,6 +21,6 @@ take-sets l vs h =
 pub meets-ready : (b : BookStruct) → length (held b .segments) ≤ 64 → (old : Bytes) → length old ≡ meetRoom
     → {meets : Bytes} {end : ℕ} → MeetsFilled b end old meets → (end ≤ length meets) × MeetsReady b (take end meets)
 meets-ready b few old room (e, s) =
-    let bytes = meetBytes (instanceOf (held b)) in
+    let bytes = meetTable (instanceOf (held b)) in
     let short : length bytes ≤ meetRoom = meets-few (held b) few in
     (omega (arith, ap length s, length-sets old 0 bytes), ap₂ take e s ∙ take-sets old bytes (omega arith))

@@ -12,7 +12,7 @@ use Rattle.spec.specs.Book.{Book, segmentAt, touches, shareNode}
 use Rattle.spec.specs.Instance.{instanceOf, compile}
 use Rattle.laws.proofs.Tests.{and-iff, eqb-iff, not-iff, true-of, false-of, le-or-lt, decide, denied-of}
 use Rattle.laws.proofs.Parts.{sum-add, sum-constant}
-use Rattle.tables.specs.Meets.{meetsOf, meetsAt, meetBytes}
+use Rattle.tables.specs.Meets.{meetsOf, meetsAt, meetTable}
 use Rattle.tables.proofs.MeetRows.{sum-le, each-sum, pair, pair-most, pair-none, of-none}
 
 -- ---- sums
@@ -110,8 +110,8 @@ module _ (b : Book) (few : length (b .segments) ≤ 64) where
         sum-le (λ s. length (meetsOf (instanceOf b) n s)) (share n) (length (b .segments)) (of-share n),
       )
 
-  pub meets-few : length (meetBytes (instanceOf b)) ≤ 24192
-  unfolding meetBytes instanceOf compile
+  pub meets-few : length (meetTable (instanceOf b)) ≤ 24192
+  unfolding meetTable instanceOf compile
   meets-few =
       let nodes = length (b .nodes) in
       let segments = length (b .segments) in

@@ -11,11 +11,11 @@ use lib.Dec.{T}
 use Rattle.spec.specs.Lists.{Bytes, all}
 use Rattle.spec.specs.Runs.{startPlace, endPlace}
 use Rattle.laws.proofs.Parts.{Part, part-in}
-use Rattle.listing.specs.Listed.{trainBytes, runsAfter}
+use Rattle.listing.specs.Listed.{trainBytes, runsAfter, placeAt, startAt}
 use Rattle.listing.proofs.Leaves.{part-slice}
 use Rattle.listing.proofs.Lists.{short}
 use Rattle.listing.proofs.Levels.{size-kept, part-kept}
-use Rattle.tables.specs.Placed.{placeAt, sizeAt, startAt, endAt, runHeld}
+use Rattle.tables.specs.Placed.{sizeAt, endAt, runHeld}
 
 -- ---- parts
 

@@ -9,7 +9,7 @@ use lib.Seq.{slice}
 use Rattle.spec.specs.Lists.{Bytes, upTo, each, only, one}
 use Rattle.spec.specs.Instance.{Instance}
 use Rattle.network.proofs.Walks.{slice-next}
-use Rattle.tables.specs.Meets.{meetsOf, meetsAt, meetBytes}
+use Rattle.tables.specs.Meets.{meetsOf, meetsAt, meetTable}
 
 -- the next three bytes of a table that ends at `end`
 pub bytes-next : (meets : Bytes) (end at : ℕ) → at + 2 < end → end ≤ length meets
@@ -71,10 +71,10 @@ module _ {A : Type 0} (f : ℕ → ℕ → ℕ → A) where
   meetings I = each (upTo (I .nodes)) λ n. each (upTo (I .segments)) λ s. each (upTo (I .segments)) λ u.
       only (I .meet n s u) (one (f n s u))
 
-  pub triples-meet : (I : Instance) → triples (meetBytes I) ≡ meetings I
-  unfolding meetBytes meetsAt meetsOf triples
+  pub triples-meet : (I : Instance) → triples (meetTable I) ≡ meetings I
+  unfolding meetTable meetsAt meetsOf triples
   triples-meet I =
-      ap triples (sym (append-nil (meetBytes I)))
+      ap triples (sym (append-nil (meetTable I)))
       ∙ stand-each _ _ (λ n. stand-each _ _ (λ s. stand-each _ _ (λ u. stand-only (I .meet n s u) n s u) (upTo (I .segments)))
       (upTo (I .segments))) (upTo (I .nodes)) []
       ∙ append-nil (meetings I)

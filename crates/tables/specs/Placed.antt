@@ -1,24 +1,14 @@
--- Places and runs as a table of runs holds them: a place is a stretch of directed segments. Assumes nothing.
-use mathlib.Core.Bool.{Bool}
+-- Places and runs as a table of runs holds them: a place is a stretch of directed segments. This is a table of the code, which no
+-- demand speaks of. Assumes nothing.
 use Prim.Native.Nat.{ℕ, _+_, _-_}
 use mathlib.Core.List.{List}
 use lib.ListN.{getD}
-use lib.Seq.{slice}
-use lib.Dec.{eqb}
 use Rattle.spec.specs.Lists.{Bytes}
-use Rattle.spec.specs.Sections.{Borders}
-use Rattle.listing.specs.Listed.{entryAt}
+use Rattle.listing.specs.Listed.{entryAt, startAt, placeAt}
 
--- the l directed segments from `at` on
-unfoldable pub placeAt : Bytes → ℕ → ℕ → List ℕ
-placeAt table at l = slice at (at + l) table
-
--- of the run with a number, in a train's table of runs: how long it is, where its directed segments begin, and where the last l do
+-- of the run with a number, in a train's table of runs: how long it is, and where its last l directed segments begin
 abbrev pub sizeAt : Bytes → ℕ → ℕ
 sizeAt runs r = getD runs (entryAt r) 0
-
-abbrev pub startAt : ℕ → ℕ
-startAt r = entryAt r + 1
 
 unfoldable pub endAt : Bytes → ℕ → ℕ → ℕ
 endAt runs r l = startAt r + (sizeAt runs r - l)
@@ -26,7 +16,3 @@ endAt runs r l = startAt r + (sizeAt runs r - l)
 -- the run itself
 unfoldable pub runHeld : Bytes → ℕ → List ℕ
 runHeld runs r = placeAt runs (startAt r) (sizeAt runs r)
-
--- a set of borders, a byte a node
-unfoldable pub bordersOf : Bytes → Borders
-bordersOf bytes n = eqb (getD bytes n 0) 1

@@ -1,6 +1,6 @@
--- The tables that the formula and the checks look things up in: each train's runs, and the chains of the runs that follow a run.
--- Assumes nothing.
-use Prim.Native.Nat.{ℕ, _+_, _-_}
+-- The tables that the formula and the checks look things up in: each train's runs, and the chains of the runs that follow a run. They
+-- are tables of the code, which no demand speaks of. Assumes nothing.
+use Prim.Native.Nat.{ℕ, _+_, _*_, _-_}
 use mathlib.Core.List.{List, _∷_}
 use lib.Seq.{sets}
 use lib.Dec.{T}
@@ -10,7 +10,7 @@ unfoldable pub use Rattle.spec.specs.Lists.{leastFrom}
 use Rattle.spec.specs.Book.{Book}
 use Rattle.spec.specs.BookFile.{FitsFields}
 use Rattle.spec.specs.Runs.{startPlace}
-use Rattle.spec.specs.Read.{wellFormed}
+use Rattle.spec.specs.Read.{maxTrains, maxRuns, wellFormed}
 use Rattle.spec.specs.Instance.{instanceOf, runLists, runAt, trainLength}
 use Rattle.spec.specs.Held.{held}
 use Rattle.listing.specs.Listed.{filled}
@@ -38,10 +38,10 @@ chainsOf b i = each (upTo (instanceOf b .runs i)) λ r. firstFollower b i r ∷ 
 
 -- how many numbers a train's chains have room for, and all trains'
 abbrev pub trainChains : ℕ
-trainChains = 512
+trainChains = 2 * maxRuns
 
 abbrev pub allChains : ℕ
-allChains = 4096
+allChains = maxTrains * trainChains
 
 -- the chains of all trains, a part each
 abbrev pub chainTable : BookStruct → List ℕ → List ℕ

@@ -1,6 +1,6 @@
 // The runs that follow a run, as a chain: two numbers a run, the first run that follows it and the next
 // run that starts where it does. So the runs that follow a run are found one by one, without a test of
-// the others. A train has room for 256 runs. Assumes nothing.
+// the others. Assumes nothing.
 use crate::places::follows;
 use crate::places::same_places;
 use crate::places::start_of;
@@ -16,10 +16,11 @@ ghost use Prim.Native.Nat.{ℕ, _+_, _-_, _≤_, _<_};
 ghost use lib.ListN.{length};
 ghost use lib.Seq.{sets};
 ghost use Rattle.spec.specs.Lists.{upTo, each, one, same, leastFrom};
+ghost use Rattle.spec.specs.Read.{maxRuns};
 ghost use Rattle.spec.specs.Instance.{instanceOf};
 ghost use Rattle.spec.specs.Held.{held};
-ghost use Rattle.listing.specs.Listed.{trainBytes};
-ghost use Rattle.tables.specs.Placed.{placeAt, sizeAt, startAt, endAt};
+ghost use Rattle.listing.specs.Listed.{runSegments, trainBytes, placeAt, startAt};
+ghost use Rattle.tables.specs.Placed.{sizeAt, endAt};
 ghost use Rattle.tables.specs.Tables.{Passed, chainsOf, chainTable, trainChains, allChains};
 ghost use Rattle.tables.specs.Ready.{RunsHeld, RunsReady};
 
@@ -30,7 +31,7 @@ pub const ALL_CHAINS: usize = MAX_TRAINS * TRAIN_CHAINS;
 
 // The first of n runs that follows run r, or n.
 fn first_follower(runs: &[u8], r: usize, l: usize, n: usize) -> usize
-    requires { ⌜ (length (now runs) ≡ trainBytes) × (r < n) × (n ≤ 256) × (l ≤ sizeAt (now runs) r) × (sizeAt (now runs) r ≤ 16) ⌝ }
+    requires { ⌜ (length (now runs) ≡ trainBytes) × (r < n) × (n ≤ maxRuns) × (l ≤ sizeAt (now runs) r) × (sizeAt (now runs) r ≤ runSegments) ⌝ }
     ensures { λ v. ⌜ v ≡ leastFrom (λ q. same (placeAt (now (runs .entry)) (endAt (now (runs .entry)) r l) l)
         (placeAt (now (runs .entry)) (startAt q) l)) 0 n ⌝ }
 {
@@ -46,7 +47,7 @@ fn first_follower(runs: &[u8], r: usize, l: usize, n: usize) -> usize
 
 // The first of n runs behind run q that starts at the same place as q, or n.
 fn next_alike(runs: &[u8], q: usize, l: usize, n: usize) -> usize
-    requires { ⌜ (length (now runs) ≡ trainBytes) × (q < n) × (n ≤ 256) × (l ≤ 16) ⌝ }
+    requires { ⌜ (length (now runs) ≡ trainBytes) × (q < n) × (n ≤ maxRuns) × (l ≤ runSegments) ⌝ }
     ensures { λ v. ⌜ v ≡ leastFrom (λ p. same (placeAt (now (runs .entry)) (startAt q) l) (placeAt (now (runs .entry)) (startAt p) l))
         (q + 1) (n - (q + 1)) ⌝ }
 {
@@ -62,8 +63,8 @@ fn next_alike(runs: &[u8], q: usize, l: usize, n: usize) -> usize
 
 // Writes, for each of n runs, the first run that follows it and the next that starts where it does.
 fn chain_runs(runs: &[u8], l: usize, n: usize, chains: &mut [usize])
-    requires { ⌜ (length (now runs) ≡ trainBytes) × (length (now chains) ≡ trainChains) × (n ≤ 256)
-        × ((r : ℕ) → r < n → l ≤ sizeAt (now runs) r) × ((r : ℕ) → r < n → sizeAt (now runs) r ≤ 16) ⌝ }
+    requires { ⌜ (length (now runs) ≡ trainBytes) × (length (now chains) ≡ trainChains) × (n ≤ maxRuns)
+        × ((r : ℕ) → r < n → l ≤ sizeAt (now runs) r) × ((r : ℕ) → r < n → sizeAt (now runs) r ≤ runSegments) ⌝ }
     ensures { λ _. ⌜ now (chains .exit) ≡ sets (now (chains .entry)) 0 (each (upTo n) λ r.
         leastFrom (λ q. same (placeAt (now (runs .entry)) (endAt (now (runs .entry)) r l) l) (placeAt (now (runs .entry)) (startAt q) l)) 0 n
         ∷ one (leastFrom (λ p. same (placeAt (now (runs .entry)) (startAt r) l) (placeAt (now (runs .entry)) (startAt p) l))

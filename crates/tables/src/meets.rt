@@ -9,6 +9,7 @@ ghost use mathlib.Core.Path.{_≡_};
 ghost use Prim.Native.Nat.{_+_, _≤_, _<_};
 ghost use lib.ListN.{length, set};
 ghost use lib.Seq.{sets};
+ghost use Rattle.spec.specs.Read.{maxNodes};
 ghost use Rattle.spec.specs.Instance.{instanceOf};
 ghost use Rattle.spec.specs.Held.{held, CountsFit};
 ghost use Rattle.tables.specs.Meets.{meetsOf, meetsAt};
@@ -28,9 +29,11 @@ fn store_byte(table: &mut [u8], at: usize, n: usize)
     }
 }
 
-// Lists the second segments that meet the first at the node, from `at` on; answers where they end.
+// Lists the second segments that meet the first at the node, from `at` on; answers where they end. The
+// bounds of `at` here and below are generous, so that no sum wraps: 96 nodes with 64 times 64 pairs of
+// three bytes are 1,179,648 bytes.
 fn list_of(b: Book, node: usize, s: usize, table: &mut [u8], at: usize) -> usize
-    requires { ⌜ CountsFit b × (node < 96) × (s < b .«segment_count») × (at ≤ 2000000) ⌝ }
+    requires { ⌜ CountsFit b × (node < maxNodes) × (s < b .«segment_count») × (at ≤ 2000000) ⌝ }
     ensures { λ r. ⌜ (r ≡ at + length (meetsOf (instanceOf (held b)) node s))
         × (now (table .exit) ≡ sets (now (table .entry)) at (meetsOf (instanceOf (held b)) node s)) ⌝ }
 {
@@ -52,7 +55,7 @@ fn list_of(b: Book, node: usize, s: usize, table: &mut [u8], at: usize) -> usize
 
 // Lists the pairs of segments that meet at the node, from `at` on; answers where they end.
 fn list_at(b: Book, node: usize, table: &mut [u8], at: usize) -> usize
-    requires { ⌜ CountsFit b × (node < 96) × (at ≤ 1500000) ⌝ }
+    requires { ⌜ CountsFit b × (node < maxNodes) × (at ≤ 1500000) ⌝ }
     ensures { λ r. ⌜ (r ≡ at + length (meetsAt (instanceOf (held b)) node))
         × (now (table .exit) ≡ sets (now (table .entry)) at (meetsAt (instanceOf (held b)) node)) ⌝ }
 {

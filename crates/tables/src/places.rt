@@ -10,18 +10,18 @@ ghost use mathlib.Core.Path.{_≡_};
 ghost use mathlib.Core.Bool.{_&&_};
 ghost use Prim.Native.Nat.{_+_, _≤_, _<_};
 ghost use lib.ListN.{length};
-ghost use lib.Dec.{leb};
 ghost use Rattle.spec.specs.Lists.{same};
 ghost use Rattle.spec.specs.Book.{goalOf};
 ghost use Rattle.spec.specs.Runs as paths;
+ghost use Rattle.spec.specs.Read.{maxReach, maxRuns, between};
 ghost use Rattle.spec.specs.Instance.{placeServes, mayLeave};
 ghost use Rattle.spec.specs.Held.{held, heldTrain};
-ghost use Rattle.listing.specs.Listed.{trainBytes};
-ghost use Rattle.tables.specs.Placed.{placeAt, sizeAt, startAt, endAt};
+ghost use Rattle.listing.specs.Listed.{runSegments, trainBytes, placeAt, startAt};
+ghost use Rattle.tables.specs.Placed.{sizeAt, endAt};
 
 // Where the directed segments of the run with a number begin: the place that the run starts at.
 pub fn start_of(r: usize) -> usize
-    requires { ⌜ r < 256 ⌝ }
+    requires { ⌜ r < maxRuns ⌝ }
     ensures { λ at. ⌜ at ≡ startAt r ⌝ }
 {
     r * ENTRY_BYTES + 1
@@ -29,7 +29,7 @@ pub fn start_of(r: usize) -> usize
 
 // How many directed segments the run with a number has.
 pub fn size_of(runs: &[u8], r: usize) -> usize
-    requires { ⌜ (r < 256) × (length (now runs) ≡ trainBytes) ⌝ }
+    requires { ⌜ (r < maxRuns) × (length (now runs) ≡ trainBytes) ⌝ }
     ensures { λ n. ⌜ (n ≡ sizeAt (now (runs .entry)) r) × (n < 256) ⌝ }
 {
     wide(runs[r * ENTRY_BYTES])
@@ -37,7 +37,7 @@ pub fn size_of(runs: &[u8], r: usize) -> usize
 
 // Where the last l directed segments of a run begin: the place that the run ends at.
 pub fn end_of(runs: &[u8], r: usize, l: usize) -> usize
-    requires { ⌜ (r < 256) × (length (now runs) ≡ trainBytes) × (l ≤ sizeAt (now runs) r) ⌝ }
+    requires { ⌜ (r < maxRuns) × (length (now runs) ≡ trainBytes) × (l ≤ sizeAt (now runs) r) ⌝ }
     ensures { λ at. ⌜ at ≡ endAt (now (runs .entry)) r l ⌝ }
 {
     start_of(r) + (size_of(runs, r) - l)
@@ -60,7 +60,7 @@ pub fn same_places(table: &[u8], at: usize, others: &[u8], from: usize, l: usize
 
 // Whether run q follows run r: it starts at the place that run r ends at.
 pub fn follows(runs: &[u8], r: usize, q: usize, l: usize) -> bool
-    requires { ⌜ (length (now runs) ≡ trainBytes) × (r < 256) × (q < 256) × (l ≤ sizeAt (now runs) r) × (sizeAt (now runs) r ≤ 16) ⌝ }
+    requires { ⌜ (length (now runs) ≡ trainBytes) × (r < maxRuns) × (q < maxRuns) × (l ≤ sizeAt (now runs) r) × (sizeAt (now runs) r ≤ runSegments) ⌝ }
     ensures { λ v. ⌜ v ≡ same (placeAt (now (runs .entry)) (endAt (now (runs .entry)) r l) l) (placeAt (now (runs .entry)) (startAt q) l) ⌝ }
 {
     same_places(runs, end_of(runs, r, l), runs, start_of(q), l)
@@ -68,7 +68,7 @@ pub fn follows(runs: &[u8], r: usize, q: usize, l: usize) -> bool
 
 // Whether a place of l directed segments is the one that the train is given.
 pub fn is_given(t: Train, table: &[u8], at: usize, l: usize) -> bool
-    requires { ⌜ (at + l ≤ length (now table)) × (t .size ≤ 8) ⌝ }
+    requires { ⌜ (at + l ≤ length (now table)) × (t .size ≤ maxReach) ⌝ }
     ensures { λ r. ⌜ r ≡ same (placeAt (now (table .entry)) at l) (heldTrain t .place) ⌝ }
 {
     let place = t.place;
@@ -101,7 +101,7 @@ pub fn serves(b: Book, c: Call, table: &[u8], at: usize, l: usize) -> bool
 
 // Whether the place that the train is given serves the call.
 fn given_serves(b: Book, c: Call, t: Train) -> bool
-    requires { ⌜ t .size ≤ 8 ⌝ }
+    requires { ⌜ t .size ≤ maxReach ⌝ }
     ensures { λ r. ⌜ r ≡ placeServes (held b) c (heldTrain t .place) ⌝ }
 {
     let place = t.place;
@@ -110,7 +110,7 @@ fn given_serves(b: Book, c: Call, t: Train) -> bool
 
 // Whether the time is in the call's window.
 pub fn in_window(c: Call, time: usize) -> bool
-    ensures { λ r. ⌜ r ≡ (leb (c .first) time && leb time (c .last)) ⌝ }
+    ensures { λ r. ⌜ r ≡ between (c .first) (c .last) time ⌝ }
 {
     c.first <= time && time <= c.last
 }
@@ -118,8 +118,8 @@ pub fn in_window(c: Call, time: usize) -> bool
 // Whether the call is served at the train's departure: its window is open then, and the place that the
 // train is given serves it.
 pub fn served_at_departure(b: Book, c: Call, t: Train) -> bool
-    requires { ⌜ t .size ≤ 8 ⌝ }
-    ensures { λ r. ⌜ r ≡ ((leb (c .first) (t .departure) && leb (t .departure) (c .last)) && placeServes (held b) c (heldTrain t .place)) ⌝ }
+    requires { ⌜ t .size ≤ maxReach ⌝ }
+    ensures { λ r. ⌜ r ≡ (between (c .first) (c .last) (t .departure) && placeServes (held b) c (heldTrain t .place)) ⌝ }
 {
     in_window(c, t.departure) && given_serves(b, c, t)
 }

@@ -32,7 +32,7 @@ pub fn prepare_runs(book: &[u8], runs: &mut [u8]) -> BookRead
 // A book that was read, or its refusal; and how many bytes the table of what meets has.
 pub struct Prepared {
     pub read: BookRead,
-    pub meets: usize,
+    pub meet_bytes: usize,
 }
 
 // Reads a book and fills the tables of its runs and of what meets. Beside a refusal they are as they
@@ -41,11 +41,11 @@ pub fn prepare(book: &[u8], runs: &mut [u8], meets: &mut [u8]) -> Prepared
     requires { ⌜ (length (now runs) ≡ tableBytes) × (length (now meets) ≡ meetRoom) ⌝ }
     ensures { λ r. ⌜ (r .read ≡ bookReadOf (readBook (now (book .entry))))
         × (r .read .answer ≡ Answer.Accepted → RunsReady (r .read .book) (r .read .counts) (now (runs .exit))
-        × (r .meets ≤ length (now (meets .exit))) × MeetsReady (r .read .book) (take (r .meets) (now (meets .exit))))
+        × (r .«meet_bytes» ≤ length (now (meets .exit))) × MeetsReady (r .read .book) (take (r .«meet_bytes») (now (meets .exit))))
         × (r .read .answer ≡ Answer.Accepted → (now (runs .exit) ≡ runTable (held (r .read .book)) (now (runs .entry)))
-        × MeetsFilled (r .read .book) (r .meets) (now (meets .entry)) (now (meets .exit)))
+        × MeetsFilled (r .read .book) (r .«meet_bytes») (now (meets .entry)) (now (meets .exit)))
         × ((n d : ℕ) → r .read .answer ≡ Answer.Refused n d → n < 11 → now (runs .exit) ≡ now (runs .entry))
-        × ((n d : ℕ) → r .read .answer ≡ Answer.Refused n d → (now (meets .exit) ≡ now (meets .entry)) × (r .meets ≡ 0)) ⌝ }
+        × ((n d : ℕ) → r .read .answer ≡ Answer.Refused n d → (now (meets .exit) ≡ now (meets .entry)) × (r .«meet_bytes» ≡ 0)) ⌝ }
 {
     let read = prepare_runs(book, runs);
     let b = read.book;
@@ -53,13 +53,13 @@ pub fn prepare(book: &[u8], runs: &mut [u8], meets: &mut [u8]) -> Prepared
     match answer {
         Answer::Refused(_, _) => Prepared {
             read: read,
-            meets: 0,
+            meet_bytes: 0,
         },
         Answer::Accepted => {
             let end = list_meets(b, meets);
             Prepared {
                 read: read,
-                meets: end,
+                meet_bytes: end,
             }
         }
     }
@@ -75,13 +75,13 @@ pub fn prepare_chains(
     requires { ⌜ (length (now runs) ≡ tableBytes) × (length (now chains) ≡ allChains) × (length (now meets) ≡ meetRoom) ⌝ }
     ensures { λ r. ⌜ (r .read ≡ bookReadOf (readBook (now (book .entry))))
         × (r .read .answer ≡ Answer.Accepted → RunsReady (r .read .book) (r .read .counts) (now (runs .exit))
-        × (r .meets ≤ length (now (meets .exit))) × MeetsReady (r .read .book) (take (r .meets) (now (meets .exit))))
+        × (r .«meet_bytes» ≤ length (now (meets .exit))) × MeetsReady (r .read .book) (take (r .«meet_bytes») (now (meets .exit))))
         × (r .read .answer ≡ Answer.Accepted → ChainsReady (r .read .book) (now (chains .exit)))
         × (r .read .answer ≡ Answer.Accepted → (now (runs .exit) ≡ runTable (held (r .read .book)) (now (runs .entry)))
-        × MeetsFilled (r .read .book) (r .meets) (now (meets .entry)) (now (meets .exit)))
+        × MeetsFilled (r .read .book) (r .«meet_bytes») (now (meets .entry)) (now (meets .exit)))
         × (r .read .answer ≡ Answer.Accepted → now (chains .exit) ≡ chainTable (r .read .book) (now (chains .entry)))
         × ((n d : ℕ) → r .read .answer ≡ Answer.Refused n d → n < 11 → now (runs .exit) ≡ now (runs .entry))
-        × ((n d : ℕ) → r .read .answer ≡ Answer.Refused n d → (now (meets .exit) ≡ now (meets .entry)) × (r .meets ≡ 0))
+        × ((n d : ℕ) → r .read .answer ≡ Answer.Refused n d → (now (meets .exit) ≡ now (meets .entry)) × (r .«meet_bytes» ≡ 0))
         × ((n d : ℕ) → r .read .answer ≡ Answer.Refused n d → now (chains .exit) ≡ now (chains .entry)) ⌝ }
 {
     let p = prepare(book, runs, meets);

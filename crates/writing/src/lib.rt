@@ -63,7 +63,7 @@ pub fn write_formula(book: &[u8], out: &mut [i32]) -> FormulaAnswer
     let mut chains = [0usize; ALL_CHAINS];
     let mut meets = [0u8; MEET_BYTES];
     let p = prepare_chains(book, &mut runs, &mut chains, &mut meets);
-    let end = p.meets;
+    let end = p.meet_bytes;
     let read = p.read;
     let b = read.book;
     let counts = read.counts;

@@ -7,11 +7,11 @@ use denote.Ref.{now}
 use lib.ListN.{length}
 use Rattle.spec.specs.Instance.{Instance, instanceOf}
 use Rattle.spec.specs.Formula.{variables}
+use Rattle.spec.specs.Entry.{admitPlan}
 use Rattle.spec.specs.Held.{held}
 use Rattle.reader.specs.declared.reading.Answer.{Answer}
 use Rattle.reader.specs.declared.reading.Answer.the-variants.{Accepted}
 use Rattle.reader.specs.BookAnswers.{answerOf}
-use Rattle.plan_rules.specs.Admitted.{admitPlan}
 use Rattle.plan_rules.proofs.Admitted.{after-room, after-judged}
 use Rattle.checking.proofs.Answers.{plan-fits, length-assignment, encoded-refused, encoded-accepted}
 use Rattle.checking.proofs.encode_by.Statement.{statement}
@@ -46,7 +46,8 @@ write-plan-requires : tie.Need-write-plan-requires
 write-plan-requires c κs =
     let a = c .before in
     let s = start (asked a) in
-    (s .pre .0, s .pre .1, plan-fits _ _ (after-judged _ _ _ _ (accepts a)), after-room _ _ _ _ (accepts a))
+    let judged = after-judged (I (asked a)) (now (s .args .plan)) (variables (I (asked a))) (room (asked a)) (accepts a) in
+    (s .pre .0, s .pre .1, plan-fits _ _ judged, after-room _ _ _ _ (accepts a))
 
 returns : tie.Need-returns
 returns c =

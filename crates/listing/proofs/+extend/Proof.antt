@@ -18,7 +18,7 @@ use Rattle.listing.proofs.Leaves.{last-append}
 use Rattle.listing.proofs.Lists.{Listed, listed-none, listed-long, listed-next, listed-skip, listed-end}
 use Rattle.listing.proofs.Lists.{short, count-one, each-nothing, each-short, onward, onward-taken, onward-left, onward-short}
 use Rattle.listing.proofs.Lists.{extend-none, extend-more, path-of, path-size, path-packed}
-use Rattle.listing.proofs.Successors.{each-slice, covered-number, covered-fan, covered-next}
+use Rattle.listing.proofs.Successors.{each-slice, covered-number, covered-width, covered-next}
 use Rattle.listing.proofs.extend.Reads as extend
 use Rattle.listing.proofs.extend.Kinds as extend-kinds
 use Rattle.listing.proofs.+extend.Lts-extend as lts
@@ -57,13 +57,13 @@ calls t = (
 )
 
 abbrev Inv-loop : lts.InvT-loop
-Inv-loop table fans runs₀ count path missing last fan base found₀ i₀ runs found i =
-    (i ≤ fan)
-    × Listed count runs₀ (each (upTo i) (λ k. onward table fans (missing - 1) (pathOf path) (getD table (base + k) 0)))
+Inv-loop table widths runs₀ count path missing last width base found₀ i₀ runs found i =
+    (i ≤ width)
+    × Listed count runs₀ (each (upTo i) (λ k. onward table widths (missing - 1) (pathOf path) (getD table (base + k) 0)))
     found runs
 
 abbrev μ-loop : lts.MeasureT-loop
-μ-loop table fans runs₀ count path missing last fan base found₀ i₀ runs found i = fan - i
+μ-loop table widths runs₀ count path missing last width base found₀ i₀ runs found i = width - i
 
 -- ---- nothing is missing: the path is kept
 
@@ -81,8 +81,8 @@ returns t c =
     let k = c .before .before in
     let s = k .before .before .before .before .before .before in
     let a = s .args in
-    let e : extendBy (a .table .now) (a .fans .now) (a .missing) (pathOf (a .path)) ≡ one (pathOf (a .path)) =
-    rw (k .before .before .if1 .taken) (extend-none (a .table .now) (a .fans .now) (pathOf (a .path))) in
+    let e : extendBy (a .table .now) (a .widths .now) (a .missing) (pathOf (a .path)) ≡ one (pathOf (a .path)) =
+    rw (k .before .before .if1 .taken) (extend-none (a .table .now) (a .widths .now) (pathOf (a .path))) in
     (rw e (count-one (a .count) (pathOf (a .path)) (s .pre .1 .2)), rw e (k .keep .ensures))
 
 -- ---- one segment more
@@ -98,11 +98,11 @@ module _ (t : ℕ) (c : lts.After-last-of (calls t) (extend-at t) extend.Post In
   abbrev last : ℕ
   last = c .last-of .result
 
-  covered : Covered (start .args .table .now) (start .args .fans .now) last
-  covered = subst (λ (d : ℕ). Covered (start .args .table .now) (start .args .fans .now) d) (sym (c .last-of .ensures)) (start .pre .1 .0)
+  covered : Covered (start .args .table .now) (start .args .widths .now) last
+  covered = subst (λ (d : ℕ). Covered (start .args .table .now) (start .args .widths .now) d) (sym (c .last-of .ensures)) (start .pre .1 .0)
 
 shared-slice-read-wide : (t : ℕ) → lts.Need-shared-slice-read-wide (calls t) (extend-at t) extend.Post Inv-loop μ-loop
-shared-slice-read-wide t c = let k = covered t (c .before) in omega (arith, covered-number k, k .held .fansLong)
+shared-slice-read-wide t c = let k = covered t (c .before) in omega (arith, covered-number k, k .held .widthsLong)
 
 wide-requires : (t : ℕ) → lts.Need-wide-requires (calls t) (extend-at t) extend.Post Inv-loop μ-loop
 wide-requires t c κs = tt
@@ -121,12 +121,12 @@ module _ (t : ℕ) (c : lts.At-loop (calls t) (extend-at t) extend.Post Inv-loop
   abbrev path : List ℕ
   path = pathOf (args .path)
 
-  abbrev fan : ℕ
-  fan = c .before .wide .result
+  abbrev width : ℕ
+  width = c .before .wide .result
 
   -- the paths over the successor with a number
   abbrev paths : ℕ → List (List ℕ)
-  paths k = onward (args .table .now) (args .fans .now) (args .missing - 1) path (getD (args .table .now) (last t known * 128 + k) 0)
+  paths k = onward (args .table .now) (args .widths .now) (args .missing - 1) path (getD (args .table .now) (last t known * 128 + k) 0)
 
   some : 1 ≤ args .missing
   some = omega arith
@@ -137,31 +137,31 @@ module _ (t : ℕ) (c : lts.At-loop (calls t) (extend-at t) extend.Post Inv-loop
   are-short : (n : ℕ) → T (all short (each (upTo n) paths))
   are-short n =
       each-short paths n
-      (λ k _. onward-short (args .table .now) (args .fans .now) (args .missing - 1) path (omega (arith, some, size)) _)
+      (λ k _. onward-short (args .table .now) (args .widths .now) (args .missing - 1) path (omega (arith, some, size)) _)
 
-  fan-is : fan ≡ getD (args .fans .now) (last t known) 0
-  fan-is = c .before .wide .ensures .0
+  width-is : width ≡ getD (args .widths .now) (last t known) 0
+  width-is = c .before .wide .ensures .0
 
-  -- the row of the last segment's successors is in the table
-  inside : (last t known < 128) × (fan ≤ 128) × (length (args .table .now) ≡ 16384)
+  -- the fan of the last segment is in the table
+  inside : (last t known < 128) × (width ≤ 128) × (length (args .table .now) ≡ 16384)
   inside =
       let k = covered t known in
-      (covered-number k, omega (arith, fan-is, covered-fan k), k .held .tableLong)
+      (covered-number k, omega (arith, width-is, covered-width k), k .held .tableLong)
 
-  whole : each (upTo fan) paths ≡ extendBy (args .table .now) (args .fans .now) (args .missing) path
+  whole : each (upTo width) paths ≡ extendBy (args .table .now) (args .widths .now) (args .missing) path
   unfolding successorsBy
   whole =
-      let on = onward (args .table .now) (args .fans .now) (args .missing - 1) path in
-      ap (λ (n : ℕ). each (upTo n) paths) fan-is
-      ∙ each-slice on 0 (args .table .now) (last t known * 128) (getD (args .fans .now) (last t known) 0) (omega (arith, inside, fan-is))
-      ∙ ap (λ (d : ℕ). each (successorsBy (args .table .now) (args .fans .now) d) on) (known .last-of .ensures)
-      ∙ sym (extend-more (args .table .now) (args .fans .now) (args .missing) path some)
+      let on = onward (args .table .now) (args .widths .now) (args .missing - 1) path in
+      ap (λ (n : ℕ). each (upTo n) paths) width-is
+      ∙ each-slice on 0 (args .table .now) (last t known * 128) (getD (args .widths .now) (last t known) 0) (omega (arith, inside, width-is))
+      ∙ ap (λ (d : ℕ). each (successorsBy (args .table .now) (args .widths .now) d) on) (known .last-of .ensures)
+      ∙ sym (extend-more (args .table .now) (args .widths .now) (args .missing) path some)
 
   -- at the end the tables and the count are what the contract says
-  done : (fan ≤ c .loop .i) ⊎ (257 ≤ c .loop .found)
-      → Listed (args .count) (args .runs .now) (extendBy (args .table .now) (args .fans .now) (args .missing) path)
+  done : (width ≤ c .loop .i) ⊎ (257 ≤ c .loop .found)
+      → Listed (args .count) (args .runs .now) (extendBy (args .table .now) (args .widths .now) (args .missing) path)
       (c .loop .found) (c .loop .runs)
-  done h = rw whole at (listed-end paths (c .loop .inv .1) (are-short (c .loop .i)) fan (c .loop .inv .0) h)
+  done h = rw whole at (listed-end paths (c .loop .inv .1) (are-short (c .loop .i)) width (c .loop .inv .0) h)
 
 loop-holds : (t : ℕ) → lts.Need-loop-holds (calls t) (extend-at t) extend.Post Inv-loop μ-loop
 loop-holds t c = (omega arith, rw each-nothing (listed-none _ _ (omega arith)))
@@ -186,11 +186,11 @@ module _ (t : ℕ) (c : lts.After-wide2 (calls t) (extend-at t) extend.Post Inv-
   abbrev d : ℕ
   d = c .wide2 .result
 
-  next : Covered (args t looped .table .now) (args t looped .fans .now) d
+  next : Covered (args t looped .table .now) (args t looped .widths .now) d
   next =
       let l = known t looped in
-      subst (λ (d : ℕ). Covered (args t looped .table .now) (args t looped .fans .now) d) (sym (c .wide2 .ensures .0))
-      (covered-next (covered t l) (looped .loop .i) (omega (arith, fan-is t looped, c .before .before .before .loop-test .taken)))
+      subst (λ (d : ℕ). Covered (args t looped .table .now) (args t looped .widths .now) d) (sym (c .wide2 .ensures .0))
+      (covered-next (covered t l) (looped .loop .i) (omega (arith, width-is t looped, c .before .before .before .loop-test .taken)))
 
   -- whether the path has used its segment
   used : (b : Bool) → has (d / 2) (map segmentOf (path t looped)) ≡ b
@@ -220,7 +220,7 @@ extend-requires t c κs =
     let on : lastOr 0 (pathOf (c .pushed .result)) ≡ d t w = rw (path-of ds e) (last-append (path t l) 0 (d t w)) in (
       omega arith,
       (
-        subst (λ (d : ℕ). Covered (args t l .table .now) (args t l .fans .now) d) (sym on) (next t w),
+        subst (λ (d : ℕ). Covered (args t l .table .now) (args t l .widths .now) d) (sym on) (next t w),
         listed-long (l .loop .inv .1) ∙ p .1,
         omega (arith, ltb-true),
         path-packed ds e,
@@ -246,15 +246,15 @@ loop-again t c =
     let i = l .loop .i in
     let a = args t l in
     let at = getD (a .table .now) (last t (known t l) * 128 + i) 0 in
-    let more = onward-taken (a .table .now) (a .fans .now) (a .missing - 1) (path t l) at in
-    let none = onward-left (a .table .now) (a .fans .now) (a .missing - 1) (path t l) at in
-    let same = ap (λ (k : ℕ). extendBy (a .table .now) (a .fans .now) (a .missing - 1) (path t l ++ one k))
+    let more = onward-taken (a .table .now) (a .widths .now) (a .missing - 1) (path t l) at in
+    let none = onward-left (a .table .now) (a .widths .now) (a .missing - 1) (path t l) at in
+    let same = ap (λ (k : ℕ). extendBy (a .table .now) (a .widths .now) (a .missing - 1) (path t l ++ one k))
     (sym (w .wide2 .ensures .0)) in (
       omega arith,
       ⊎-elim
           (λ v.
           let e = more (used t w false (sym (u .uses .ensures) ∙ turned (v .0 .taken))) ∙ same
-          ∙ ap (extendBy (a .table .now) (a .fans .now) (a .missing - 1)) (sym (path-of _ (v .2 .ensures))) in
+          ∙ ap (extendBy (a .table .now) (a .widths .now) (a .missing - 1)) (sym (path-of _ (v .2 .ensures))) in
           let k = v .3 .ensures in
           rw (v .6, v .7)
           (listed-next (paths t l) (l .loop .inv .1) (are-short t l i) (rw e (record { counted = k .0; filled = k .1 }))))

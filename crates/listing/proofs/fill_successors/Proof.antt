@@ -1,4 +1,4 @@
--- `listing::fill_successors` meets its contract. The loop's invariant: the tables are as they were, with the rows of the first d
+-- `listing::fill_successors` meets its contract. The loop's invariant: the tables are as they were, with the fans of the first d
 -- directed segments written, and how many stand in each. Assumes nothing.
 use borrow.Author.Needs.{needs}
 use native.Mathlib.Nat.{zero-add}
@@ -12,34 +12,34 @@ use lib.ListN.{length, set, length-set}
 use lib.Seq.{sets}
 use Rattle.spec.specs.Lists.{upTo, count}
 use Rattle.spec.specs.Held.{held}
-use Rattle.listing.specs.Listed.{successors, successorRows, fansOf}
+use Rattle.listing.specs.Listed.{successors, successorTable, fanWidths}
 use Rattle.listing.proofs.Leaves.{sets-map-next}
 use Rattle.listing.proofs.fill_successors.Statement.{statement}
 use Rattle.listing.proofs.fill_successors.Tie as tie
 
 abbrev Inv-loop : tie.InvT-loop
-Inv-loop b table₀ fans₀ n d₀ table fans d =
-    (d ≤ n) × (length table ≡ length table₀) × (length fans ≡ length fans₀)
-    × (table ≡ successorRows (held b) d table₀) × (fans ≡ sets fans₀ 0 (fansOf (held b) d))
+Inv-loop b table₀ fans₀ n d₀ table widths d =
+    (d ≤ n) × (length table ≡ length table₀) × (length widths ≡ length fans₀)
+    × (table ≡ successorTable (held b) d table₀) × (widths ≡ sets fans₀ 0 (fanWidths (held b) d))
 
 abbrev μ-loop : tie.MeasureT-loop
-μ-loop b table₀ fans₀ n d₀ table fans d = n - d
+μ-loop b table₀ fans₀ n d₀ table widths d = n - d
 
 mul-n : tie.Need-mul-n Inv-loop μ-loop
 mul-n c = omega arith
 
 loop-holds : tie.Need-loop-holds Inv-loop μ-loop
-unfolding successorRows fansOf upTo count
+unfolding successorTable fanWidths upTo count
 loop-holds c = (omega arith, refl, refl, refl, refl)
 
-fill-row-requires : tie.Need-fill-row-requires Inv-loop μ-loop
-fill-row-requires c κs = search needs
+fill-fan-requires : tie.Need-fill-fan-requires Inv-loop μ-loop
+fill-fan-requires c κs = search needs
 
-cast-fans : tie.Need-cast-fans Inv-loop μ-loop
-cast-fans c = search needs
+cast-widths : tie.Need-cast-widths Inv-loop μ-loop
+cast-widths c = search needs
 
-slice-write-fans : tie.Need-slice-write-fans Inv-loop μ-loop
-slice-write-fans c = omega arith
+slice-write-widths : tie.Need-slice-write-widths Inv-loop μ-loop
+slice-write-widths c = omega arith
 
 add-d : tie.Need-add-d Inv-loop μ-loop
 add-d c = omega arith
@@ -48,22 +48,22 @@ loop-less : tie.Need-loop-less Inv-loop μ-loop
 loop-less c = omega arith
 
 loop-again : tie.Need-loop-again Inv-loop μ-loop
-unfolding successorRows fansOf
+unfolding successorTable fanWidths
 loop-again c =
     let s = c .before .before .before .before .before in
     let a = s .before .before .before .before .args in
     let d = s .loop .d in
     let b = held (a .b) in
-    let call = c .before .before .fill-row in (
+    let call = c .before .before .fill-fan in (
       omega arith,
       call .kept .1 .1 .0 ∙ s .loop .inv .1,
       simp length-set (s .loop .inv .2),
       call .ensures .2
           ∙ ap (λ (table : List ℕ). sets table (d * 128) (successors b d)) (s .loop .inv .3)
-          ∙ ap (λ (k : ℕ). successorRows b k (now (a .table))) (sym (add-one d)),
-      ap₂ (λ (fans : List ℕ) (x : ℕ). set fans d x) (s .loop .inv .4) (call .ensures .0)
-          ∙ ap (λ (k : ℕ). set (sets (now (a .fans)) 0 (fansOf b d)) k (length (successors b d))) (sym (zero-add d))
-          ∙ sets-map-next (λ d. length (successors b d)) (now (a .fans)) 0 d,
+          ∙ ap (λ (k : ℕ). successorTable b k (now (a .table))) (sym (add-one d)),
+      ap₂ (λ (widths : List ℕ) (x : ℕ). set widths d x) (s .loop .inv .4) (call .ensures .0)
+          ∙ ap (λ (k : ℕ). set (sets (now (a .widths)) 0 (fanWidths b d)) k (length (successors b d))) (sym (zero-add d))
+          ∙ sets-map-next (λ d. length (successors b d)) (now (a .widths)) 0 d,
     )
 
 same-length : tie.Need-same-length Inv-loop μ-loop
@@ -77,8 +77,8 @@ returns c =
     let s = c .before in
     let a = s .before .before .before .before .args in
     let done : s .loop .d ≡ 2 * a .b .«segment_count» = omega arith in (
-      s .loop .inv .3 ∙ ap (λ (k : ℕ). successorRows (held (a .b)) k (now (a .table))) done,
-      s .loop .inv .4 ∙ ap (λ (k : ℕ). sets (now (a .fans)) 0 (fansOf (held (a .b)) k)) done,
+      s .loop .inv .3 ∙ ap (λ (k : ℕ). successorTable (held (a .b)) k (now (a .table))) done,
+      s .loop .inv .4 ∙ ap (λ (k : ℕ). sets (now (a .widths)) 0 (fanWidths (held (a .b)) k)) done,
     )
 
 pub fill-successors-spec : {M : Type 1} → statement M
@@ -89,9 +89,9 @@ fill-successors-spec =
     μ-loop
     mul-n
     loop-holds
-    fill-row-requires
-    cast-fans
-    slice-write-fans
+    fill-fan-requires
+    cast-widths
+    slice-write-widths
     add-d
     loop-less
     loop-again

@@ -14,11 +14,11 @@ use Rattle.listing.proofs.list_further.Statement.{statement}
 use Rattle.listing.proofs.list_further.Tie as tie
 
 abbrev Inv-loop : tie.InvT-loop
-Inv-loop table fans runs₀ places l k found₀ j₀ runs found j =
-    (j ≤ k) × Listed places runs₀ (furtherBy table fans (placesIn runs₀ l places) j) found runs
+Inv-loop table widths runs₀ places l k found₀ j₀ runs found j =
+    (j ≤ k) × Listed places runs₀ (furtherBy table widths (placesIn runs₀ l places) j) found runs
 
 abbrev μ-loop : tie.MeasureT-loop
-μ-loop table fans runs₀ places l k found₀ j₀ runs found j = k - j
+μ-loop table widths runs₀ places l k found₀ j₀ runs found j = k - j
 
 loop-holds : tie.Need-loop-holds Inv-loop μ-loop
 unfolding furtherBy
@@ -32,8 +32,8 @@ module _ (c : tie.At-loop Inv-loop μ-loop) where
   abbrev table : Bytes
   table = start .args .table .now
 
-  abbrev fans : Bytes
-  fans = start .args .fans .now
+  abbrev widths : Bytes
+  widths = start .args .widths .now
 
   abbrev l : ℕ
   l = start .args .l
@@ -41,10 +41,10 @@ module _ (c : tie.At-loop Inv-loop μ-loop) where
   abbrev places : List (List ℕ)
   places = placesIn (start .args .runs .now) l (start .args .places)
 
-  are-short : T (all short (furtherBy table fans places (c .loop .j)))
+  are-short : T (all short (furtherBy table widths places (c .loop .j)))
   are-short =
       let p = start .pre in
-      further-short table fans (start .args .runs .now) l (start .args .places) (c .loop .j) (omega arith)
+      further-short table widths (start .args .runs .now) l (start .args .places) (c .loop .j) (omega arith)
 
   l-fits : l ≤ 16
   l-fits = let p = start .pre in omega arith
@@ -68,7 +68,7 @@ loop-again c =
     let e = c .before .before .list-longer .ensures in
     let at = c .before .before .before .before .before in (
       omega arith,
-      listed-next (λ j. longerBy (table at) (fans at) (places at) (j + 1)) (at .loop .inv .1) (are-short at)
+      listed-next (λ j. longerBy (table at) (widths at) (places at) (j + 1)) (at .loop .inv .1) (are-short at)
           (rw (← places-stay (at .loop .inv .1) (l at) (l-fits at)) (record { counted = e .0; filled = e .1 })),
     )
 

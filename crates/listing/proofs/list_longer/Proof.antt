@@ -17,11 +17,11 @@ use Rattle.listing.proofs.list_longer.Statement.{statement}
 use Rattle.listing.proofs.list_longer.Tie as tie
 
 abbrev Inv-loop : tie.InvT-loop
-Inv-loop table fans runs₀ places count l missing found₀ place₀ runs found place =
-    (place ≤ places) × Listed count runs₀ (each (upTo place) (from table fans runs₀ l missing)) found runs
+Inv-loop table widths runs₀ places count l missing found₀ place₀ runs found place =
+    (place ≤ places) × Listed count runs₀ (each (upTo place) (from table widths runs₀ l missing)) found runs
 
 abbrev μ-loop : tie.MeasureT-loop
-μ-loop table fans runs₀ places count l missing found₀ place₀ runs found place = places - place
+μ-loop table widths runs₀ places count l missing found₀ place₀ runs found place = places - place
 
 -- what is known at the loop
 module _ (c : tie.At-loop Inv-loop μ-loop) where
@@ -31,8 +31,8 @@ module _ (c : tie.At-loop Inv-loop μ-loop) where
   abbrev table : Bytes
   table = start .args .table .now
 
-  abbrev fans : Bytes
-  fans = start .args .fans .now
+  abbrev widths : Bytes
+  widths = start .args .widths .now
 
   abbrev runs : Bytes
   runs = start .args .runs .now
@@ -45,17 +45,17 @@ module _ (c : tie.At-loop Inv-loop μ-loop) where
 
   -- the paths that extend a place
   abbrev paths : ℕ → List (List ℕ)
-  paths = from table fans runs l missing
+  paths = from table widths runs l missing
 
   are-short : T (all short (each (upTo (c .loop .place)) paths))
-  are-short = from-short table fans runs l (c .loop .place) missing (start .pre .4)
+  are-short = from-short table widths runs l (c .loop .place) missing (start .pre .4)
 
   -- at the end the tables and the count are what the contract says
   done : (start .args .places ≤ c .loop .place) ⊎ (257 ≤ c .loop .found)
-      → Listed (start .args .count) runs (longerBy table fans (placesIn runs l (start .args .places)) missing)
+      → Listed (start .args .count) runs (longerBy table widths (placesIn runs l (start .args .places)) missing)
       (c .loop .found) (c .loop .runs)
   done h =
-      rw (longer-from table fans runs l (start .args .places) missing)
+      rw (longer-from table widths runs l (start .args .places) missing)
       (listed-end paths (c .loop .inv .1) are-short (start .args .places) (c .loop .inv .0) h)
 
 -- a turn: there is room, and so the place stands in the table
@@ -90,7 +90,7 @@ extend-requires c κs =
     let place = placeIn (at .loop .runs) (l at) (at .loop .place) in
     let long = listed-long (at .loop .inv .1) ∙ p .0 in
     let size = path-size place e ∙ place-long (at .loop .runs) (l at) (at .loop .place) (omega (arith, few t)) in (
-      subst (λ (path : List ℕ). Covered (table at) (fans at) (lastOr 0 path)) (sym (path-of place e ∙ stays t))
+      subst (λ (path : List ℕ). Covered (table at) (widths at) (lastOr 0 path)) (sym (path-of place e ∙ stays t))
           (p .5 (few t) (at .loop .place) (omega arith)),
       long,
       omega (arith, ltb-true),
@@ -105,7 +105,7 @@ loop-again c =
     let at = looped t in
     let e = c .before .before .extend .ensures in
     let same = path-of _ (c .before .before .before .before .path-at .ensures) ∙ stays t in
-    let on = ap (extendBy (table at) (fans at) (missing at)) (sym same) in (
+    let on = ap (extendBy (table at) (widths at) (missing at)) (sym same) in (
       omega arith,
       listed-next (paths at) (at .loop .inv .1) (are-short at) (rw on (record { counted = e .0; filled = e .1 })),
     )

@@ -17,20 +17,20 @@ use Rattle.listing.proofs.list_paths.Statement.{statement}
 use Rattle.listing.proofs.list_paths.Tie as tie
 
 abbrev Inv-loop : tie.InvT-loop
-Inv-loop table fans directed runs₀ size found₀ d₀ runs found d =
-    (d ≤ directed) × Listed 0 runs₀ (each (upTo d) (λ i. extendBy table fans (size - 1) (one i))) found runs
+Inv-loop table widths directed runs₀ size found₀ d₀ runs found d =
+    (d ≤ directed) × Listed 0 runs₀ (each (upTo d) (λ i. extendBy table widths (size - 1) (one i))) found runs
 
 abbrev μ-loop : tie.MeasureT-loop
-μ-loop table fans directed runs₀ size found₀ d₀ runs found d = directed - d
+μ-loop table widths directed runs₀ size found₀ d₀ runs found d = directed - d
 
 -- the paths that start over a directed segment
 module _ (s : tie.Start Inv-loop μ-loop) where
   abbrev from : ℕ → List (List ℕ)
-  from d = extendBy (s .args .table .now) (s .args .fans .now) (s .args .size - 1) (one d)
+  from d = extendBy (s .args .table .now) (s .args .widths .now) (s .args .size - 1) (one d)
 
   are-short : (d : ℕ) → T (all short (each (upTo d) from))
   are-short d =
-      each-short from d (λ i _. extend-short (s .args .table .now) (s .args .fans .now) (s .args .size - 1) (one i) (omega arith))
+      each-short from d (λ i _. extend-short (s .args .table .now) (s .args .widths .now) (s .args .size - 1) (one i) (omega arith))
 
 -- at the end the tables and the count are what the contract says
 module _ (c : tie.At-loop Inv-loop μ-loop) where
@@ -39,7 +39,7 @@ module _ (c : tie.At-loop Inv-loop μ-loop) where
 
   done : (start .args .directed ≤ c .loop .d) ⊎ (257 ≤ c .loop .found)
       → Listed 0 (start .args .runs .now)
-      (pathsBy (start .args .table .now) (start .args .fans .now) (start .args .directed) (start .args .size))
+      (pathsBy (start .args .table .now) (start .args .widths .now) (start .args .directed) (start .args .size))
       (c .loop .found) (c .loop .runs)
   unfolding pathsBy
   done h = listed-end (from start) (c .loop .inv .1) (are-short start (c .loop .d)) (start .args .directed) (c .loop .inv .0) h

@@ -53,7 +53,7 @@ module _ (c : tie.After-speed-in-segments) where
 
   -- the paths of l segments
   abbrev first : List (List ℕ)
-  first = pathsBy (start .args .table .now) (start .args .fans .now) directed l
+  first = pathsBy (start .args .table .now) (start .args .widths .now) directed l
 
   first-fit : T (all (fits b l) first)
   first-fit = paths-fit (start .pre .6) directed l directed-is (bounds .0)
@@ -126,22 +126,22 @@ module _ (c : tie.After-list-further) where
   abbrev table : Bytes
   table = given a .args .table .now
 
-  abbrev fans : Bytes
-  fans = given a .args .fans .now
+  abbrev widths : Bytes
+  widths = given a .args .widths .now
 
   -- the tables and the count after further runs
   abbrev After : List (List ℕ) → Type 0
   After further =
       Listed (found a) (runs a) further (c .list-further .result) (c .list-further .last .1 .1 .0)
 
-  came : After (furtherBy table fans (placesIn (runs a) (l (known a)) (found a)) (k (known a)))
+  came : After (furtherBy table widths (placesIn (runs a) (l (known a)) (found a)) (k (known a)))
   came = let e = c .list-further .ensures in record { counted = e .0; filled = e .1 }
 
-  more : After (furtherBy table fans (first (known a)) (k (known a)))
+  more : After (furtherBy table widths (first (known a)) (k (known a)))
   more =
       ⊎-elim
       (λ few. rw (back a few) at came)
-      (λ full. listed-any came (furtherBy table fans (first (known a)) (k (known a))) full)
+      (λ full. listed-any came (furtherBy table widths (first (known a)) (k (known a))) full)
       (le-or-lt (found a) 256)
 
   all-listed : Listed 0 (given a .args .runs .now) (runsOf (b (known a)) (t (known a)))

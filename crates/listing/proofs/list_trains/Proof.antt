@@ -37,12 +37,12 @@ abbrev counted : BookStruct → ℕ → ℕ
 counted b i = countAfter 0 (runsAt (held b) i)
 
 abbrev Inv-loop : tie.InvT-loop
-Inv-loop runs₀ b n table fans counts₀ i₀ runs counts i =
-    (i ≤ n) × SuccessorsHeld (held b) table fans × (length runs ≡ tableBytes)
+Inv-loop runs₀ b n table widths counts₀ i₀ runs counts i =
+    (i ≤ n) × SuccessorsHeld (held b) table widths × (length runs ≡ tableBytes)
     × (counts ≡ padded 8 0 (map (counted b) (upTo i))) × (runs ≡ filled (turned b) trainBytes i runs₀)
 
 abbrev μ-loop : tie.MeasureT-loop
-μ-loop runs₀ b n table fans counts₀ i₀ runs counts i = n - i
+μ-loop runs₀ b n table widths counts₀ i₀ runs counts i = n - i
 
 module _ (s : tie.Start Inv-loop μ-loop) where
   segments : length (s .args .t1 .segments) ≡ 64
@@ -137,7 +137,7 @@ list-trains-spec =
     (λ c. omega (arith, below c, room (start c)))
     (λ c. omega (arith, few (c .before)))
     (λ c. sym (c .before .before .before .loop .inv .1 .tableLong))
-    (λ c. sym (c .before .before .before .before .loop .inv .1 .fansLong))
+    (λ c. sym (c .before .before .before .before .loop .inv .1 .widthsLong))
     (λ c. omega (arith, few (c .before .before .before)))
     (λ c. omega (arith, few (c .before .before .before)))
     (λ c. omega (arith, fits (c .before .before .before)))

@@ -9,7 +9,7 @@ use lib.ListN.{getD, set}
 use lib.Seq.{slice, slice-empty}
 use Rattle.spec.specs.Held.{padded}
 use Rattle.laws.proofs.Arrays.{padded-next}
-use Rattle.listing.specs.Listed.{packedPath, entryAt, placeIn}
+use Rattle.listing.specs.Listed.{packedPath, entryAt, placeAt}
 use Rattle.listing.proofs.Successors.{length-part, slice-snoc}
 use Rattle.listing.proofs.path_at.Statement.{statement}
 use Rattle.listing.proofs.path_at.Tie as tie
@@ -42,7 +42,7 @@ loop-again c =
     )
 
 returns : tie.Need-returns Inv-loop μ-loop
-unfolding packedPath placeIn
+unfolding packedPath placeAt
 returns c =
     let l = c .before in
     let a = l .before .args in

@@ -1,4 +1,4 @@
--- `listing::pushed` meets its contract: the row in the path's array gets one element more. Assumes nothing.
+-- `listing::pushed` meets its contract: the list in the path's array gets one element more. Assumes nothing.
 use borrow.Author.Needs.{needs}
 use Rattle.listing.proofs.Leaves.{path-next}
 use Rattle.listing.proofs.pushed.Statement.{statement}

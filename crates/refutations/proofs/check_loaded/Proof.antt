@@ -6,26 +6,25 @@ use native.Mathlib.Nat.{le-refl}
 use native.Mathlib.Omega.{arith}
 use mathlib.Core.Path.{_≡_, refl, sym, ap, _∙_, subst}
 use mathlib.Core.Logic.{inl, inr}
-use Prim.Native.Nat.{ℕ, _≤_, _<_}
+use Prim.Native.Nat.{ℕ, _<_}
 use mathlib.Core.List.{List}
 use denote.Ref.{now}
 use lib.ListN.{length, take}
-use lib.Seq.{sets, length-take-le}
+use lib.Seq.{length-take-le}
 use lib.Dec.{T}
 use Rattle.spec.specs.Instance.{Instance, instanceOf}
-use Rattle.spec.specs.Formula.{Clause, formula, variables, wordsOf}
+use Rattle.spec.specs.Formula.{formula, variables, wordsOf}
 use Rattle.spec.specs.Refutation.{Lent, clausesOf, inRange}
 use Rattle.spec.specs.Held.{held}
 use Rattle.demands.proofs.Words.{formula-in-range}
 use Rattle.demands.proofs.Wellformed.{sound}
 use Rattle.tables.specs.Tables.{Passed}
 use Rattle.tables.proofs.Small.{all-variables, first-small, passed-few}
-use Rattle.propagation.specs.Kept.{startsFrom}
-use Rattle.refutation_steps.specs.declared.one_step.Filled.{Filled}
+use Rattle.refutation_steps.specs.declared.one_step.Extent.{Extent}
 use Rattle.refutations.specs.Lent.{lengths}
-use Rattle.refutations.specs.Standing.{Stands}
+use Rattle.refutations.specs.Standing.{hasRoom, Stands}
 use Rattle.refutations.proofs.Lengths.{Room, short, checked}
-use Rattle.refutations.proofs.Loaded.{said, ready}
+use Rattle.refutations.proofs.Loaded.{room-iff, said, ready}
 use Rattle.refutations.proofs.check_loaded.Statement.{statement}
 use Rattle.refutations.proofs.check_loaded.Tie as tie
 
@@ -40,16 +39,19 @@ module _ (v : tie.After-variable-count) where
   abbrev I : Instance
   I = instanceOf (held (start .args .b))
 
-  abbrev filled : Filled
+  abbrev filled : Extent
   filled = start .args .formula
 
-  stands : Stands I filled (now (start .args .words)) (now (start .args .clauses))
-  stands = start .pre .1
+  word-count : filled .words ≡ length (wordsOf (formula I))
+  word-count = ap (λ (f : Extent). f .words) (start .pre .1)
+
+  clause-count : filled .clauses ≡ length (formula I)
+  clause-count = ap (λ (f : Extent). f .clauses) (start .pre .1)
 
   abbrev lent : Lent
   lent =
       let a = start .args in
-      lengths (now (a .words)) (now (a .clauses)) (now (a .values)) (now (a .trail))
+      lengths (now (a .words)) (now (a .starts)) (now (a .values)) (now (a .trail))
 
   -- the variables: how many, that they are few, and that the formula's literals are of them
   abbrev vars : ℕ
@@ -71,8 +73,8 @@ returns c =
     let v = c .before .before in
     short (I v) _ (lent v) λ r.
     elim (c .if1 .came) [
-      | inl x ↦ omega (arith, r .words, x .taken, stands v .wordCount)
-      | inr x ↦ omega (arith, r .clauses, ltb-true (lent v .clauses) (filled v .clauses) (x .2 .taken), stands v .clauseCount)
+      | inl x ↦ omega (arith, r .words, x .taken, word-count v)
+      | inr x ↦ omega (arith, r .clauses, ltb-true (lent v .clauses) (filled v .clauses) (x .2 .taken), clause-count v)
     ]
 
 returns-2 : tie.Need-returns-2
@@ -99,24 +101,21 @@ module _ (k : tie.After-clear-bytes) where
       let clauses = ltb-false (lent known .clauses) (filled known .clauses) (second .if2 .left) in
       let trail = ltb-false (lent known .trail) (vars known) (fourth .if4 .left) in
       record {
-        words = omega (arith, first .if1 .left, stands known .wordCount);
-        clauses = omega (arith, clauses, stands known .clauseCount);
+        words = omega (arith, first .if1 .left, word-count known);
+        clauses = omega (arith, clauses, clause-count known);
         values = omega (arith, third .if3 .left, variable-count known);
         trail = omega (arith, trail, variable-count known);
       }
 
-  words-fit : filled known .words ≤ length (now (start known .args .words))
-  words-fit = omega (arith, room .words, stands known .wordCount)
+  -- the words in front are the formula's, and say its clauses; where each begins stands in front too
+  stands : Stands (I known) (now (start known .args .words)) (now (start known .args .starts))
+  stands = start known .pre .2
 
-  clauses-fit : filled known .clauses ≤ length (now (start known .args .clauses))
-  clauses-fit = omega (arith, room .clauses, stands known .clauseCount)
-
-  -- the words in front are the formula's, and say its clauses
-  in-front : take (filled known .words) (now (start known .args .words)) ≡ wordsOf (formula (I known))
-  in-front = stands known .front words-fit clauses-fit
+  loaded : T (hasRoom (I known) (now (start known .args .words)) (now (start known .args .starts)))
+  loaded = room-iff (I known) (now (start known .args .words)) (now (start known .args .starts)) .1 (room .words, room .clauses)
 
   are-said : clausesOf (take (filled known .words) (now (start known .args .words))) ≡ formula (I known)
-  are-said = said _ _ (ranged known) in-front
+  are-said = said _ _ (ranged known) (ap (λ (n : ℕ). take n (now (start known .args .words))) (word-count known) ∙ stands .front loaded)
 
   -- as many bytes are handed on as there are variables
   abbrev values : List ℕ
@@ -129,11 +128,10 @@ check-steps-requires : tie.Need-check-steps-requires
 check-steps-requires c κs =
     let k = c .before .before .before .before .before .before in
     let v = known k in
-    let begun = stands v .starts (words-fit k) (clauses-fit k) in
-    ready (vars v) (formula (I v)) (ranged v) (now (start v .args .words)) (begun .0) _ (stands v .wordCount) (stands v .clauseCount)
-    (in-front k) (words-fit k) (omega (arith, clauses-fit k, begun .1))
-    (begun .2 ∙ ap (λ (cs : List Clause). sets (begun .0) 0 (startsFrom 0 cs)) (sym (are-said k))) (k .clear-bytes .ensures)
-    (omega (arith, room k .values, variable-count v)) (omega (arith, room k .trail, variable-count v)) (few v)
+    let r = room k in
+    ready (vars v) (formula (I v)) (ranged v) (now (start v .args .words)) (now (start v .args .starts)) _ (word-count v) (clause-count v)
+    (stands k .front (loaded k)) (stands k .begins (loaded k)) (r .words) (r .clauses) (k .clear-bytes .ensures)
+    (omega (arith, r .values, variable-count v)) (omega (arith, r .trail, variable-count v)) (few v)
 
 returns-3 : tie.Need-returns-3
 returns-3 c =

@@ -38,13 +38,13 @@ returns : tie.Need-returns
 returns c =
     let trail = c .before .before in
     let values = trail .before .before .before .before in
-    let clauses = values .before .before .before .before in
-    let words = clauses .before .before .before in
+    let starts = values .before .before .before .before in
+    let words = starts .before .before .before in
     let r = words .before .before .before .before .before .before .before .before .before .refute in
     let k = r .kept .1 .1 in (
       r .ensures,
       (words .clear-words .ensures ∙ ap (zeroed (pos 0)) (k .0)),
-      (clauses .clear-numbers .ensures ∙ ap (zeroed 0) (k .1 .0)),
+      (starts .clear-numbers .ensures ∙ ap (zeroed 0) (k .1 .0)),
       (values .clear-bytes .ensures ∙ ap (zeroed 0) (k .1 .1 .0)),
       (trail .clear-numbers2 .ensures ∙ ap (zeroed 0) (k .1 .1 .1 .0)),
     )

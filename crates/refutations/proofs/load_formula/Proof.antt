@@ -3,7 +3,7 @@
 use borrow.Author.Needs.{needs}
 use borrow.Author.Tests.{ltb-true, ltb-false}
 use native.Mathlib.Omega.{arith}
-use mathlib.Core.Path.{_≡_, refl, sym, ap, _∙_}
+use mathlib.Core.Path.{_≡_, refl, sym, ap, ap₂, _∙_}
 use mathlib.Core.Logic.{inl, inr}
 use Prim.Native.Nat.{ℕ, _≤_}
 use mathlib.Core.List.{List, _++_}
@@ -19,11 +19,17 @@ use Rattle.spec.specs.Held.{held}
 use Rattle.demands.proofs.Words.{formula-in-range}
 use Rattle.demands.proofs.Wellformed.{sound}
 use Rattle.tables.specs.Tables.{Passed}
+use Rattle.tables.proofs.MeetTables.{take-sets}
 use Rattle.formula.proofs.Totals.{nothing-ahead, walks-from, walk-words, walk-clauses, is-small}
 use Rattle.propagation.specs.Kept.{startsFrom}
-use Rattle.refutations.proofs.Loaded.{front-words, said, closed}
+use Rattle.refutation_steps.specs.declared.one_step.Extent.{Extent}
+use Rattle.refutations.specs.Standing.{extentOf}
+use Rattle.refutations.proofs.Loaded.{words-written, room, no-room, said, closed}
 use Rattle.refutations.proofs.load_formula.Statement.{statement}
 use Rattle.refutations.proofs.load_formula.Tie as tie
+
+abbrev extentBy : ℕ → ℕ → Extent
+extentBy words clauses = record { words = words; clauses = clauses }
 
 -- what holds once the formula is measured
 module _ (m : tie.After-walk-formula) where
@@ -47,6 +53,9 @@ module _ (m : tie.After-walk-formula) where
   clause-count : m .walk-formula .result .clauses ≡ length (formula I)
   clause-count = walk-clauses (start .args .b) passed (m .walk-formula .ensures)
 
+  extent : extentBy (m .walk-formula .result .words) (m .walk-formula .result .clauses) ≡ extentOf I
+  extent = ap₂ extentBy word-count clause-count
+
   -- the formula's literals are of its variables
   ranged : T (inRange (variables I) (formula I))
   ranged = formula-in-range I (sound (held (start .args .b)) (passed .formed))
@@ -55,17 +64,13 @@ returns : tie.Need-returns
 returns c =
     let m = c .before .before .before in
     let r = m .walk-formula .result in
-    let short : r .words ≤ length (now (start m .args .words)) → r .clauses ≤ length (now (start m .args .clauses)) → ⊥ = λ fit room.
+    let old = start m .args in
+    let none = no-room (I m) (now (old .words)) (now (old .starts)) (λ fits.
     elim (c .if1 .came) [
-      | inl x ↦ omega (arith, fit, x .taken, ap length (unwritten m))
-      | inr x ↦ omega (arith, room, ltb-true (length (now (start m .args .clauses))) (r .clauses) (x .2 .taken))
-    ] in
-    record {
-      wordCount = word-count m;
-      clauseCount = clause-count m;
-      front = λ fit room. absurd (short (omega (arith, fit, ap length (unwritten m))) room);
-      starts = λ fit room. absurd (short (omega (arith, fit, ap length (unwritten m))) room);
-    }
+      | inl x ↦ omega (arith, fits .0, x .taken, word-count m, ap length (unwritten m))
+      | inr x ↦ omega (arith, fits .1, clause-count m, ltb-true (length (now (old .starts))) (r .clauses) (x .2 .taken))
+    ]) in
+    (extent m, unwritten m ∙ sym (none .0), sym (none .1))
 
 -- what holds once it is written
 module _ (w : tie.After-walk-formula2) where
@@ -81,21 +86,25 @@ module _ (w : tie.After-walk-formula2) where
       let first = w .before .before .before .before in
       omega (arith, first .if1 .left, word-count measured, ap length (unwritten measured))
 
-  clauses-fit : length (formula (I measured)) ≤ length (now (start measured .args .clauses))
+  clauses-fit : length (formula (I measured)) ≤ length (now (start measured .args .starts))
   clauses-fit =
       let second = w .before .before in
-      let clauses = length (now (start measured .args .clauses)) in
+      let clauses = length (now (start measured .args .starts)) in
       omega (arith, ltb-false clauses (measured .walk-formula .result .clauses) (second .if2 .left), clause-count measured)
 
   -- the slice is as long as it was
   same-size : length words ≡ length (now (start measured .args .words))
   same-size = w .walk-formula2 .kept .1 .1 .1 .1 .1 .1 .0 ∙ ap length (unwritten measured)
 
-  -- the words in front are the formula's
+  -- the formula's words were written
+  were-written : words ≡ sets (now (start measured .args .words)) 0 (wordsOf (formula (I measured)))
+  were-written =
+      words-written (formula (I measured)) _ (is-small _ (passed measured)) (walks-from (unwritten measured) (w .walk-formula2 .ensures))
+
+  -- they are in front
   in-front : take (measured .walk-formula .result .words) words ≡ wordsOf (formula (I measured))
   in-front =
-      front-words (formula (I measured)) _ (word-count measured) words-fit (is-small _ (passed measured))
-      (walks-from (unwritten measured) (w .walk-formula2 .ensures))
+      ap₂ take (word-count measured) were-written ∙ take-sets (now (start measured .args .words)) (wordsOf (formula (I measured))) words-fit
 
   -- and say its clauses
   are-said : clausesOf (take (measured .walk-formula .result .words) words) ≡ formula (I measured)
@@ -111,17 +120,12 @@ returns-2 c =
     let i = c .before .before in
     let w = i .before .before .before .before in
     let m = measured w in
-    let old = now (start m .args .clauses) in
-    record {
-      wordCount = word-count m;
-      clauseCount = clause-count m;
-      front = λ _ _. in-front w;
-      starts = λ _ _. (
-        old,
-        sym (i .index-clauses .kept .1 .0),
-        i .index-clauses .ensures ∙ ap (λ (cs : List Clause). sets old 0 (startsFrom 0 cs)) (are-said w),
-      );
-    }
+    let old = start m .args in
+    let there = room (I m) (now (old .words)) (now (old .starts)) (words-fit w, clauses-fit w) in (
+      extent m,
+      were-written w ∙ sym (there .0),
+      i .index-clauses .ensures ∙ ap (λ (cs : List Clause). sets (now (old .starts)) 0 (startsFrom 0 cs)) (are-said w) ∙ sym (there .1),
+    )
 
 pub load-formula-spec : {M : Type 1} → statement M
 load-formula-spec =

@@ -18,6 +18,7 @@ use Rattle.tables.specs.Ready.{RunsReady, MeetsReady}
 use Rattle.tables.specs.declared.preparing.Prepared.{Prepared}
 use Rattle.tables.proofs.Instances.{went-on, stopped}
 use Rattle.refutations.specs.Lent.{lengths}
+use Rattle.refutations.proofs.Loaded.{loaded-stands}
 use Rattle.refutations.proofs.refute.Statement.{statement}
 use Rattle.refutations.proofs.refute.Tie as tie
 
@@ -30,7 +31,7 @@ module _ (c : tie.After-prepare-chains) where
   abbrev onward : Instance → Verdict (Unit {0})
   onward I =
       let a = start .args in
-      refutedFor I (now (a .r)) (lengths (now (a .words)) (now (a .clauses)) (now (a .values)) (now (a .trail)))
+      refutedFor I (now (a .r)) (lengths (now (a .words)) (now (a .starts)) (now (a .values)) (now (a .trail)))
 
 -- the book is accepted
 module _ (c : tie.After-enum-told) where
@@ -41,8 +42,8 @@ module _ (c : tie.After-enum-told) where
   p = prepared .prepare-chains .result
 
   ready : RunsReady (p .read .book) (p .read .counts) (prepared .prepare-chains .last .1 .0)
-      × (p .meets ≤ length (prepared .prepare-chains .last .1 .1 .1 .0))
-      × MeetsReady (p .read .book) (take (p .meets) (prepared .prepare-chains .last .1 .1 .1 .0))
+      × (p .«meet_bytes» ≤ length (prepared .prepare-chains .last .1 .1 .1 .0))
+      × MeetsReady (p .read .book) (take (p .«meet_bytes») (prepared .prepare-chains .last .1 .1 .1 .0))
   ready = prepared .prepare-chains .ensures .1 (c .enum-told .given .1)
 
 load-formula-requires : tie.Need-load-formula-requires
@@ -89,11 +90,13 @@ refute-spec =
     (λ c. search needs)
     (λ c. search needs)
     (λ c. omega (arith, ready (c .before .before) .1))
-    (λ c. let a = c .before .before .before in sym (length-take-le (p a .meets) (prepared a .prepare-chains .last .1 .1 .1 .0) (ready a .1)))
+    (λ c. let a = c .before .before .before in sym (length-take-le (p a .«meet_bytes») (prepared a .prepare-chains .last .1 .1 .1 .0) (ready a .1)))
     load-formula-requires
     (λ c κs.
     let l = c .before .before .before .before .before .before .before in
-    (ready (told l) .0 .counted, l .load-formula .ensures))
+    let old = start (prepared (told l)) .args in
+    let e = l .load-formula .ensures in
+    (ready (told l) .0 .counted, e .0, loaded-stands _ (now (old .words)) (now (old .starts)) (e .1) (e .2)))
     returns
     (λ c. search needs)
     (λ c. search needs)

@@ -28,8 +28,8 @@ module _ (c : tie.After-enum-told) where
   p = prepared .prepare-chains .result
 
   ready : RunsReady (p .read .book) (p .read .counts) (prepared .prepare-chains .last .1 .0)
-      × (p .meets ≤ length (prepared .prepare-chains .last .1 .1 .1 .0))
-      × MeetsReady (p .read .book) (take (p .meets) (prepared .prepare-chains .last .1 .1 .1 .0))
+      × (p .«meet_bytes» ≤ length (prepared .prepare-chains .last .1 .1 .1 .0))
+      × MeetsReady (p .read .book) (take (p .«meet_bytes») (prepared .prepare-chains .last .1 .1 .1 .0))
   ready = prepared .prepare-chains .ensures .1 (c .enum-told .given .1)
 
 returns : tie.Need-returns
@@ -68,7 +68,7 @@ write-formula-spec =
     (λ c. search needs)
     (λ c. search needs)
     (λ c. omega (arith, ready (c .before .before) .1))
-    (λ c. let a = c .before .before .before in sym (length-take-le (p a .meets) (prepared a .prepare-chains .last .1 .1 .1 .0) (ready a .1)))
+    (λ c. let a = c .before .before .before in sym (length-take-le (p a .«meet_bytes») (prepared a .prepare-chains .last .1 .1 .1 .0) (ready a .1)))
     write-by-requires
     returns
     (λ c. search needs)

@@ -17,8 +17,8 @@ use Rattle.clauses.proofs.Laws.{walks-same}
 use Rattle.demands.proofs.Words.{words-append}
 use Rattle.clauses.proofs.Turns.{Ahead, ahead-start, ahead-same, ahead-pass, ahead-done}
 use Rattle.network.proofs.Walks.{slice-next, slice-end}
-use Rattle.listing.specs.Listed.{trainBytes}
-use Rattle.tables.specs.Placed.{placeAt, sizeAt, startAt, runHeld}
+use Rattle.listing.specs.Listed.{trainBytes, placeAt, startAt}
+use Rattle.tables.specs.Placed.{sizeAt, runHeld}
 use Rattle.formula.proofs.families.claims_of.Statement.{statement}
 use Rattle.formula.proofs.families.claims_of.Tie as tie
 

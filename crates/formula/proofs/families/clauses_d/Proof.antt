@@ -17,7 +17,7 @@ use Rattle.clauses.proofs.Laws.{walks-same, walks-behind, walks-length}
 use Rattle.demands.proofs.Words.{words-append}
 use Rattle.clauses.proofs.Turns.{Ahead, ahead-start, turn, turned}
 use Rattle.listing.proofs.Trains.{noTrain}
-use Rattle.tables.specs.Placed.{placeAt, startAt}
+use Rattle.listing.specs.Listed.{placeAt, startAt}
 use Rattle.tables.proofs.Answers.{given-answer}
 use Rattle.tables.proofs.Held.{few-n, starting-n}
 use Rattle.tables.proofs.Here.{few-trains, size-small, same-train}

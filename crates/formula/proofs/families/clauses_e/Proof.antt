@@ -16,7 +16,8 @@ use Rattle.spec.specs.Held.{held}
 use Rattle.clauses.proofs.Laws.{walks-same, walks-behind, walks-length}
 use Rattle.demands.proofs.Words.{words-append}
 use Rattle.clauses.proofs.Turns.{words-row, Ahead, ahead-start, turn, turned}
-use Rattle.tables.specs.Placed.{placeAt, sizeAt}
+use Rattle.listing.specs.Listed.{placeAt}
+use Rattle.tables.specs.Placed.{sizeAt}
 use Rattle.tables.proofs.Answers.{end-inside, leaves-answer}
 use Rattle.tables.proofs.Held.{few-n, sizes-n, least-n, ending-n}
 use Rattle.tables.proofs.Small.{width-is}

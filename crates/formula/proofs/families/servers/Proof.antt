@@ -15,7 +15,8 @@ use Rattle.spec.specs.Formula.{is, serversF}
 use Rattle.spec.specs.Held.{held}
 use Rattle.clauses.proofs.Laws.{walks-same}
 use Rattle.clauses.proofs.Turns.{Ahead, ahead-start, turn, turned}
-use Rattle.tables.specs.Placed.{placeAt, sizeAt, endAt}
+use Rattle.listing.specs.Listed.{placeAt}
+use Rattle.tables.specs.Placed.{sizeAt, endAt}
 use Rattle.tables.proofs.Answers.{end-inside, serves-answer}
 use Rattle.tables.proofs.Held.{few-n, sizes-n, least-n, ending-n}
 use Rattle.clauses.specs.Walked.{literalRoom}

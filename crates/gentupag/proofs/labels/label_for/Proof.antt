@@ -6,7 +6,8 @@ use mathlib.Core.Path.{_≡_, refl, sym, ap, _∙_}
 use mathlib.Core.Bool.{true}
 use Prim.Native.Nat.{_≤_}
 use denote.Ref.{now}
-use lib.ListN.{length}
+use lib.ListN.{length, replicate}
+use Rattle.spec.specs.Read.{maxSegments}
 use Rattle.spec.specs.Instance.{instanceOf}
 use Rattle.spec.specs.Held.{held}
 use Rattle.spec.specs.Entry.{overwrite}
@@ -61,9 +62,9 @@ write-labels-requires c κs =
     let s = begun e in
     let b = s .args .b in
     let g = l .label-sections .ensures in (
-      omega (arith, labels-long b (s .pre .0) _ _ refl g, s .pre .0 .packed .counts .segments),
+      omega (arith, labels-long b (s .pre .0) (now (s .args .borders)) (replicate maxSegments 0) refl g, s .pre .0 .packed .counts .segments),
       omega (arith, room (e .before .before), segments-is b (s .pre .0)),
-      labels-small b (s .pre .0) _ _ refl g,
+      labels-small b (s .pre .0) (now (s .args .borders)) (replicate maxSegments 0) refl g,
     )
 
 returns-3 : tie.Need-returns-3
@@ -74,7 +75,7 @@ returns-3 c =
     let s = begun e in
     let b = s .args .b in
     labelled-done _ _ _ (room (e .before .before)) (fits e) (segments-is b (s .pre .0))
-    (w .write-labels .ensures ∙ ap (overwrite (now (s .args .out))) (first-labels b (s .pre .0) _ _ refl (l .label-sections .ensures)))
+    (w .write-labels .ensures ∙ ap (overwrite (now (s .args .out))) (first-labels b (s .pre .0) (now (s .args .borders)) (replicate maxSegments 0) refl (l .label-sections .ensures)))
 
 pub label-for-spec : {M : Type 1} → statement M
 label-for-spec =

@@ -10,7 +10,7 @@ use lib.Seq.{slice, slice-empty}
 use Rattle.spec.specs.Held.{padded}
 use Rattle.laws.proofs.Arrays.{padded-next}
 use Rattle.listing.proofs.Successors.{length-part, slice-snoc}
-use Rattle.tables.specs.Placed.{placeAt}
+use Rattle.listing.specs.Listed.{placeAt}
 use Rattle.gentupag.proofs.runs.path_of.Statement.{statement}
 use Rattle.gentupag.proofs.runs.path_of.Tie as tie
 

@@ -27,8 +27,8 @@ module _ (c : tie.After-enum-told) where
   p = prepared .prepare-chains .result
 
   ready : RunsReady (p .read .book) (p .read .counts) (prepared .prepare-chains .last .1 .0)
-      × (p .meets ≤ length (prepared .prepare-chains .last .1 .1 .1 .0))
-      × MeetsReady (p .read .book) (take (p .meets) (prepared .prepare-chains .last .1 .1 .1 .0))
+      × (p .«meet_bytes» ≤ length (prepared .prepare-chains .last .1 .1 .1 .0))
+      × MeetsReady (p .read .book) (take (p .«meet_bytes») (prepared .prepare-chains .last .1 .1 .1 .0))
   ready = prepared .prepare-chains .ensures .1 (c .enum-told .given .1)
 
 returns : tie.Need-returns
@@ -60,7 +60,7 @@ measure-book-spec =
     (λ c. search needs)
     (λ c. search needs)
     (λ c. omega (arith, ready (c .before .before) .1))
-    (λ c. let a = c .before .before .before in sym (length-take-le (p a .meets) (prepared a .prepare-chains .last .1 .1 .1 .0) (ready a .1)))
+    (λ c. let a = c .before .before .before in sym (length-take-le (p a .«meet_bytes») (prepared a .prepare-chains .last .1 .1 .1 .0) (ready a .1)))
     (λ c κs.
     let a = c .before .before .before in
     (ready a .0, prepared a .prepare-chains .ensures .2 (a .enum-told .given .1), ready a .2))

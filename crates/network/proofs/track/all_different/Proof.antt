@@ -1,4 +1,4 @@
--- `track::all_different` meets its contract. Outer invariant: the answer for the row is the answer for what stands from i on.
+-- `track::all_different` meets its contract. Outer invariant: the answer for the place is the answer for what stands from i on.
 -- Inner: that answer is whether i's segment is none of those from j on, and those behind i are different. Assumes nothing.
 use borrow.Author.Needs.{needs}
 use borrow.Author.Tests.{eq-eqb, ne-eqb}
@@ -19,30 +19,30 @@ use Rattle.network.proofs.track.all_different.Tie as tie
 
 -- the directed segments from i up to n are on different segments
 abbrev from : List ℕ → ℕ → ℕ → Bool
-from row n i = different (map segmentOf (slice i n row))
+from place n i = different (map segmentOf (slice i n place))
 
 -- i's segment is none of those from j up to n
 abbrev apart : List ℕ → ℕ → ℕ → ℕ → Bool
-apart row n i j = all (λ d. not (eqb (segmentOf (getD row i 0)) (segmentOf d))) (slice j n row)
+apart place n i j = all (λ d. not (eqb (segmentOf (getD place i 0)) (segmentOf d))) (slice j n place)
 
-from-next : (row : List ℕ) (n i : ℕ) → i < n → n ≤ length row → from row n i ≡ (apart row n i (i + 1) && from row n (i + 1))
+from-next : (place : List ℕ) (n i : ℕ) → i < n → n ≤ length place → from place n i ≡ (apart place n i (i + 1) && from place n (i + 1))
 unfolding different
-from-next row n i l fits =
-    ap (λ (xs : List ℕ). different (map segmentOf xs)) (slice-next row n i 0 l fits)
-    ∙ ap (λ (b : Bool). b && from row n (i + 1))
-    (all-map (λ y. not (eqb (segmentOf (getD row i 0)) y)) segmentOf (slice (i + 1) n row))
+from-next place n i l fits =
+    ap (λ (xs : List ℕ). different (map segmentOf xs)) (slice-next place n i 0 l fits)
+    ∙ ap (λ (b : Bool). b && from place n (i + 1))
+    (all-map (λ y. not (eqb (segmentOf (getD place i 0)) y)) segmentOf (slice (i + 1) n place))
 
 abbrev Inv-loop2 : tie.InvT-loop2
-Inv-loop2 n row i j₀ j = from row n i ≡ (apart row n i j && from row n (i + 1))
+Inv-loop2 n place i j₀ j = from place n i ≡ (apart place n i j && from place n (i + 1))
 
 abbrev μ-loop2 : tie.MeasureT-loop2
-μ-loop2 n row i j₀ j = n - j
+μ-loop2 n place i j₀ j = n - j
 
 abbrev Inv-loop : tie.InvT-loop
-Inv-loop n row i₀ i = from row n 0 ≡ from row n i
+Inv-loop n place i₀ i = from place n 0 ≡ from place n i
 
 abbrev μ-loop : tie.MeasureT-loop
-μ-loop n row i₀ i = n - i
+μ-loop n place i₀ i = n - i
 
 room : (c : tie.Start Inv-loop2 μ-loop2 Inv-loop μ-loop) → c .args .n ≤ length (c .args .t1)
 room c = let e : length (c .args .t1) ≡ 8 = search needs in omega arith
@@ -64,8 +64,8 @@ array-read-if1-2 c = omega arith
 
 -- an inner turn: j's segment, and those behind it
 module _ (c : tie.In-loop2 Inv-loop2 μ-loop2 Inv-loop μ-loop) where
-  abbrev row : List ℕ
-  row = c .before .before .before .before .args .t1
+  abbrev place : List ℕ
+  place = c .before .before .before .before .args .t1
 
   abbrev n : ℕ
   n = c .before .before .before .before .args .n
@@ -76,7 +76,7 @@ module _ (c : tie.In-loop2 Inv-loop2 μ-loop2 Inv-loop μ-loop) where
   abbrev j : ℕ
   j = c .before .loop2 .j
 
-  turn : apart row n i j ≡ (not (eqb (segmentOf (getD row i 0)) (segmentOf (getD row j 0))) && apart row n i (j + 1))
+  turn : apart place n i j ≡ (not (eqb (segmentOf (getD place i 0)) (segmentOf (getD place j 0))) && apart place n i (j + 1))
   turn = all-next _ _ _ 0 (c .loop2-test .taken) (room (c .before .before .before .before)) _
 
 returns : tie.Need-returns Inv-loop2 μ-loop2 Inv-loop μ-loop

@@ -1,4 +1,4 @@
--- `track::all_linked` meets its contract. The loop's invariant: the answer for the row is the answer for what stands from
+-- `track::all_linked` meets its contract. The loop's invariant: the answer for the place is the answer for what stands from
 -- i - 1 on. Assumes nothing.
 use borrow.Author.Needs.{needs}
 use borrow.Author.Tests.{not-true, not-false}
@@ -17,10 +17,10 @@ use Rattle.network.proofs.track.all_linked.Statement.{statement}
 use Rattle.network.proofs.track.all_linked.Tie as tie
 
 abbrev Inv-loop : tie.InvT-loop
-Inv-loop b n row i₀ i = (1 ≤ i) × (linked (held b) (slice 0 n row) ≡ linked (held b) (slice (i - 1) n row))
+Inv-loop b n place i₀ i = (1 ≤ i) × (linked (held b) (slice 0 n place) ≡ linked (held b) (slice (i - 1) n place))
 
 abbrev μ-loop : tie.MeasureT-loop
-μ-loop b n row i₀ i = n - i
+μ-loop b n place i₀ i = n - i
 
 -- the answer for what stands from i on
 abbrev from : tie.Start Inv-loop μ-loop → ℕ → Bool
@@ -29,7 +29,7 @@ from c i = linked (held (c .args .b)) (slice i (c .args .n) (c .args .t2))
 room : (c : tie.Start Inv-loop μ-loop) → c .args .n ≤ length (c .args .t2)
 room c = let e : length (c .args .t2) ≡ 8 = search needs in omega arith
 
--- each directed segment of the row is one of the book
+-- each directed segment of the place is one of the book
 known : (c : tie.Start Inv-loop μ-loop) (k : ℕ) → k < c .args .n → getD (c .args .t2) k 0 < 2 * c .args .b .«segment_count»
 known c k l =
     ltb→lt _ _ (all-take-at (λ d. ltb d (2 * c .args .b .«segment_count»)) (c .args .t2) (c .args .n) k 0 l (room c) (c .pre .2))

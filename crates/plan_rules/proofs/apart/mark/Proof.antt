@@ -8,7 +8,7 @@ use denote.Ref.{now}
 use lib.ListN.{length, getD, set}
 use lib.Seq.{slice}
 use Rattle.spec.specs.Book.{segmentOf}
-use Rattle.tables.specs.Placed.{placeAt}
+use Rattle.listing.specs.Listed.{placeAt}
 use Rattle.plan_rules.specs.Marks.{labelsOf, marking}
 use Rattle.plan_rules.proofs.Marking.{label-here, marking-next, marking-end}
 use Rattle.plan_rules.proofs.apart.mark.Statement.{statement}

@@ -14,7 +14,7 @@ use Rattle.spec.specs.Lists.{Bytes, any}
 use Rattle.spec.specs.Book.{segmentOf}
 use Rattle.laws.proofs.Rows.{any-map}
 use Rattle.network.proofs.Walks.{any-next, any-end}
-use Rattle.tables.specs.Placed.{placeAt}
+use Rattle.listing.specs.Listed.{placeAt}
 use Rattle.plan_rules.specs.Marks.{labelsOf, isMarked}
 use Rattle.plan_rules.proofs.Marking.{label-here}
 use Rattle.plan_rules.proofs.apart.touches.Statement.{statement}

@@ -11,24 +11,24 @@ use mir.Syntax.{w32}
 use mir.Facts.{toZ-ofZ}
 use denote.Ref.{now}
 use Rattle.spec.specs.Lists.{Bytes, one}
-use Rattle.refutation_file.specs.Rows.{numberCount, literalsIn}
+use Rattle.refutation_file.specs.Numbers.{numberCount, literalsIn}
 use Rattle.propagation.proofs.Storing.{Stored, stored-start, stored-next, stored-done}
-use Rattle.refutation_file.proofs.RowNumbers.{literals-length}
+use Rattle.refutation_file.proofs.NumberLists.{literals-length}
 use Rattle.propagation.proofs.clause_table.store_clause.Statement.{statement}
 use Rattle.propagation.proofs.clause_table.store_clause.Tie as tie
 
 -- and the 0 behind them
-length-closed : (row : Bytes) → length (literalsIn row ++ one (pos 0)) ≡ numberCount row + 1
-length-closed row = length-append (literalsIn row) (one (pos 0)) ∙ ap (λ (n : ℕ). n + 1) (literals-length row)
+length-closed : (list : Bytes) → length (literalsIn list ++ one (pos 0)) ≡ numberCount list + 1
+length-closed list = length-append (literalsIn list) (one (pos 0)) ∙ ap (λ (n : ℕ). n + 1) (literals-length list)
 
 abbrev Inv-loop : tie.InvT-loop
-Inv-loop row words₀ at n i₀ words i = (i ≤ n) × Stored words₀ at (literalsIn row ++ one (pos 0)) words i
+Inv-loop list words₀ at n i₀ words i = (i ≤ n) × Stored words₀ at (literalsIn list ++ one (pos 0)) words i
 
 abbrev μ-loop : tie.MeasureT-loop
-μ-loop row words₀ at n i₀ words i = n - i
+μ-loop list words₀ at n i₀ words i = n - i
 
 loop-holds : tie.Need-loop-holds Inv-loop μ-loop
-loop-holds c = (omega arith, stored-start _ _ _ (omega (arith, length-closed (now (c .before .args .row)))))
+loop-holds c = (omega arith, stored-start _ _ _ (omega (arith, length-closed (now (c .before .args .list)))))
 
 literal-at-requires : tie.Need-literal-at-requires Inv-loop μ-loop
 literal-at-requires c κs = search needs
@@ -51,13 +51,13 @@ loop-less c = search needs
 loop-again : tie.Need-loop-again Inv-loop μ-loop
 loop-again c =
     let t = c .before .before in
-    let row = now (t .before .before .args .row) in
-    let l : t .loop .i < length (literalsIn row) = omega (arith, literals-length row) in (
+    let list = now (t .before .before .args .list) in
+    let l : t .loop .i < length (literalsIn list) = omega (arith, literals-length list) in (
       omega arith,
-      stored-next (pos 0) (t .loop .inv .1) (omega (arith, length-closed row))
+      stored-next (pos 0) (t .loop .inv .1) (omega (arith, length-closed list))
           (toZ-ofZ {w = w32} (sfits-of (c .literal-at .ok))
           ∙ c .literal-at .ensures
-          ∙ sym (List·getD-append (literalsIn row) (one (pos 0)) (pos 0) (t .loop .i) l)),
+          ∙ sym (List·getD-append (literalsIn list) (one (pos 0)) (pos 0) (t .loop .i) l)),
     )
 
 add-words : tie.Need-add-words Inv-loop μ-loop
@@ -75,13 +75,13 @@ same-length c = search needs
 returns : tie.Need-returns Inv-loop μ-loop
 returns c =
     let t = c .before in
-    let row = now (t .before .before .args .row) in
-    let e : numberCount row ≡ t .loop .i = omega (arith, t .loop .inv .0) in
+    let list = now (t .before .before .args .list) in
+    let e : numberCount list ≡ t .loop .i = omega (arith, t .loop .inv .0) in
     ap (λ (n : ℕ). set (t .loop .words) (t .before .before .args .at + n) (pos 0)) e
     ∙ stored-done
-    (stored-next (pos 0) (t .loop .inv .1) (omega (arith, length-closed row))
-    (sym (getD-at (literalsIn row) (pos 0) [] (pos 0) (t .loop .i) (literals-length row ∙ e))))
-    (omega (arith, length-closed row))
+    (stored-next (pos 0) (t .loop .inv .1) (omega (arith, length-closed list))
+    (sym (getD-at (literalsIn list) (pos 0) [] (pos 0) (t .loop .i) (literals-length list ∙ e))))
+    (omega (arith, length-closed list))
 
 pub store-clause-spec : {M : Type 1} → statement M
 store-clause-spec =

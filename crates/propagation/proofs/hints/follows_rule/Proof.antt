@@ -9,7 +9,7 @@ use denote.Ref.{now}
 use lib.ListN.{length}
 use Rattle.spec.specs.Refutation.{Values, refuting, goThrough, followsRule, clausesOf}
 use Rattle.spec.specs.Entry.{zeroed}
-use Rattle.refutation_file.specs.Rows.{numbersIn, literalsIn}
+use Rattle.refutation_file.specs.Numbers.{numbersIn, literalsIn}
 use Rattle.propagation.specs.Kept.{Kept}
 use Rattle.propagation.specs.Known.{LeftOnTrail}
 use Rattle.propagation.proofs.Trail.{behind-more, left-here}

@@ -9,17 +9,17 @@ use lib.IntN.{pos}
 use mir.Syntax.{w32}
 use mir.Val.{toZ, ofZ}
 use mir.Facts.{toZ-ofZ}
-use Rattle.refutation_file.specs.Rows.{literalsIn}
-use Rattle.refutation_file.proofs.RowNumbers.{literals-length}
+use Rattle.refutation_file.specs.Numbers.{literalsIn}
+use Rattle.refutation_file.proofs.NumberLists.{literals-length}
 use Rattle.propagation.proofs.Taking.{Taking, taking-start, next, taking-here, taking-next, taking-done}
 use Rattle.propagation.proofs.hints.take_false.Statement.{statement}
 use Rattle.propagation.proofs.hints.take_false.Tie as tie
 
 abbrev Inv-loop : tie.InvT-loop
-Inv-loop row values₀ trail₀ n i₀ values trail i = Taking (literalsIn row) (length values₀) trail₀ values trail i
+Inv-loop list values₀ trail₀ n i₀ values trail i = Taking (literalsIn list) (length values₀) trail₀ values trail i
 
 abbrev μ-loop : tie.MeasureT-loop
-μ-loop row values₀ trail₀ n i₀ values trail i = n - i
+μ-loop list values₀ trail₀ n i₀ values trail i = n - i
 
 loop-holds : tie.Need-loop-holds Inv-loop μ-loop
 loop-holds c = let p = c .before .before .before .pre in taking-start _ _ _ (p .1) (p .2)
@@ -41,15 +41,15 @@ module _ (c : tie.After-literal-at Inv-loop μ-loop) where
   abbrev head : tie.At-loop Inv-loop μ-loop
   head = c .before .before .before .before
 
-  less : head .loop .i < length (literalsIn (start .args .row .now))
-  less = omega (arith, literals-length (start .args .row .now), c .before .before .before .loop-test .taken)
+  less : head .loop .i < length (literalsIn (start .args .list .now))
+  less = omega (arith, literals-length (start .args .list .now), c .before .before .before .loop-test .taken)
 
   found : toZ w32 (ofZ w32 (c .literal-at .result)) ≡ next (head .loop .inv) (start .pre .0) less
   found =
       toZ-ofZ (sfits-of (c .literal-at .ok))
       ∙ c .literal-at .ensures
-      ∙ ap (λ (n : ℕ). getD (literalsIn (start .args .row .now)) (n - 1 - head .loop .i) (pos 0))
-      (sym (literals-length (start .args .row .now)))
+      ∙ ap (λ (n : ℕ). getD (literalsIn (start .args .list .now)) (n - 1 - head .loop .i) (pos 0))
+      (sym (literals-length (start .args .list .now)))
 
 make-false-requires : tie.Need-make-false-requires Inv-loop μ-loop
 make-false-requires c κs =
@@ -76,7 +76,7 @@ same-length-2 c = c .before .loop .inv .space
 
 returns : tie.Need-returns Inv-loop μ-loop
 returns c =
-    let e = literals-length (c .before .before .before .before .before .args .row .now) in
+    let e = literals-length (c .before .before .before .before .before .args .list .now) in
     let d = taking-done (c .before .loop .inv) (omega (arith, e, c .loop-test .left)) in
     (d .0, rw e at (d .1), rw e at (d .2))
 

@@ -13,7 +13,7 @@ use Rattle.spec.specs.Assignment.{truth}
 use Rattle.spec.specs.Refutation.{Values, clauseAt, clausesOf}
 use Rattle.propagation.specs.declared.hints.Value.{Value as Answer}
 use Rattle.propagation.specs.Known.{valuesIn}
-use Rattle.refutation_file.specs.Rows.{numberCount, numbersIn}
+use Rattle.refutation_file.specs.Numbers.{numberCount, numbersIn}
 use Rattle.propagation.proofs.Scan.{Scanning, OpenOne, Ahead, in-words, ahead, read-back, passes, notes, open-one, meant, value-told}
 use Rattle.propagation.proofs.Scan.{ends-true, ends-second, ends-proving, ends-making}
 use Rattle.propagation.proofs.HintTurns.{Gone, hint-fits, sets-out, clause-begins, has-room, goes-on, runs-out, refuses, concludes}

@@ -11,7 +11,7 @@ use lib.ListN.{length, drop}
 use lib.Seq.{length-take-le}
 use Rattle.laws.proofs.Tests.{from-true}
 use Rattle.spec.specs.Refutation.{literalsFit, hintsFit}
-use Rattle.refutation_file.specs.Rows.{numbersIn, literalsIn}
+use Rattle.refutation_file.specs.Numbers.{numbersIn, literalsIn}
 use Rattle.refutation_file.specs.Found.{stepFound}
 use Rattle.refutation_file.specs.declared.steps.Step.the-variants.{Whole}
 use Rattle.refutation_file.proofs.Found.{bad-step}
@@ -47,7 +47,7 @@ literals-at-requires c κs = (start (c .before) .pre .0, whole (c .before))
 hints-at-requires : tie.Need-hints-at-requires
 hints-at-requires c κs = (start (c .before .before) .pre .0, whole (c .before .before))
 
--- its rows are at hand
+-- its lists are at hand
 module _ (c : tie.After-hints-at) where
   abbrev step : tie.After-literals
   step = c .before .before .before
@@ -58,8 +58,8 @@ module _ (c : tie.After-hints-at) where
   given = record {
     ready = start step .pre .1;
     whole = whole step;
-    literalRow = c .before .literals-at .ensures;
-    hintRow = c .hints-at .ensures;
+    literalList = c .before .literals-at .ensures;
+    hintList = c .hints-at .ensures;
   }
 
 says-18 : tie.Need-returns
@@ -67,30 +67,30 @@ says-18 c = (refused-18 (given (c .before .before)) (c .before .literals-fit .en
 
 -- the literals fit
 module _ (c : tie.Else1) where
-  abbrev rows : tie.After-hints-at
-  rows = c .before .before
+  abbrev lists : tie.After-hints-at
+  lists = c .before .before
 
-  fit : literalsFit (length (now (start (step rows) .args .values))) (literalsIn (now (rows .before .literals-at .result))) ≡ true
+  fit : literalsFit (length (now (start (step lists) .args .values))) (literalsIn (now (lists .before .literals-at .result))) ≡ true
   fit = sym (c .before .literals-fit .ensures) ∙ not-false _ (c .if1 .left)
 
 says-19 : tie.Need-returns-2
 says-19 c =
     let l = c .before .before in
-    (refused-19 (given (rows l)) (fit l) (c .before .hints-fit .ensures) (c .if2 .taken), (refl, refl, refl, left-alone))
+    (refused-19 (given (lists l)) (fit l) (c .before .hints-fit .ensures) (c .if2 .taken), (refl, refl, refl, left-alone))
 
 -- and so do the hints
 module _ (c : tie.Else2) where
   abbrev fitting : tie.Else1
   fitting = c .before .before
 
-  known : hintsFit (start (step (rows fitting)) .args .filled .clauses + 1) (numbersIn (now (rows fitting .hints-at .result))) ≡ true
+  known : hintsFit (start (step (lists fitting)) .args .filled .clauses + 1) (numbersIn (now (lists fitting .hints-at .result))) ≡ true
   known = sym (c .before .hints-fit .ensures) ∙ not-false _ (c .if2 .left)
 
 says-12 : tie.Need-returns-3
 says-12 c =
     let k = c .before in
     let l = fitting k in (
-      ⊎-elim (λ w. few-words (given (rows l)) (fit l) (known k) (w .taken)) (λ w. no-entry (given (rows l)) (fit l) (known k) (w .1 .taken))
+      ⊎-elim (λ w. few-words (given (lists l)) (fit l) (known k) (w .taken)) (λ w. no-entry (given (lists l)) (fit l) (known k) (w .1 .taken))
           (c .if3 .came),
       (refl, refl, refl, left-alone),
     )
@@ -101,10 +101,10 @@ module _ (c : tie.Else4) where
   named = c .before .before
 
   abbrev first : tie.Start
-  first = start (step (rows (fitting named)))
+  first = start (step (lists (fitting named)))
 
   entry : first .args .filled .clauses < length (now (first .args .starts))
-  entry = entry-room (given (rows (fitting named))) (c .if4 .left)
+  entry = entry-room (given (lists (fitting named))) (c .if4 .left)
 
 slice-aggregate-follows-rule : tie.Need-slice-aggregate-follows-rule
 slice-aggregate-follows-rule c =
@@ -142,14 +142,14 @@ says-20 c =
     let x = roomy (c .before) in
     let k = named x in
     let rule = tried (c .before) .follows-rule .ensures in (
-      refused-20 (given (rows (fitting k))) (fit (fitting k)) (known k) (x .before .if3 .left) (x .if4 .left) (rule .0) (c .if5 .taken),
+      refused-20 (given (lists (fitting k))) (fit (fitting k)) (known k) (x .before .if3 .left) (x .if4 .left) (rule .0) (c .if5 .taken),
       (refl, refl, rule .1, rule .2),
     )
 
 store-clause-requires : tie.Need-store-clause-requires
 store-clause-requires c κs =
     let x = roomy (c .before .before) in
-    words-room (given (rows (fitting (named x)))) (x .before .if3 .left)
+    words-room (given (lists (fitting (named x)))) (x .before .if3 .left)
 
 -- it holds, and the clause is stored
 module _ (c : tie.After-words) where
@@ -169,7 +169,7 @@ says-proved c =
     let x = roomy (ruled c .before) in
     let k = named x in
     let rule = tried (ruled c .before) .follows-rule in
-    step-proved (given (rows (fitting k))) (fit (fitting k)) (known k) (x .before .if3 .left) (x .if4 .left) (rule .ensures .0)
+    step-proved (given (lists (fitting k))) (fit (fitting k)) (known k) (x .before .if3 .left) (x .if4 .left) (rule .ensures .0)
     (ruled c .if5 .left) (c .before .store-clause .ensures) refl (rule .ensures .1) (rule .kept .1 .1 .1 .1 .1 .0) (rule .ensures .2)
 
 pub check-step-spec : {M : Type 1} → statement M

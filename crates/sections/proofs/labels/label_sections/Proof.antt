@@ -11,7 +11,7 @@ use Prim.Native.Nat.{ℕ, _+_, _-_, _≤_, _<_}
 use denote.Ref.{now}
 use lib.ListN.{length, getD}
 use lib.Dec.{eqb}
-use Rattle.tables.specs.Placed.{bordersOf}
+use Rattle.spec.specs.Plan.{bordersOf}
 use Rattle.laws.proofs.Tests.{from-true, from-denied}
 use Rattle.sections.proofs.Labelled.{Labelled, labelled-start, labelled-meets, labelled-border, labelled-open, labelled-end}
 use Rattle.sections.proofs.labels.label_sections.Statement.{statement}
@@ -111,7 +111,6 @@ module _ (c : tie.Joined1 Inv-loop μ-loop) where
   -- the node's test is the one of the table's byte
   node-is : (x : Bool) → eqb (getD (now (start .args .borders)) (c .before .before .wide .result) 0) 1 ≡ x
       → bordersOf (now (start .args .borders)) (getD (meets inside) (at inside) 0) ≡ x
-  unfolding bordersOf
   node-is x e = rw (← c .before .before .wide .ensures .0) e
 
   turn : Labelled (start .args .b) (bordersOf (now (start .args .borders))) (meets inside) (at inside + 3)

@@ -14,7 +14,7 @@ use Rattle.spec.specs.Book.{segmentOf}
 use Rattle.spec.specs.Runs as paths
 use Rattle.laws.proofs.Rows.{any-map}
 use Rattle.network.proofs.Walks.{any-next, any-end}
-use Rattle.tables.specs.Placed.{placeAt}
+use Rattle.listing.specs.Listed.{placeAt}
 use Rattle.tables.proofs.places.contains.Statement.{statement}
 use Rattle.tables.proofs.places.contains.Tie as tie
 

@@ -5,7 +5,7 @@ use native.Mathlib.Nat.{zero-add}
 use mathlib.Core.Path.{_≡_, _∙_}
 use lib.ListN.{length}
 use Rattle.spec.specs.Held.{heldTrain}
-use Rattle.tables.specs.Placed.{placeAt}
+use Rattle.listing.specs.Listed.{placeAt}
 use Rattle.tables.proofs.places.given_serves.Statement.{statement}
 use Rattle.tables.proofs.places.given_serves.Tie as tie
 

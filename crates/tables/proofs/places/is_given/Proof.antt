@@ -9,7 +9,7 @@ use denote.Ref.{now}
 use lib.ListN.{length, take}
 use lib.Seq.{slice, length-slice, length-take-le}
 use Rattle.spec.specs.Held.{heldTrain}
-use Rattle.tables.specs.Placed.{placeAt}
+use Rattle.listing.specs.Listed.{placeAt}
 use Rattle.tables.proofs.Rests.{same-lengths}
 use Rattle.tables.proofs.places.is_given.Statement.{statement}
 use Rattle.tables.proofs.places.is_given.Tie as tie

@@ -11,7 +11,7 @@ use denote.Ref.{now}
 use lib.ListN.{getD}
 use lib.Dec.{eqb}
 use Rattle.spec.specs.Lists.{same}
-use Rattle.tables.specs.Placed.{placeAt}
+use Rattle.listing.specs.Listed.{placeAt}
 use Rattle.tables.proofs.Rests.{behind, same-next, same-end}
 use Rattle.tables.proofs.places.same_places.Statement.{statement}
 use Rattle.tables.proofs.places.same_places.Tie as tie

@@ -1,4 +1,4 @@
--- `rows::literal` meets its contract: the upper half of the numbers is negated in two steps, which each have room. Assumes nothing.
+-- `numbers::literal` meets its contract: the upper half of the numbers is negated in two steps, which each have room. Assumes nothing.
 use borrow.Author.Needs.{needs}
 use native.Mathlib.Omega.{arith}
 use mathlib.Core.Path.{sym, _∙_}
@@ -6,8 +6,8 @@ use Prim.Native.Nat.{_-_}
 use mir.Syntax.{w32}
 use mir.Facts.{toZ-pos}
 use Rattle.refutation_file.proofs.Signs.{signed-low, signed-high, opposite-fits, below-fits, below-read}
-use Rattle.refutation_file.proofs.rows.literal.Statement.{statement}
-use Rattle.refutation_file.proofs.rows.literal.Tie as tie
+use Rattle.refutation_file.proofs.numbers.literal.Statement.{statement}
+use Rattle.refutation_file.proofs.numbers.literal.Tie as tie
 
 cast-result : tie.Need-cast-result
 cast-result c = search needs

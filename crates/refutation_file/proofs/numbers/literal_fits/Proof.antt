@@ -1,4 +1,4 @@
--- `rows::literal_fits` meets its contract: a literal out of range is of no variable that fits, and any other literal's variable is
+-- `numbers::literal_fits` meets its contract: a literal out of range is of no variable that fits, and any other literal's variable is
 -- found. Assumes nothing.
 use borrow.Author.Needs.{needs}
 use native.Mathlib.Omega.{arith}
@@ -10,8 +10,8 @@ use lib.IntN.{ℤ}
 use mir.Facts.{toZ-ofZ}
 use Rattle.spec.specs.Refutation.{variableOf}
 use Rattle.refutation_file.proofs.Signs.{opposite-fits, above-range, below-range, in-range}
-use Rattle.refutation_file.proofs.rows.literal_fits.Statement.{statement}
-use Rattle.refutation_file.proofs.rows.literal_fits.Tie as tie
+use Rattle.refutation_file.proofs.numbers.literal_fits.Statement.{statement}
+use Rattle.refutation_file.proofs.numbers.literal_fits.Tie as tie
 
 returns : tie.Need-returns
 returns c =

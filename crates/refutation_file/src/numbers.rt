@@ -1,4 +1,4 @@
-// Rows of four-byte numbers in a file: a step's literals (18) and its hints (19), read where they are.
+// Lists of four-byte numbers in a file: a step's literals (18) and its hints (19), read where they are.
 // Assumes nothing.
 use frames::NUMBER;
 use frames::pair;
@@ -11,16 +11,16 @@ ghost use lib.Dec.{ltb, leb};
 ghost use Rattle.spec.specs.Frames.{numberWidth};
 ghost use Rattle.spec.specs.Numbers.{signed};
 ghost use Rattle.spec.specs.Refutation.{variableOf, literalsFit, hintsFit};
-ghost use Rattle.refutation_file.specs.Rows.{numberCount, numbersIn, literalsIn};
+ghost use Rattle.refutation_file.specs.Numbers.{numberCount, numbersIn, literalsIn};
 
-// A number of a row.
-pub fn number_at(row: &[u8], i: usize) -> usize
-    requires { ⌜ i < numberCount (now row) ⌝ }
-    ensures { λ r. ⌜ (r ≡ getD (numbersIn (now (row .entry))) i 0) × (r < 4294967296) ⌝ }
+// A number of a list.
+pub fn number_at(list: &[u8], i: usize) -> usize
+    requires { ⌜ i < numberCount (now list) ⌝ }
+    ensures { λ r. ⌜ (r ≡ getD (numbersIn (now (list .entry))) i 0) × (r < 4294967296) ⌝ }
 {
     let at = NUMBER * i;
-    let low = pair(row, at);
-    let high = pair(row, at + 2);
+    let low = pair(list, at);
+    let high = pair(list, at + 2);
     low + 65536 * high
 }
 
@@ -36,12 +36,12 @@ fn literal(n: usize) -> i32
     }
 }
 
-// A literal of a row.
-pub fn literal_at(row: &[u8], i: usize) -> i32
-    requires { ⌜ i < numberCount (now row) ⌝ }
-    ensures { λ r. ⌜ r ≡ getD (literalsIn (now (row .entry))) i (pos 0) ⌝ }
+// A literal of a list.
+pub fn literal_at(list: &[u8], i: usize) -> i32
+    requires { ⌜ i < numberCount (now list) ⌝ }
+    ensures { λ r. ⌜ r ≡ getD (literalsIn (now (list .entry))) i (pos 0) ⌝ }
 {
-    literal(number_at(row, i))
+    literal(number_at(list, i))
 }
 
 // The variable of a literal, from 1. The smallest i32, which has no negation, is kept out before.
@@ -68,16 +68,16 @@ fn literal_fits(l: i32, low: usize, variables: usize) -> bool
     low < variable(l)
 }
 
-// 18: whether a row's literals are of `variables` and rise strictly.
-pub fn literals_fit(row: &[u8], variables: usize) -> bool
+// 18: whether a list's literals are of `variables` and rise strictly.
+pub fn literals_fit(list: &[u8], variables: usize) -> bool
     requires { ⌜ variables < 2147483648 ⌝ }
-    ensures { λ r. ⌜ r ≡ literalsFit variables (literalsIn (now (row .entry))) ⌝ }
+    ensures { λ r. ⌜ r ≡ literalsFit variables (literalsIn (now (list .entry))) ⌝ }
 {
-    let n = row.len() / NUMBER;
+    let n = list.len() / NUMBER;
     let mut low = 0;
     let mut i = 0;
     while i < n {
-        let l = literal_at(row, i);
+        let l = literal_at(list, i);
         if !literal_fits(l, low, variables) {
             return false;
         }
@@ -87,15 +87,15 @@ pub fn literals_fit(row: &[u8], variables: usize) -> bool
     true
 }
 
-// 19: whether a row's hints are at least 1 and below the step's own number.
-pub fn hints_fit(row: &[u8], own: usize) -> bool
-    ensures { λ r. ⌜ r ≡ hintsFit own (numbersIn (now (row .entry))) ⌝ }
+// 19: whether a list's hints are at least 1 and below the step's own number.
+pub fn hints_fit(list: &[u8], own: usize) -> bool
+    ensures { λ r. ⌜ r ≡ hintsFit own (numbersIn (now (list .entry))) ⌝ }
 {
-    let n = row.len() / NUMBER;
+    let n = list.len() / NUMBER;
     let mut fits = true;
     let mut i = 0;
     while i < n {
-        let h = number_at(row, i);
+        let h = number_at(list, i);
         if h < 1 || own <= h {
             fits = false;
         }

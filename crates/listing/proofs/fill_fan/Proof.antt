@@ -1,4 +1,4 @@
--- `listing::fill_row` meets its contract. The loop's invariant: the table is as it was, with the successors below e stored from 128
+-- `listing::fill_fan` meets its contract. The loop's invariant: the table is as it was, with the successors below e stored from 128
 -- times d on. Assumes nothing.
 use borrow.Author.Needs.{needs}
 use native.Mathlib.Omega.{arith}
@@ -20,8 +20,8 @@ use Rattle.listing.specs.Listed.{successors}
 use Rattle.listing.proofs.Leaves.{sets-next}
 use Rattle.listing.proofs.Lists.{held-segments}
 use Rattle.listing.proofs.Successors.{pick-taken, pick-left, leads-joined, leads-apart}
-use Rattle.listing.proofs.fill_row.Statement.{statement}
-use Rattle.listing.proofs.fill_row.Tie as tie
+use Rattle.listing.proofs.fill_fan.Statement.{statement}
+use Rattle.listing.proofs.fill_fan.Tie as tie
 
 abbrev Inv-loop : tie.InvT-loop
 Inv-loop d table₀ b n node base found₀ e₀ table found e =
@@ -162,8 +162,8 @@ returns c =
     let all = ap (λ (n : ℕ). pick (leadsTo (held (a .t1)) (a .d)) (upTo n)) done in
     (s .loop .inv .3 ∙ ap length all, omega arith, s .loop .inv .4 ∙ ap (sets (now (a .table)) (a .d * 128)) all)
 
-pub fill-row-spec : {M : Type 1} → statement M
-fill-row-spec =
+pub fill-fan-spec : {M : Type 1} → statement M
+fill-fan-spec =
     tie.close
     (tie.spec
     Inv-loop

@@ -1,11 +1,11 @@
--- `rows::literal_at` meets its contract: a literal is what its number stands for. Assumes nothing.
+-- `numbers::literal_at` meets its contract: a literal is what its number stands for. Assumes nothing.
 use borrow.Author.Needs.{needs, sfits-of}
 use mathlib.Core.Path.{_∙_, sym, ap}
 use mir.Facts.{toZ-ofZ}
 use Rattle.spec.specs.Numbers.{signed}
-use Rattle.refutation_file.proofs.RowNumbers.{literal-of}
-use Rattle.refutation_file.proofs.rows.literal_at.Statement.{statement}
-use Rattle.refutation_file.proofs.rows.literal_at.Tie as tie
+use Rattle.refutation_file.proofs.NumberLists.{literal-of}
+use Rattle.refutation_file.proofs.numbers.literal_at.Statement.{statement}
+use Rattle.refutation_file.proofs.numbers.literal_at.Tie as tie
 
 number-at-requires : tie.Need-number-at-requires
 number-at-requires c κs = search needs
@@ -19,7 +19,7 @@ returns c =
     toZ-ofZ (sfits-of (c .literal .ok))
     ∙ c .literal .ensures
     ∙ ap (signed 4) (c .before .number-at .ensures .0)
-    ∙ sym (literal-of (a .row .now) (a .i))
+    ∙ sym (literal-of (a .list .now) (a .i))
 
 pub literal-at-spec : {M : Type 1} → statement M
 literal-at-spec = tie.close (tie.spec number-at-requires literal-requires returns)

@@ -1,4 +1,4 @@
--- Rows of four-byte numbers. Assumes nothing.
+-- Lists of four-byte numbers. Assumes nothing.
 use Prim.Native.Nat.{ℕ, _*_, _/_}
 use mathlib.Core.List.{List, map}
 use lib.ListN.{length}
@@ -7,14 +7,14 @@ use Rattle.spec.specs.Numbers.{field, signed}
 use Rattle.spec.specs.Frames.{numberWidth}
 use Rattle.spec.specs.Formula.{Clause}
 
--- how many numbers a row has
+-- how many numbers a list has
 abbrev pub numberCount : Bytes → ℕ
-numberCount row = length row / numberWidth
+numberCount list = length list / numberWidth
 
--- the numbers of a row
+-- the numbers of a list
 unfoldable pub numbersIn : Bytes → List ℕ
-numbersIn row = map (λ i. field row (numberWidth * i) numberWidth) (upTo (numberCount row))
+numbersIn list = map (λ i. field list (numberWidth * i) numberWidth) (upTo (numberCount list))
 
 -- and as literals
 unfoldable pub literalsIn : Bytes → Clause
-literalsIn row = map (signed numberWidth) (numbersIn row)
+literalsIn list = map (signed numberWidth) (numbersIn list)

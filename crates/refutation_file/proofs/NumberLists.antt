@@ -1,4 +1,4 @@
--- Rows of four-byte numbers: how many there are, which field each one is, and what a test over those that are left becomes after
+-- Lists of four-byte numbers: how many there are, which field each one is, and what a test over those that are left becomes after
 -- one of them. Assumes nothing.
 use mathlib.Core.Path.{_≡_, refl, ap, _∙_}
 use mathlib.Core.Bool.{true, _&&_}
@@ -18,7 +18,7 @@ use Rattle.spec.specs.Refutation.{variableOf, risesFrom, hintsFit}
 use Rattle.frames.proofs.Drops.{all-drop-next, all-drop-end}
 use Rattle.laws.proofs.Numbers.{field-next, field-two}
 use Rattle.laws.proofs.Parts.{length-upTo, map-at}
-use Rattle.refutation_file.specs.Rows.{numberCount, numbersIn, literalsIn}
+use Rattle.refutation_file.specs.Numbers.{numberCount, numbersIn, literalsIn}
 
 -- a field of four bytes is two of two
 pub field-four : (s : Bytes) (at : ℕ) → at + 4 ≤ length s → field s at 4 ≡ field s at 2 + 65536 * field s (at + 2) 2
@@ -29,23 +29,23 @@ field-four s at h =
     rw (field-next s at 3 (omega arith), all-but-one, field-two s at (omega arith), one-on, two-on) (omega arith)
 
 -- how many numbers and literals there are
-pub numbers-length : (row : Bytes) → length (numbersIn row) ≡ numberCount row
+pub numbers-length : (list : Bytes) → length (numbersIn list) ≡ numberCount list
 unfolding numbersIn
-numbers-length row = length-map (upTo (numberCount row)) (λ i. field row (numberWidth * i) numberWidth) ∙ length-upTo (numberCount row)
+numbers-length list = length-map (upTo (numberCount list)) (λ i. field list (numberWidth * i) numberWidth) ∙ length-upTo (numberCount list)
 
-pub literals-length : (row : Bytes) → length (literalsIn row) ≡ numberCount row
+pub literals-length : (list : Bytes) → length (literalsIn list) ≡ numberCount list
 unfolding literalsIn
-literals-length row = length-map (numbersIn row) (signed numberWidth) ∙ numbers-length row
+literals-length list = length-map (numbersIn list) (signed numberWidth) ∙ numbers-length list
 
 -- a number is a field
-pub number-of : (row : Bytes) (i : ℕ) → i < numberCount row → getD (numbersIn row) i 0 ≡ field row (numberWidth * i) numberWidth
+pub number-of : (list : Bytes) (i : ℕ) → i < numberCount list → getD (numbersIn list) i 0 ≡ field list (numberWidth * i) numberWidth
 unfolding numbersIn
-number-of row i h = map-at (λ i. field row (numberWidth * i) numberWidth) (numberCount row) i 0 h
+number-of list i h = map-at (λ i. field list (numberWidth * i) numberWidth) (numberCount list) i 0 h
 
 -- and a literal is what a number stands for
-pub literal-of : (row : Bytes) (i : ℕ) → getD (literalsIn row) i (pos 0) ≡ signed numberWidth (getD (numbersIn row) i 0)
+pub literal-of : (list : Bytes) (i : ℕ) → getD (literalsIn list) i (pos 0) ≡ signed numberWidth (getD (numbersIn list) i 0)
 unfolding literalsIn signed
-literal-of row i = List·getD-map (signed numberWidth) (numbersIn row) i 0
+literal-of list i = List·getD-map (signed numberWidth) (numbersIn list) i 0
 
 -- the literals that are left: one, and those behind it
 module _ (vars low i : ℕ) (ls : Clause) where

@@ -1,4 +1,4 @@
--- `rows::literals_fit` meets its contract. The loop's invariant: all literals fit exactly where those from i on do, above `low`.
+-- `numbers::literals_fit` meets its contract. The loop's invariant: all literals fit exactly where those from i on do, above `low`.
 -- Assumes nothing.
 use borrow.Author.Needs.{sfits-of}
 use borrow.Author.Tests.{not-true, not-false}
@@ -15,16 +15,16 @@ use mir.Facts.{toZ-ofZ}
 use Rattle.spec.specs.Formula.{Clause}
 use Rattle.spec.specs.Refutation.{literalsFit, risesFrom, variableOf}
 use Rattle.laws.proofs.Tests.{and-iff, from-true}
-use Rattle.refutation_file.specs.Rows.{literalsIn}
-use Rattle.refutation_file.proofs.RowNumbers.{literals-length, rises-next, rises-end}
-use Rattle.refutation_file.proofs.rows.literals_fit.Statement.{statement}
-use Rattle.refutation_file.proofs.rows.literals_fit.Tie as tie
+use Rattle.refutation_file.specs.Numbers.{literalsIn}
+use Rattle.refutation_file.proofs.NumberLists.{literals-length, rises-next, rises-end}
+use Rattle.refutation_file.proofs.numbers.literals_fit.Statement.{statement}
+use Rattle.refutation_file.proofs.numbers.literals_fit.Tie as tie
 
 abbrev Inv-loop : tie.InvT-loop
-Inv-loop row variables n low₀ i₀ low i = literalsFit variables (literalsIn row) ≡ risesFrom variables low (drop i (literalsIn row))
+Inv-loop list variables n low₀ i₀ low i = literalsFit variables (literalsIn list) ≡ risesFrom variables low (drop i (literalsIn list))
 
 abbrev μ-loop : tie.MeasureT-loop
-μ-loop row variables n low₀ i₀ low i = n - i
+μ-loop list variables n low₀ i₀ low i = n - i
 
 loop-holds : tie.Need-loop-holds Inv-loop μ-loop
 unfolding literalsFit
@@ -44,7 +44,7 @@ module _ (c : tie.After-literal-fits Inv-loop μ-loop) where
   given = at-loop .before .before
 
   abbrev literals : Clause
-  literals = literalsIn (given .args .row .now)
+  literals = literalsIn (given .args .list .now)
 
   -- the literal, read back from its bits
   abbrev this : ℤ
@@ -57,7 +57,7 @@ module _ (c : tie.After-literal-fits Inv-loop μ-loop) where
       at-loop .loop .inv
       ∙ rises-next (given .args .variables) (at-loop .loop .low) (at-loop .loop .i) literals this
       (toZ-ofZ (sfits-of (c .before .literal-at .ok)) ∙ c .before .literal-at .ensures)
-      (omega (arith, literals-length (given .args .row .now), c .before .before .loop-test .taken))
+      (omega (arith, literals-length (given .args .list .now), c .before .before .loop-test .taken))
       ∙ simp (← c .literal-fits .ensures)
 
   -- a literal that fits is of one of the variables
@@ -90,9 +90,9 @@ returns-2 : tie.Need-returns-2 Inv-loop μ-loop
 returns-2 c =
     let s = c .before .before .before in
     let k = c .before .loop in
-    let row = s .args .row .now in
+    let list = s .args .list .now in
     sym (k .inv
-    ∙ rises-end (s .args .variables) (k .low) (k .i) (literalsIn row) (omega (arith, literals-length row, c .loop-test .left)))
+    ∙ rises-end (s .args .variables) (k .low) (k .i) (literalsIn list) (omega (arith, literals-length list, c .loop-test .left)))
 
 pub literals-fit-spec : {M : Type 1} → statement M
 literals-fit-spec =

@@ -1,10 +1,10 @@
--- `rows::number_at` meets its contract: a field of four bytes is two fields of two. Assumes nothing.
+-- `numbers::number_at` meets its contract: a field of four bytes is two fields of two. Assumes nothing.
 use borrow.Author.Needs.{needs}
 use native.Mathlib.Omega.{arith}
 use Prim.Native.Nat.{_*_}
-use Rattle.refutation_file.proofs.RowNumbers.{field-four, number-of}
-use Rattle.refutation_file.proofs.rows.number_at.Statement.{statement}
-use Rattle.refutation_file.proofs.rows.number_at.Tie as tie
+use Rattle.refutation_file.proofs.NumberLists.{field-four, number-of}
+use Rattle.refutation_file.proofs.numbers.number_at.Statement.{statement}
+use Rattle.refutation_file.proofs.numbers.number_at.Tie as tie
 
 mul-at : tie.Need-mul-at
 mul-at c = search needs
@@ -27,8 +27,8 @@ add-result c = search needs
 returns : tie.Need-returns
 returns c =
     let a = c .before .before .before .args in
-    let four = field-four (a .row .now) (4 * a .i) (omega arith) in
-    (omega (arith, four, number-of (a .row .now) (a .i) (c .before .before .before .pre)), omega arith)
+    let four = field-four (a .list .now) (4 * a .i) (omega arith) in
+    (omega (arith, four, number-of (a .list .now) (a .i) (c .before .before .before .pre)), omega arith)
 
 pub number-at-spec : {M : Type 1} → statement M
 number-at-spec =

@@ -1,9 +1,9 @@
--- `rows::variable` meets its contract: a literal below 0 is negated, which has room. Assumes nothing.
+-- `numbers::variable` meets its contract: a literal below 0 is negated, which has room. Assumes nothing.
 use mathlib.Core.Path.{ap}
 use lib.IntN.{natAbs}
 use Rattle.refutation_file.proofs.Signs.{read-cast, above-read, negated-fits, negated-read}
-use Rattle.refutation_file.proofs.rows.variable.Statement.{statement}
-use Rattle.refutation_file.proofs.rows.variable.Tie as tie
+use Rattle.refutation_file.proofs.numbers.variable.Statement.{statement}
+use Rattle.refutation_file.proofs.numbers.variable.Tie as tie
 
 sub-result : tie.Need-sub-result
 sub-result c = negated-fits (c .before .args .l) (c .before .fits .l) (c .before .pre) (c .if1 .taken)

@@ -1,4 +1,4 @@
--- `rows::hints_fit` meets its contract. The loop's invariant: all hints fit exactly where those before i did and those from i on do.
+-- `numbers::hints_fit` meets its contract. The loop's invariant: all hints fit exactly where those before i did and those from i on do.
 -- Assumes nothing.
 use borrow.Author.Tests.{lt-ltb, le-ltb, le-leb, lt-leb, leb-true, leb-false}
 use Prim.Native.Nat.{ℕ, _+_, _-_}
@@ -9,16 +9,16 @@ use mathlib.Core.Bool.{Bool, _&&_, and-assoc, and-true, and-false}
 use lib.ListN.{drop}
 use lib.Dec.{ltb, leb}
 use Rattle.spec.specs.Refutation.{hintsFit}
-use Rattle.refutation_file.specs.Rows.{numbersIn}
-use Rattle.refutation_file.proofs.RowNumbers.{numbers-length, hints-next, hints-end}
-use Rattle.refutation_file.proofs.rows.hints_fit.Statement.{statement}
-use Rattle.refutation_file.proofs.rows.hints_fit.Tie as tie
+use Rattle.refutation_file.specs.Numbers.{numbersIn}
+use Rattle.refutation_file.proofs.NumberLists.{numbers-length, hints-next, hints-end}
+use Rattle.refutation_file.proofs.numbers.hints_fit.Statement.{statement}
+use Rattle.refutation_file.proofs.numbers.hints_fit.Tie as tie
 
 abbrev Inv-loop : tie.InvT-loop
-Inv-loop row own n fits₀ i₀ fits i = hintsFit own (numbersIn row) ≡ (fits && hintsFit own (drop i (numbersIn row)))
+Inv-loop list own n fits₀ i₀ fits i = hintsFit own (numbersIn list) ≡ (fits && hintsFit own (drop i (numbersIn list)))
 
 abbrev μ-loop : tie.MeasureT-loop
-μ-loop row own n fits₀ i₀ fits i = n - i
+μ-loop list own n fits₀ i₀ fits i = n - i
 
 loop-holds : tie.Need-loop-holds Inv-loop μ-loop
 loop-holds c = refl
@@ -60,21 +60,21 @@ module _ (c : tie.Joined1-2 Inv-loop μ-loop) where
 loop-again : tie.Need-loop-again Inv-loop μ-loop
 loop-again c =
     let k = at-loop c .loop in
-    let row = given c .args .row .now in
+    let list = given c .args .list .now in
     let own = given c .args .own in
-    let next = hints-next own (k .i) (numbersIn row) (hint c) (c .before .number-at .ensures .0)
-    (omega (arith, numbers-length row, c .before .before .loop-test .taken)) in
+    let next = hints-next own (k .i) (numbersIn list) (hint c) (c .before .number-at .ensures .0)
+    (omega (arith, numbers-length list, c .before .before .loop-test .taken)) in
     k .inv
     ∙ ap (λ (t : Bool). k .fits && t) next
-    ∙ sym (and-assoc (k .fits) (fits c) (hintsFit own (drop (k .i + 1) (numbersIn row))))
+    ∙ sym (and-assoc (k .fits) (fits c) (hintsFit own (drop (k .i + 1) (numbersIn list))))
     ∙ simp (← flag c)
 
 returns : tie.Need-returns Inv-loop μ-loop
 returns c =
     let k = c .before .loop in
     let a = c .before .before .before .args in
-    let row = a .row .now in
-    let end = hints-end (a .own) (k .i) (numbersIn row) (omega (arith, numbers-length row, c .loop-test .left)) in
+    let list = a .list .now in
+    let end = hints-end (a .own) (k .i) (numbersIn list) (omega (arith, numbers-length list, c .loop-test .left)) in
     sym (k .inv ∙ simp (end, and-true))
 
 pub hints-fit-spec : {M : Type 1} → statement M
