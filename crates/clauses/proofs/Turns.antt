@@ -1,15 +1,14 @@
 -- Loops over the walk: `Ahead` says that what is left to pass gives what the whole would give. A loop over a range passes, at
 -- each turn, the words of one number. Assumes nothing.
 use mathlib.Core.Path.{_≡_, refl, sym, ap, ap₂, _∙_, subst}
-use Prim.Native.Nat.{ℕ, zero, suc, _+_, _-_, _≤_, _<_}
+use Prim.Native.Nat.{ℕ, suc, _+_, _-_, _≤_, _<_}
 use native.Mathlib.Omega.{arith}
 use native.Mathlib.Nat.{sub-zero}
-use mathlib.Core.List.{List, [], _∷_, _++_, map, append-nil, append-assoc}
+use mathlib.Core.List.{List, [], _∷_, _++_, map, append-nil}
 use lib.ListN.{length}
 use lib.IntN.{ℤ, pos}
 use Rattle.spec.specs.Lists.{Bytes, count, upTo, range, each, one}
 use Rattle.spec.specs.Formula.{Clause, wordsOf}
-use Rattle.laws.proofs.Parts.{each-append}
 use Rattle.demands.proofs.Words.{words-append}
 use Rattle.clauses.specs.declared.Walk.{Walk}
 use Rattle.clauses.specs.Walked.{walked, stored, Walks}

@@ -1,7 +1,7 @@
 -- A walk over clauses, word by word, a clause closed by 0: the words are counted, stored where the output has room, and judged
 -- by the values of the variables. Measuring, writing and judging are the same walk. Assumes nothing.
 use mathlib.Core.Path.{_≡_}
-use mathlib.Core.Bool.{Bool, true, false, not, _&&_, _||_, cond}
+use mathlib.Core.Bool.{Bool, false, not, _&&_, _||_, cond}
 use Prim.Native.Nat.{ℕ, zero, suc, _+_, _*_, min}
 use mathlib.Core.List.{List, [], _∷_}
 use lib.ListN.{length, set}

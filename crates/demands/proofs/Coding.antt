@@ -1,19 +1,18 @@
 -- When a valuation codes a plan: their borders and moves say the same, wherever the book has a node, a train and an interval.
 -- A valuation that satisfies B and C codes the plan that it decodes to. Assumes nothing.
-use mathlib.Core.Path.{_≡_, refl, sym, ap, _∙_, subst}
-use mathlib.Core.Logic.{_↔_, _⊎_, inl, inr}
-use mathlib.Core.Bool.{Bool, true, false, not, _&&_, _||_, cond}
-use mathlib.Core.Option.{Option, none, some}
-use Prim.Native.Nat.{ℕ, zero, suc, _+_, _-_, _≤_, _<_}
+use mathlib.Core.Path.{_≡_, refl, ap, _∙_, subst}
+use mathlib.Core.Logic.{_⊎_, inl, inr}
+use mathlib.Core.Bool.{Bool, true, false}
+use mathlib.Core.Option.{none, some}
+use Prim.Native.Nat.{ℕ, _+_, _-_, _≤_, _<_}
 use native.Mathlib.Omega.{arith}
-use native.Mathlib.Decide.{decLe}
-use mathlib.Core.List.{List, [], _∷_, _++_, map, List·Memᴰ, List·Memᴰ·head, List·Memᴰ·tail, List·Memᴰ·not-nil}
-use lib.Dec.{T, leb, ltb, eqb, eqb-refl}
-use Rattle.laws.proofs.Tests.{and-iff, or-iff, eqb-iff, ltb-iff, upTo-mem, any-upTo, le-or-lt, from-true, from-false, false-of, bool-ext}
-use Rattle.spec.specs.Lists.{all, any, upTo}
+use mathlib.Core.List.{List, [], _∷_, List·Memᴰ, List·Memᴰ·head, List·Memᴰ·tail, List·Memᴰ·not-nil}
+use lib.Dec.{T, eqb}
+use Rattle.laws.proofs.Tests.{eqb-iff, ltb-iff, upTo-mem, le-or-lt, from-true, from-false, false-of, bool-ext}
+use Rattle.spec.specs.Lists.{upTo}
 use Rattle.spec.specs.Instance.{Instance}
-use Rattle.spec.specs.Plan.{Plan, Move, run, absent, gone, isAbsent, isGone, runs, ifRun, isMove}
-use Rattle.spec.specs.Formula.{borderVar, runVar, goneVar, familyB, familyC, base}
+use Rattle.spec.specs.Plan.{Plan, Move, run, isGone, runs, isMove}
+use Rattle.spec.specs.Formula.{runVar, goneVar, familyB, familyC}
 use Rattle.spec.specs.Assignment.{satisfies, firstRun, chosen, decoded}
 pub use Rattle.demands.specs.Claims.{Codes}
 use Rattle.demands.proofs.Meaning.{meansB, meansC}

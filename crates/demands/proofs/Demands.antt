@@ -4,14 +4,14 @@ use mathlib.Core.Path.{_≡_, refl, sym, ap, _∙_, subst}
 use mathlib.Core.Logic.{_↔_}
 use mathlib.Core.Option.{Option, none, some}
 use Prim.Native.Nat.{ℕ, _≤_, _<_}
-use mathlib.Core.List.{List, _++_, map, List·Memᴰ}
+use mathlib.Core.List.{List, _++_, List·Memᴰ}
 use lib.ListN.{length, drop}
 use lib.IntN.{ℤ}
 use lib.Dec.{T}
 use native.Mathlib.Omega.{arith}
 use Rattle.laws.proofs.Numbers.{bytes}
 use Rattle.laws.proofs.Tests.{and-iff, eqb-iff, any-iff, all-upTo}
-use Rattle.spec.specs.Lists.{Bytes, any, Verdict, accepted, refused, andThen}
+use Rattle.spec.specs.Lists.{Bytes, any, accepted, andThen}
 use Rattle.spec.specs.Book.{Book}
 use Rattle.spec.specs.Read.{readBook}
 use Rattle.spec.specs.Instance.{Instance, instanceOf}
@@ -19,8 +19,8 @@ use Rattle.spec.specs.Sections.{Chain, together}
 use Rattle.spec.specs.Plan.{Plan, IsPlan, ofRun, planFits, planOf, planLength, brokenRule, keepsRules}
 use Rattle.spec.specs.Formula.{formula, variables, claimVar, wordsOf}
 use Rattle.spec.specs.Assignment.{satisfies, assigned, assignmentFits, decode, claims, encode}
-use Rattle.spec.specs.Refutation.{ProofStep, Lent, fileOf, InFields, GoodSteps, clausesFit}
-use Rattle.spec.specs.Entry.{overwrite, written, formulaWritten, writeFormula, formulaOutput, decodedFor, encodedFor, afterPlan, planOutput, assignmentOutput, checkAssignment, checkPlan, checkRefutation, refutedFor, formulaFits, wordsAfter}
+use Rattle.spec.specs.Refutation.{ProofStep, Lent}
+use Rattle.spec.specs.Entry.{overwrite, written, formulaWritten, writeFormula, formulaOutput, decodedFor, encodedFor, afterPlan, planOutput, assignmentOutput, checkAssignment, checkPlan, checkRefutation, refutedFor, wordsAfter}
 pub use Rattle.demands.specs.Claims.{IsRefutation, LongEnough, Holds}
 use Rattle.demands.proofs.Encoding.{shape, assigned-claim}
 use Rattle.demands.proofs.Extra.{no-condition}

@@ -1,29 +1,28 @@
 -- Plans and assignments as bytes: where each value stands, and that reading gives back what was written. Assumes nothing.
 use mathlib.Core.Path.{_≡_, refl, sym, ap, ap₂, _∙_, subst}
-use mathlib.Core.Logic.{_↔_, _⊎_, inl, inr, _≢_}
-use mathlib.Core.Bool.{Bool, true, false, not, _&&_, _||_, cond}
-use Prim.Native.Nat.{ℕ, zero, suc, _+_, _*_, _-_, _≤_, _<_, _^_}
-use native.Mathlib.Nat.{add-assoc, add-zero, zero-add}
+use mathlib.Core.Logic.{_≢_}
+use mathlib.Core.Bool.{Bool, true, false}
+use Prim.Native.Nat.{ℕ, suc, _+_, _*_, _-_, _≤_, _<_, _^_}
+use native.Mathlib.Nat.{add-assoc, add-zero}
 use native.Mathlib.Omega.{arith}
-use mathlib.Core.List.{List, [], _∷_, _++_, map}
+use mathlib.Core.List.{List, _∷_, _++_, map}
 use lib.ListN.{length, getD, take, drop, length-append, length-map, length-drop, take-append-drop, List·getD-append}
-use lib.Seq.{getD-append-add, take-all, take-suc, take-add, drop-drop}
-use lib.Dec.{T, leb, ltb, eqb, eqb-refl, T-not}
+use lib.Seq.{getD-append-add, take-all}
+use lib.Dec.{T, eqb, T-not}
 use lib.Arith.{digits-lt}
-use native.Mathlib.Numerals.{add-one}
-use Rattle.laws.proofs.Tests.{and-iff, eqb-iff, ltb-iff, leb-iff, all-upTo, bool-ext, decide, true-of, false-of, denied-of, meaning}
+use Rattle.laws.proofs.Tests.{eqb-iff, ltb-iff, leb-iff, decide, true-of, false-of, denied-of, meaning}
 use Rattle.laws.proofs.Rows.{rows}
 use Rattle.laws.proofs.Numbers.{bytes, length-littleEndian, number-littleEndian, littleEndian-field}
 use Rattle.laws.proofs.Parts.{Part, part-here, part-behind, part-in, part-at, part-each, part-field, length-each, length-upTo, sum-constant, map-at, map-same, each-same, chunks, singles}
-use Rattle.spec.specs.Lists.{Bytes, all, upTo, each, one, sumTo}
-use Rattle.spec.specs.Numbers.{littleEndian, field, number}
+use Rattle.spec.specs.Lists.{Bytes, all, upTo, each, sumTo}
+use Rattle.spec.specs.Numbers.{littleEndian, field}
 use Rattle.spec.specs.Instance.{Instance}
 use Rattle.spec.specs.Plan.{Plan, Move, run, absent, gone, absentCode, goneCode, isGone, runs, bit, isBit, isMove, moveCode, moveOf, moveAt, planBytes, planLength, planOf, planFits}
 use Rattle.spec.specs.Formula.{width, base, borderVar, runVar, goneVar, claimVar, ownVariables, variables, firstVar}
 use Rattle.spec.specs.Extra.{extraVariables, extraValues}
-use Rattle.spec.specs.Assignment.{assigned, encode, claims, decoded}
+use Rattle.spec.specs.Assignment.{assigned, encode, claims}
 use Rattle.demands.proofs.Coding.{Codes, Agree}
-use Rattle.demands.proofs.Moves.{IsMove, aRun, isAway, hasLeft, which, run-true, true-run, gone-true, true-gone}
+use Rattle.demands.proofs.Moves.{aRun, isAway, hasLeft, which, run-true, true-run, gone-true, true-gone}
 use Rattle.demands.proofs.Rules.{run≢absent, absent≢gone}
 use Rattle.demands.proofs.Satisfied.{Claiming}
 

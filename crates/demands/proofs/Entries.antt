@@ -1,19 +1,19 @@
 -- What it means that an entry point accepts: each check in its row has passed. Assumes nothing.
-use mathlib.Core.Path.{_≡_, refl, sym, ap, _∙_, subst}
+use mathlib.Core.Path.{_≡_, refl, sym, ap, _∙_}
 use mathlib.Core.Logic.{_↔_, _≢_}
-use mathlib.Core.Bool.{Bool, true, false, not, _&&_, _||_}
+use mathlib.Core.Bool.{Bool, true, false}
 use mathlib.Core.Option.{Option, none, some}
-use Prim.Native.Nat.{ℕ, zero, suc, _+_, _≤_, _<_}
+use Prim.Native.Nat.{ℕ, suc, _≤_}
 use native.Mathlib.Omega.{arith}
-use mathlib.Core.List.{List, [], _∷_, _++_}
+use mathlib.Core.List.{List, [], _∷_}
 use lib.ListN.{length}
 use lib.Dec.{T, leb}
-use Rattle.laws.proofs.Tests.{and-iff, leb-iff, true-of, decide, denied-of, from-true}
-use Rattle.spec.specs.Lists.{Bytes, all, Verdict, accepted, refused, andThen, firstFault, faultless, Fault, _when_, one}
+use Rattle.laws.proofs.Tests.{and-iff, leb-iff, true-of, decide, denied-of}
+use Rattle.spec.specs.Lists.{Bytes, all, Verdict, accepted, refused, andThen, faultless}
 use Rattle.spec.specs.Instance.{Instance, instanceOf}
 use Rattle.spec.specs.Book.{Book}
 use Rattle.spec.specs.Read.{readBook}
-use Rattle.spec.specs.Plan.{Plan, planFits, planOf, planLength, rule1, rule2, rule3, rule4, rule5, rule6, ruleFaults, brokenRule, keepsRules}
+use Rattle.spec.specs.Plan.{Plan, planFits, planOf, planLength, ruleFaults, brokenRule, keepsRules}
 use Rattle.spec.specs.Formula.{Clause, formula, variables, wordsOf}
 use Rattle.spec.specs.Assignment.{satisfies, holds, firstFalse, assigned, assignmentFits, decode, encode}
 use Rattle.spec.specs.Refutation.{Lent, checkFile}

@@ -1,7 +1,7 @@
 -- What the theorems use of the end of the formula: its clauses ask exactly its condition of a plan, and its values are a byte
 -- 0 or 1 a variable. All of it is empty today, so each law is at hand. Assumes nothing.
 use mathlib.Core.Path.{_≡_, refl}
-use mathlib.Core.Bool.{Bool, true}
+use mathlib.Core.Bool.{Bool}
 use Prim.Native.Nat.{ℕ}
 use lib.ListN.{length}
 use lib.Dec.{T}

@@ -8,7 +8,6 @@ use mathlib.Core.List.{List, [], _∷_, _++_, map, append-nil, append-assoc}
 use mathlib.Core.List.{List·Memᴰ, List·Memᴰ·head, List·Memᴰ·tail, List·Memᴰ·cases-cons, List·Memᴰ·eq-of-singleton, Memᴰ·of-map}
 use lib.ListN.{length, take, drop, length-append, length-map}
 use lib.Seq.{take-add, take-all, drop-drop, drop-at}
-use lib.IntN.{pos}
 use lib.Signed.{mag}
 use lib.Dec.{T, ltb}
 use Rattle.spec.specs.Lists.{Bytes, all, count, upTo, each, one, accepted}

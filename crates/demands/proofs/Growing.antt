@@ -2,7 +2,7 @@
 -- fitted the shorter book fits the longer one. Assumes nothing.
 use mathlib.Core.Path.{_≡_, refl, sym}
 use mathlib.Core.Logic.{_≢_, _↔_, Iff·rfl, inl}
-use mathlib.Core.Bool.{Bool, true, false, not, _&&_, _||_, Bool·not-not}
+use mathlib.Core.Bool.{Bool, true, false, not, Bool·not-not}
 use Prim.Native.Nat.{ℕ, suc, _+_, _*_, _/_, _≤_, _<_}
 use native.Mathlib.Omega.{arith}
 use native.Mathlib.Decide.{decLe}
@@ -14,7 +14,7 @@ use Rattle.spec.specs.Lists.{Bytes, all, any, count, upTo, one, only, pick, fau
 use Rattle.spec.specs.Numbers.{field}
 use Rattle.spec.specs.Frames.{Format, bookFormat, kindNumber, isKind, Kind, headKind, nodeKind, segmentKind, joinKind, trainKind, callKind, unbreakableKind, endKind}
 use Rattle.spec.specs.Book.{Book, Segment, Join, Train, Call, noBook, segmentAt, callsOf, greatestNodeKind, startNode, endNode, segmentOf, joined, lengthInSegments, speedInSegments}
-use Rattle.spec.specs.Runs.{leadsTo, linked, isPath, runsOf}
+use Rattle.spec.specs.Runs.{leadsTo, linked, isPath}
 use Rattle.spec.specs.Read.{segmentIn, joinIn, trainIn, callIn, grown, between, headFits, segmentFits, joinFits, joinRepeats, trainFits, reachFits, placeFits, callFits, contentFaults, add, bookFaults, joinsOnce, few, trainAllFits, growing, wellFormed, maxIntervals, maxNodes, maxSegments, maxJoins, maxTrains, maxCalls}
 use Rattle.demands.proofs.Faults.{passes}
 use Rattle.laws.proofs.Tests.{and-iff, or-iff, ltb-iff, leb-iff, all-iff, all-upTo, from-true, neither-iff}

@@ -1,17 +1,17 @@
 -- What each family of clauses says of a valuation. Assumes nothing.
-use mathlib.Core.Path.{_≡_, refl, sym, ap, _∙_, subst}
-use mathlib.Core.Logic.{_↔_, Iff·rfl, _⊎_, inl, inr}
-use mathlib.Core.Bool.{Bool, true, false, not, _&&_, _||_}
-use Prim.Native.Nat.{ℕ, zero, suc, _+_, _-_, _≤_, _<_}
-use mathlib.Core.List.{List, [], _∷_, _++_, map, List·Memᴰ}
-use lib.Dec.{T, leb, ltb, eqb}
+use mathlib.Core.Path.{_≡_, refl}
+use mathlib.Core.Logic.{_↔_, Iff·rfl, _⊎_}
+use mathlib.Core.Bool.{Bool, true, false, not, _&&_}
+use Prim.Native.Nat.{ℕ, _+_, _-_, _≤_, _<_}
+use mathlib.Core.List.{List·Memᴰ}
+use lib.Dec.{T}
 use Rattle.laws.proofs.Tests.{meaning, and-iff, or-iff, all-iff}
 use Rattle.laws.proofs.Rows.{rows, all-append}
-use Rattle.spec.specs.Lists.{all, any, upTo, range, each, only, one}
+use Rattle.spec.specs.Lists.{any, upTo}
 use Rattle.spec.specs.Instance.{Instance, inWindow, servedAtDeparture}
-use Rattle.spec.specs.Formula.{Literal, Clause, is, not′, borderVar, runVar, goneVar, claimVar, clausesB, clausesC, clausesD, clausesE, clauseE, followersE, serversF, clausesG, claimsG, clausesH, clausesI, familyA, familyB, familyC, familyD, familyE, familyF, familyG, familyH, familyI, ownVariables, formula}
+use Rattle.spec.specs.Formula.{is, not′, borderVar, runVar, goneVar, claimVar, clausesB, clausesC, clausesD, clausesE, clauseE, followersE, serversF, clausesG, claimsG, clausesH, clausesI, familyA, familyB, familyC, familyD, familyE, familyF, familyG, familyH, familyI, ownVariables, formula}
 use Rattle.spec.specs.Extra.{extraClauses}
-use Rattle.spec.specs.Assignment.{Value, yes′, no′, open′, truth, deny, isYes, valueOf, isTrue, holds, satisfies}
+use Rattle.spec.specs.Assignment.{truth, deny, isYes, valueOf, isTrue, holds, satisfies}
 
 module _ (α : ℕ → Bool) where
   pub affirmed : (v : ℕ) → isTrue α (is v) ≡ α v

@@ -1,17 +1,16 @@
 -- What each plan rule says, and what a valuation that codes a plan says of each move. Assumes nothing.
 use mathlib.Core.Path.{_≡_, refl, sym, ap, _∙_, subst}
-use mathlib.Core.Logic.{_↔_, Iff·rfl, _⊎_, inl, inr}
-use mathlib.Core.Bool.{Bool, true, false, not, _&&_, _||_, Bool·not-not}
-use Prim.Native.Nat.{ℕ, zero, suc, _+_, _-_, _≤_, _<_}
-use native.Mathlib.Omega.{arith}
-use mathlib.Core.List.{List, [], _∷_, List·Memᴰ}
+use mathlib.Core.Logic.{_↔_, Iff·rfl, _⊎_}
+use mathlib.Core.Bool.{Bool, Bool·not-not}
+use Prim.Native.Nat.{ℕ, _+_, _-_, _≤_, _<_}
+use mathlib.Core.List.{List·Memᴰ}
 use lib.Dec.{T, eqb, eqb-refl}
 use Rattle.laws.proofs.Tests.{meaning, and-iff, or-iff, any-iff, eqb-iff, ltb-iff}
-use Rattle.spec.specs.Lists.{all, any, upTo, range, passes, faultless}
-use Rattle.spec.specs.Instance.{Instance, inWindow, servedAtDeparture}
+use Rattle.spec.specs.Lists.{all, passes, faultless}
+use Rattle.spec.specs.Instance.{Instance, servedAtDeparture}
 use Rattle.spec.specs.Sections.{together, shareSection}
 use Rattle.spec.specs.Plan.{Plan, Move, run, absent, gone, isAbsent, isGone, runs, ifRun, ofRun, isMove, rule1, absentBefore, departs, rule2, leavesRightly, rule3, runsOn, rule4, keepsCalls, rule5, rule6, servedBy, ruleFaults, keepsRules}
-use Rattle.spec.specs.Formula.{borderVar, runVar, goneVar}
+use Rattle.spec.specs.Formula.{runVar, goneVar}
 use Rattle.demands.proofs.Coding.{Codes}
 
 -- ---- the rules

@@ -1,7 +1,6 @@
 -- For a book that was read: a satisfying assignment decodes to a plan that keeps the rules and the formula's further
 -- condition, and such a plan satisfies the formula through its assignment, which decodes to its bytes. Assumes nothing.
 use mathlib.Core.Path.{_≡_, _∙_}
-use mathlib.Core.Bool.{Bool}
 use Prim.Native.Nat.{ℕ, _<_}
 use mathlib.Core.List.{List·Memᴰ}
 use lib.ListN.{length}
@@ -19,7 +18,7 @@ use Rattle.spec.specs.Assignment.{satisfies, assigned, assignmentFits, decode, 
 use Rattle.demands.proofs.Wellformed.{Sound, sound}
 use Rattle.demands.proofs.Reading.{read-well-formed}
 use Rattle.demands.proofs.Sections.{meet-sym}
-use Rattle.demands.proofs.Meaning.{Families, families}
+use Rattle.demands.proofs.Meaning.{families}
 use Rattle.demands.proofs.Coding.{Codes, codes-agree, codes-decoded}
 use Rattle.demands.proofs.Moves.{kept}
 use Rattle.demands.proofs.Rules.{satisfied-keeps}

@@ -1,26 +1,24 @@
 -- Refusals, the other way: where a reason of `Reasons` holds, the entry point refuses with that number and detail. So each entry
 -- point refuses with a number and a detail exactly where document 01 says so, 12 with too little room among them. Assumes nothing.
-use mathlib.Core.Path.{_≡_, refl, sym, ap, _∙_}
-use mathlib.Core.Logic.{_↔_, _⊎_, inl, inr}
+use mathlib.Core.Path.{_≡_, refl, ap, _∙_}
+use mathlib.Core.Logic.{_↔_, inl, inr}
 use mathlib.Core.Bool.{Bool, true, false, not}
 use mathlib.Core.Option.{Option, none, some}
-use Prim.Native.Nat.{ℕ, zero, suc, _+_, _-_, _≤_, _<_}
+use Prim.Native.Nat.{ℕ, zero, suc, _-_, _≤_, _<_}
 use native.Mathlib.Omega.{arith}
 use mathlib.Core.List.{List}
 use lib.ListN.{length}
 use lib.Dec.{T, T-not}
 use Rattle.laws.proofs.Tests.{all-at, decide, denied-of, empty-length, eqb-iff, le-or-lt, true-of}
 use Rattle.laws.proofs.Frames.{length-behind}
-use Rattle.spec.specs.Lists.{Bytes, all, empty, firstFault, Verdict, accepted, refused, andThen}
+use Rattle.spec.specs.Lists.{Bytes, all, empty, firstFault, Verdict, refused, andThen}
 use Rattle.spec.specs.Frames.{behind}
-use Rattle.spec.specs.Book.{Book}
-use Rattle.spec.specs.Read.{readBook}
 use Rattle.spec.specs.Instance.{Instance, instanceOf}
 use Rattle.spec.specs.Plan.{planFits, planOf, planLength, ruleFaults, brokenRule}
 use Rattle.spec.specs.Formula.{Clause, formula, variables, wordsOf}
 use Rattle.spec.specs.Assignment.{holds, satisfies, firstFalse, assigned, assignmentFits}
 use Rattle.spec.specs.Refutation.{Lent, clauseAt, stepFaults, stepDetail, checkSteps, checkFile}
-use Rattle.spec.specs.Entry.{demand, findNone, readInstance, writeFormula, judgeAssignment, judgePlan, decodedFor, checkAssignment, encodedFor, afterPlan, checkPlan, checkRefutation, refutedFor, formulaFits, writtenFor}
+use Rattle.spec.specs.Entry.{demand, findNone, readInstance, writeFormula, judgeAssignment, judgePlan, decodedFor, checkAssignment, checkPlan, checkRefutation, refutedFor, formulaFits, writtenFor}
 use Rattle.demands.proofs.Faults.{passes, clear-first, holds-first}
 use Rattle.demands.proofs.Refuting.{stepAt, added}
 use Rattle.demands.proofs.Entries.{demand-iff, then-goes, no-false, read-instance, plan-checked}

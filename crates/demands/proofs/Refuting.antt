@@ -2,20 +2,20 @@
 -- before it, and so no valuation satisfies the clauses of an accepted file. Assumes nothing.
 use mathlib.Core.Path.{_≡_, refl, sym, ap, _∙_, subst, fun-ext}
 use mathlib.Core.Logic.{_↔_, _⊎_, inl, inr, _≢_}
-use mathlib.Core.Bool.{Bool, true, false, not, _||_, cond, true≢false, false≢true}
+use mathlib.Core.Bool.{Bool, true, false, not, cond, true≢false, false≢true}
 use Prim.Native.Nat.{ℕ, zero, suc, _+_, _-_, _<_}
 use native.Mathlib.Omega.{arith}
 use mathlib.Core.List.{List, [], _∷_, _++_, append-nil}
 use mathlib.Core.List.{List·Memᴰ, List·Memᴰ·head, List·Memᴰ·tail, List·Memᴰ·not-nil, List·Memᴰ·append-cases, List·Memᴰ·cases-cons}
 use mathlib.Core.Option.{Option, none, some}
-use lib.ListN.{length, getD}
+use lib.ListN.{length}
 use lib.IntN.{pos, negsuc}
 use lib.Dec.{T, leb, ltb, eqb, eqb→eq, eqb-refl, T-not, not-T}
-use Rattle.spec.specs.Lists.{Bytes, any, all, one, only, pick, empty, Fault, firstFault, Verdict, accepted, refused}
+use Rattle.spec.specs.Lists.{Bytes, any, all, only, pick, empty, firstFault, Verdict, accepted, refused}
 use Rattle.spec.specs.Frames.{stepKind, stepLengthFits, kindField, payloadOf, behind, cutShort}
 use Rattle.spec.specs.Formula.{Literal, Clause}
 use Rattle.spec.specs.Assignment.{Value, open′, yes′, no′, deny, truth, isYes, valueOf, isTrue, holds, satisfies}
-use Rattle.spec.specs.Refutation.{ProofStep, stepIn, variableOf, risesFrom, literalsFit, hintsFit, Lent, clausesFit}
+use Rattle.spec.specs.Refutation.{ProofStep, variableOf, risesFrom, literalsFit, hintsFit, Lent, clausesFit}
 use Rattle.spec.specs.Refutation.{Values, makeTrue, makeFalse, refuting, isNo, isOpen, clauseAt, notFalse}
 use Rattle.spec.specs.Refutation.{Hinted, proves, makes, useless, hinted, goThrough, followsRule}
 use Rattle.spec.specs.Refutation.{AllFalse, Forces, Proves, atLast, onward, TakenFalse}

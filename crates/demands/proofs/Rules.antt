@@ -1,21 +1,20 @@
 -- A plan that is coded by a valuation which satisfies the formula keeps the six rules. Assumes nothing.
-use mathlib.Core.Path.{_≡_, refl, sym, ap, _∙_, subst}
-use mathlib.Core.Logic.{_↔_, _⊎_, inl, inr}
-use mathlib.Core.Bool.{Bool, true, false, not, _&&_, _||_}
-use Prim.Native.Nat.{ℕ, zero, suc, _+_, _-_, _≤_, _<_}
+use mathlib.Core.Path.{_≡_, refl, sym, subst}
+use mathlib.Core.Logic.{_⊎_, inl, inr}
+use mathlib.Core.Bool.{Bool, _&&_}
+use Prim.Native.Nat.{ℕ, _+_, _-_, _≤_, _<_}
 use native.Mathlib.Omega.{arith}
-use mathlib.Core.List.{List, [], _∷_, List·Memᴰ, List·Memᴰ·not-nil}
-use lib.Dec.{T, eqb}
-use Rattle.laws.proofs.Tests.{and-iff, or-iff, any-upTo, any-range, le-or-lt, decide, not-iff}
-use Rattle.spec.specs.Lists.{all, any, upTo, range}
+use mathlib.Core.List.{List·Memᴰ, List·Memᴰ·not-nil}
+use lib.Dec.{T}
+use Rattle.laws.proofs.Tests.{and-iff, any-upTo, any-range, le-or-lt, decide, not-iff}
 use Rattle.spec.specs.Instance.{Instance, inWindow, servedAtDeparture}
-use Rattle.spec.specs.Sections.{together, neighbours, Chain, here, link}
+use Rattle.spec.specs.Sections.{Chain, here, link}
 use Rattle.spec.specs.Plan.{Plan, Move, run, absent, gone, isAbsent, isGone, runs, ifRun, ofRun, rule1, rule2, rule3, rule4, rule5, rule6, servedBy, keepsRules}
-use Rattle.spec.specs.Formula.{borderVar, runVar, goneVar, claimVar}
+use Rattle.spec.specs.Formula.{runVar, claimVar}
 use Rattle.demands.proofs.Sections.{neighbours-iff, together-chain}
 use Rattle.demands.proofs.Meaning.{Families, meansA, meansB, meansC, meansD, meansE, meansF, meansG, meansH, meansI}
 use Rattle.demands.proofs.Coding.{Codes}
-use Rattle.demands.proofs.Moves.{Kept, from-kept, means1, means2, means3, means4, means5, means6, IsMove, aRun, isAway, hasLeft, which, run-of, gone-of, absent-of, run-true, true-run, gone-true, true-gone}
+use Rattle.demands.proofs.Moves.{from-kept, means1, means2, means3, means4, means5, means6, aRun, isAway, hasLeft, which, run-of, gone-of, absent-of, run-true, true-run, gone-true, true-gone}
 
 -- a run is neither absent nor gone, and absent is not gone
 pub run≢absent : {m : Move} {r : ℕ} {X : Type 0} → m ≡ run r → m ≡ absent → X

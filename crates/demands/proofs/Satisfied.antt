@@ -1,25 +1,25 @@
 -- A plan that keeps the six rules satisfies the formula, through every valuation that codes it and claims exactly the
 -- sections that its runs touch. Assumes nothing.
-use mathlib.Core.Path.{_≡_, refl, sym, ap, _∙_, subst}
-use mathlib.Core.Logic.{_↔_, _⊎_, inl, inr}
-use mathlib.Core.Bool.{Bool, true, false, not, _&&_, _||_}
-use Prim.Native.Nat.{ℕ, zero, suc, _+_, _-_, _≤_, _<_}
+use mathlib.Core.Path.{_≡_, sym, subst}
+use mathlib.Core.Logic.{_⊎_, inl, inr}
+use mathlib.Core.Bool.{Bool, _&&_}
+use Prim.Native.Nat.{ℕ, _+_, _-_, _≤_, _<_}
 use native.Mathlib.Omega.{arith}
-use mathlib.Core.List.{List, [], _∷_, List·Memᴰ}
-use lib.Dec.{T, eqb}
-use Rattle.laws.proofs.Tests.{and-iff, any-iff, any-upTo, any-range, le-or-lt, decide, not-iff}
-use Rattle.spec.specs.Lists.{all, any, upTo, range}
-use Rattle.spec.specs.Instance.{Instance, inWindow, servedAtDeparture}
+use mathlib.Core.List.{List·Memᴰ}
+use lib.Dec.{T}
+use Rattle.laws.proofs.Tests.{and-iff, any-iff, any-upTo, any-range, le-or-lt, decide}
+use Rattle.spec.specs.Lists.{any, upTo}
+use Rattle.spec.specs.Instance.{Instance, inWindow}
 use Rattle.spec.specs.Sections.{together}
-use Rattle.spec.specs.Plan.{Plan, Move, run, absent, gone, isAbsent, isGone, runs, ifRun, ofRun, servedBy, keepsRules}
-use Rattle.spec.specs.Formula.{borderVar, runVar, goneVar, claimVar, ownVariables, formula, familyA, familyB, familyC, familyD, familyE, familyF, familyG, familyH, familyI}
+use Rattle.spec.specs.Plan.{Plan, Move, run, absent, gone, isAbsent, isGone, runs, ifRun, ofRun, servedBy}
+use Rattle.spec.specs.Formula.{runVar, goneVar, claimVar, ownVariables, formula, familyA, familyB, familyC, familyD, familyE, familyF, familyG, familyH, familyI}
 use Rattle.spec.specs.Extra.{extraClauses}
 use Rattle.spec.specs.Assignment.{satisfies, claims}
 use Rattle.demands.proofs.Sections.{neighbours-iff, together-refl, together-sym, together-trans, together-step}
-use Rattle.demands.proofs.Meaning.{Families, from-families, meansA, meansB, meansC, meansD, meansE, meansF, meansG, meansH, meansI}
+use Rattle.demands.proofs.Meaning.{from-families, meansA, meansB, meansC, meansD, meansE, meansF, meansG, meansH, meansI}
 use Rattle.demands.proofs.Coding.{Codes}
-use Rattle.demands.proofs.Moves.{Kept, kept, means1, means2, means3, means4, means5, means6, IsMove, aRun, isAway, hasLeft, which, run-of, gone-of, absent-of, run-true, true-run, gone-true, true-gone}
-use Rattle.demands.proofs.Rules.{run≢absent, run≢gone, absent≢gone, in-book}
+use Rattle.demands.proofs.Moves.{Kept, means1, means2, means3, means4, means5, means6, aRun, isAway, hasLeft, which, run-of, gone-of, absent-of, run-true, true-run, gone-true, true-gone}
+use Rattle.demands.proofs.Rules.{run≢absent, run≢gone, absent≢gone}
 
 -- a valuation claims exactly the sections that the plan's runs touch
 abbrev pub Claiming : Instance → (ℕ → Bool) → Plan → Type 0

@@ -5,7 +5,7 @@ use mathlib.Core.Bool.{Bool, true, false, not, _&&_}
 use Prim.Native.Nat.{ℕ, zero, suc, _+_, _*_, _-_, _/_, _≤_, _<_}
 use native.Mathlib.Nat.{not-suc-le-zero, le-of-suc-le-suc}
 use native.Mathlib.Omega.{arith}
-use mathlib.Core.List.{List, [], _∷_, _++_, map, List·Memᴰ, List·Memᴰ·head, List·Memᴰ·tail, Memᴰ·of-map}
+use mathlib.Core.List.{List, [], _∷_, _++_, map, List·Memᴰ, Memᴰ·of-map}
 use lib.ListN.{length, getD}
 use lib.Dec.{T, leb, ltb, eqb}
 use Rattle.spec.specs.Lists.{all, upTo, only, one, pick, empty, passes, faultless}
@@ -14,7 +14,7 @@ use Rattle.spec.specs.Book.{Book, Train, greatestNodeKind, nodeKindAt, trainAt,
 use Rattle.spec.specs.Runs.{directed, goesOn, extend, pathsOf, runsOf}
 use Rattle.spec.specs.Read.{wellFormed, growing, bookFaults, headFits, segmentFits, joinFits, joinsOnce, trainFits, reachFits, placeFits, trainAllFits, callFits, between, maxNodes, maxSegments, maxJoins, maxTrains, maxCalls, maxRuns}
 use Rattle.spec.specs.Instance.{Instance, instanceOf, compile, runLists, runAt, callAt}
-use Rattle.laws.proofs.Tests.{and-iff, neither-iff, eqb-iff, ltb-iff, leb-iff, all-iff, all-upTo, getD-mem, all-at}
+use Rattle.laws.proofs.Tests.{and-iff, neither-iff, eqb-iff, ltb-iff, leb-iff, all-iff, all-upTo, all-at}
 use Rattle.demands.proofs.Growing.{Few, growing-parts, none-iff, all-weaken, not-above}
 use Rattle.laws.proofs.Rows.{all-append, all-cons, all-each}
 

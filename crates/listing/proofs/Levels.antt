@@ -9,7 +9,7 @@ use native.Mathlib.Omega.{arith}
 use mathlib.Core.List.{List, [], _∷_, _++_, map, append-nil, append-assoc}
 use lib.ListN.{length, getD, replicate, length-append, length-map}
 use lib.Seq.{ext-getD}
-use lib.Dec.{T, eqb, ltb, leb, leb→le}
+use lib.Dec.{T, eqb, ltb}
 use Rattle.spec.specs.Lists.{Bytes, upTo, each, one, all, has, lastOr}
 use Rattle.spec.specs.Book.{Book, Train, segmentOf, lengthInSegments, speedInSegments}
 use Rattle.spec.specs.Held.{padded}

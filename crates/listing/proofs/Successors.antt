@@ -16,7 +16,7 @@ use lib.Dec.{T, ltb}
 use Rattle.model.specs.declared.Book.{Book as BookStruct}
 use Rattle.spec.specs.Lists.{Bytes, upTo, each, only, one, all, pick, has, lastOr}
 use Rattle.spec.specs.Book.{Book, segmentOf, startNode, endNode, joined}
-use Rattle.spec.specs.Held.{padded, held, CountsFit}
+use Rattle.spec.specs.Held.{held, CountsFit}
 use Rattle.spec.specs.Runs.{leadsTo, goesOn, extend, pathsOf, directed}
 use Rattle.laws.proofs.Tests.{and-iff, ltb-iff, all-at, all-upTo, le-or-lt}
 use Rattle.laws.proofs.Parts.{length-upTo, each-append, each-same, map-at}

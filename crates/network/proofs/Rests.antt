@@ -1,15 +1,14 @@
 -- What is left of a list or a range behind a place, one element at a time: a test over it, the elements that pass a test, the last
 -- of them, and a row that is filled into an array of zeros. Assumes nothing.
 use mathlib.Core.Path.{_≡_, sym, ap, _∙_}
-use mathlib.Core.Bool.{Bool, true, false, _&&_, _||_}
+use mathlib.Core.Bool.{Bool, true, false, _||_}
 use Prim.Native.Nat.{ℕ, suc, _+_, _-_, _≤_, _<_}
 use native.Mathlib.Numerals.{add-one}
 use native.Mathlib.Omega.{arith}
 use mathlib.Core.List.{List, _++_}
-use lib.ListN.{length, getD, drop, set, replicate, length-append, drop-of-length-le}
-use lib.Seq.{slice, drop-cons, set-at, append-snoc}
+use lib.ListN.{length, getD, length-append}
+use lib.Seq.{slice}
 use Rattle.spec.specs.Lists.{any, lastOr, pick, only, one, upTo, range, count}
-use Rattle.spec.specs.Held.{padded}
 use Rattle.network.proofs.Walks.{slice-next, slice-end}
 
 -- how many of those from i up to n pass a test

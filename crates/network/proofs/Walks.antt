@@ -1,8 +1,8 @@
 -- Loops over a row of an array: tests over `slice i n xs`, the elements from i up to n, one element at a time; the test of one
 -- element of a row that passes; and the length of an array of structs, from what is known of it. Assumes nothing.
-use mathlib.Core.Path.{_≡_, refl, sym, ap, _∙_}
+use mathlib.Core.Path.{_≡_, sym, ap, _∙_}
 use mathlib.Core.Bool.{Bool, true, false, _&&_, _||_}
-use Prim.Native.Nat.{ℕ, zero, suc, _+_, _≤_, _<_}
+use Prim.Native.Nat.{ℕ, _+_, _≤_, _<_}
 use native.Mathlib.Numerals.{add-one}
 use native.Mathlib.Omega.{arith}
 use mathlib.Core.List.{List, [], _∷_, map}
@@ -10,7 +10,7 @@ use lib.ListN.{length, getD, take, length-map, length-take, drop-of-length-le}
 use lib.Seq.{slice, slice-cons, getD-take}
 use lib.Dec.{T}
 use Rattle.spec.specs.Lists.{any, all}
-use Rattle.laws.proofs.Tests.{and-iff, all-at}
+use Rattle.laws.proofs.Tests.{all-at}
 
 -- for `search (needs, length-of-map)`: an array of structs is as long as the list of its elements' values
 pub length-of-map {ℓ κ} : {A : Type ℓ} {B : Type κ} (f : A → B) (xs : List A) (n : ℕ) → length (map f xs) ≡ n → length xs ≡ n

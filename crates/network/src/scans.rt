@@ -5,13 +5,12 @@ use model::Book;
 use model::MAX_NODES;
 ghost use mathlib.Core.Path.{_≡_};
 ghost use mathlib.Core.Bool.{not, _&&_};
-ghost use Prim.Native.Nat.{_+_, _≤_};
-ghost use lib.ListN.{length, drop};
-ghost use lib.Dec.{T, ltb, eqb};
+ghost use Prim.Native.Nat.{_+_};
+ghost use lib.Dec.{T, eqb};
 ghost use Rattle.spec.specs.Lists as lists;
 ghost use Rattle.spec.specs.Book as book;
 ghost use Rattle.spec.specs.Read as read;
-ghost use Rattle.spec.specs.Held.{held, CountsFit, padded};
+ghost use Rattle.spec.specs.Held.{held, CountsFit};
 
 // Whether some segment has the TTD.
 pub fn some_has(b: Book, ttd: usize) -> bool

@@ -1,6 +1,6 @@
 -- What follows for the output of a plan from the answer of `judging::admit_plan`: the refusal stands whatever was to be written, and
 -- where there is none the plan is accepted and what was to be written decides. Assumes nothing.
-use mathlib.Core.Path.{_≡_, refl, sym, ap, _∙_}
+use mathlib.Core.Path.{_≡_, refl, sym, ap}
 use mathlib.Core.Bool.{Bool, true, false}
 use Prim.Native.Nat.{ℕ, _≤_}
 use lib.Dec.{leb}

@@ -6,7 +6,7 @@ use mathlib.Core.Logic.{_≢_}
 use mathlib.Core.Bool.{Bool, true, false, not}
 use mathlib.Core.Option.{none, some}
 use Prim.Native.Nat.{ℕ, zero, suc, _≤_, _<_}
-use Rattle.spec.specs.Lists.{Bytes, Verdict, accepted, refused, one, _when_, firstFault, andThen}
+use Rattle.spec.specs.Lists.{Bytes, one, _when_, firstFault, andThen}
 use Rattle.spec.specs.Instance.{Instance}
 use Rattle.spec.specs.Plan.{planFits, planOf, rule6, brokenRule}
 use Rattle.spec.specs.Entry.{demand, judgePlan, admitPlan}

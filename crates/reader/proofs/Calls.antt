@@ -1,6 +1,6 @@
 -- There is room for a call of a train that has fewer than four: the calls are at most the sum of the trains' own, and each train
 -- has at most four. Assumes nothing.
-use mathlib.Core.Path.{_≡_, refl}
+use mathlib.Core.Path.{_≡_}
 use mathlib.Core.Logic.{inl, inr}
 use Prim.Native.Nat.{ℕ, zero, suc, _+_, _*_, _≤_, _<_}
 use native.Mathlib.Omega.{arith}

@@ -1,18 +1,18 @@
 -- The first fault of a frame, by the tests that the code makes in a row, and those tests in the specification's words. Assumes
 -- nothing.
-use mathlib.Core.Path.{_≡_, refl, sym, ap, _∙_}
+use mathlib.Core.Path.{_≡_, refl, ap, _∙_}
 use mathlib.Core.Logic.{_≢_}
-use mathlib.Core.Bool.{Bool, true, false, not, _&&_, _||_, Bool·not-not}
-use mathlib.Core.Option.{Option, none, some}
-use Prim.Native.Nat.{ℕ, suc, _+_, _-_, _≤_, _<_}
+use mathlib.Core.Bool.{Bool, true, false, not}
+use mathlib.Core.Option.{some}
+use Prim.Native.Nat.{ℕ, _-_, _≤_}
 use native.Mathlib.Omega.{arith}
 use mathlib.Core.List.{List, [], _∷_}
-use lib.ListN.{length, drop}
-use lib.Dec.{T, eqb, T-not}
-use Rattle.laws.proofs.Tests.{decide, true-of, denied-of, false-of, or-iff, and-iff, eqb-iff, bool-ext, empty-length}
-use Rattle.spec.specs.Lists.{Bytes, any, all, empty, Fault, _when_, firstFault}
+use lib.ListN.{length}
+use lib.Dec.{T, eqb}
+use Rattle.laws.proofs.Tests.{decide, true-of, denied-of, empty-length}
+use Rattle.spec.specs.Lists.{Bytes, any, Fault, _when_, firstFault}
 use Rattle.spec.specs.Frames.{Format, Kind, kindNumber, kindOrder, rank, rankIn, findKind, kindField, payloadOf, behind, cutShort}
-use Rattle.spec.specs.Read.{Reading, unknownKind, outOfOrder, isHead, isEnd, kindFaults, frameFaults}
+use Rattle.spec.specs.Read.{Reading, unknownKind, outOfOrder, kindFaults, frameFaults}
 use Rattle.demands.proofs.Growing.{none-iff}
 use Rattle.frames.proofs.Order.{rank-none}
 use Rattle.frames.specs.Framed.{outOfOrderBy}

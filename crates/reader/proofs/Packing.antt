@@ -3,11 +3,11 @@
 use Rattle.laws.proofs.Arrays.{take-padded, padded-next}
 use mathlib.Core.Path.{_≡_, refl, sym, ap, ap₂, _∙_}
 use mathlib.Core.Option.{Option, none, some}
-use Prim.Native.Nat.{ℕ, suc, _+_, _*_, _-_, _≤_, _<_}
+use Prim.Native.Nat.{ℕ, _+_, _*_, _-_, _≤_, _<_}
 use native.Mathlib.Omega.{arith}
 use mathlib.Core.List.{List, [], _∷_, _++_, map}
 use lib.ListN.{length, take, set, length-append, length-map}
-use lib.Seq.{length-take-le, take-append-seam, take-at, set-append-seam, append-snoc}
+use lib.Seq.{length-take-le, take-at}
 use Rattle.model.specs.declared.Book.{Book as BookStruct}
 use Rattle.model.specs.declared.Train.{Train as TrainStruct}
 use Rattle.spec.specs.Lists.{Bytes, one, firstFault}

@@ -1,25 +1,19 @@
 -- What one step's answer says of the frame, and what it means for the whole file: the verdict where reading stops, and where
 -- it goes on the next place on the way. Assumes nothing.
-use mathlib.Core.Path.{_≡_, refl, sym, ap, _∙_, subst}
-use mathlib.Core.Logic.{_↔_, _≢_, _⊎_, inl, inr}
-use mathlib.Core.Bool.{Bool, true, false, not}
+use mathlib.Core.Path.{_≡_, refl, subst}
+use mathlib.Core.Bool.{Bool, true, false}
 use mathlib.Core.Option.{Option, none, some}
-use Prim.Native.Nat.{ℕ, suc, _+_, _-_, _≤_, _<_}
+use Prim.Native.Nat.{ℕ, _+_, _-_}
 use native.Mathlib.Omega.{arith}
-use mathlib.Core.List.{List, []}
-use lib.ListN.{length, drop}
+use lib.ListN.{drop}
 use lib.Seq.{drop-drop}
-use lib.Dec.{T}
 use Rattle.laws.proofs.Tests.{from-true, from-denied}
-use Rattle.laws.proofs.Numbers.{bytes}
-use Rattle.spec.specs.Lists.{Bytes, Verdict, accepted, refused, firstFault}
+use Rattle.spec.specs.Lists.{Bytes, accepted, refused, firstFault}
 use Rattle.spec.specs.Frames.{Format, cutShort, kindField, payloadLength, behind, rank}
-use Rattle.spec.specs.Book.{Book, noBook}
 use Rattle.spec.specs.Read.{Reading, frameFaults, bookFaults, refuseOr, isEnd, pastFrame, readAs}
-use Rattle.spec.specs.Held.{held, packed}
+use Rattle.spec.specs.Held.{packed}
 use Rattle.demands.proofs.Faults.{first-none, first-some}
-use Rattle.demands.proofs.Reading.{ReadsTo, next, Ends, frame, book, pass, GoesOn, goes-iff, as-iff}
-use Rattle.reader.specs.declared.reading.Next.{Next}
+use Rattle.demands.proofs.Reading.{ReadsTo, next, frame, book, pass, goes-iff, as-iff}
 use Rattle.reader.specs.declared.reading.Next.the-variants.{Stop, End, More}
 use Rattle.reader.specs.BookAnswers.{steppedBy, steppedAt}
 use Rattle.frames.specs.Framed.{framedAt, wholeOr}

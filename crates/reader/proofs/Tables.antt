@@ -10,7 +10,7 @@ use Rattle.laws.proofs.Numbers.{field-one}
 use Rattle.laws.proofs.Tests.{and-iff, leb-iff, false-of}
 use Rattle.spec.specs.Lists.{Bytes, firstFault}
 use Rattle.spec.specs.Numbers.{field}
-use Rattle.spec.specs.Frames.{Format, isKind, kindNumber, Kind, headKind, nodeKind, segmentKind, joinKind, trainKind, callKind, unbreakableKind}
+use Rattle.spec.specs.Frames.{Format, isKind, kindNumber, headKind, nodeKind, segmentKind, joinKind, trainKind, callKind, unbreakableKind}
 use Rattle.spec.specs.Book.{Book, greatestNodeKind, callsOf}
 use Rattle.spec.specs.Read.{contentFaults, add, headFits, segmentFits, segmentIn, joinFits, joinIn, joinRepeats, trainFits, trainIn, reachFits, placeFits, callFits, callIn, someHas, mayDivide, maxNodes, maxSegments, maxJoins, maxTrains, maxCalls, between}
 

@@ -1,20 +1,20 @@
 -- The reader on its way through a file: what it holds is the struct of a book that the file leads to (`OnWay`). Each answer of a
 -- step then decides the file, or leads on. Assumes nothing.
-use mathlib.Core.Path.{_≡_, refl, sym, ap, ap₂, _∙_, subst}
+use mathlib.Core.Path.{_≡_, refl, sym, ap, _∙_, subst}
 use mathlib.Core.Logic.{_≢_}
-use mathlib.Core.Bool.{Bool, true, false, not}
-use mathlib.Core.Option.{Option, none, some}
-use Prim.Native.Nat.{ℕ, suc, _+_, _-_, _≤_, _<_}
+use mathlib.Core.Bool.{true, not}
+use mathlib.Core.Option.{none}
+use Prim.Native.Nat.{ℕ, suc, _-_, _≤_, _<_}
 use native.Mathlib.Omega.{arith}
-use mathlib.Core.List.{List, [], _∷_, List·Memᴰ, List·Memᴰ·head, List·Memᴰ·tail}
+use mathlib.Core.List.{[], _∷_}
 use lib.ListN.{length, getD, drop, length-drop}
 use lib.Dec.{T, ltb, T-not}
 use Rattle.model.specs.declared.Book.{Book as BookStruct}
-use Rattle.laws.proofs.Tests.{and-iff, leb-iff, ltb-iff, from-true, from-false, eqb-iff}
+use Rattle.laws.proofs.Tests.{and-iff, leb-iff, ltb-iff, from-true, eqb-iff}
 use Rattle.laws.proofs.Numbers.{bytes}
 use Rattle.laws.proofs.Frames.{whole-iff}
-use Rattle.spec.specs.Lists.{Bytes, all, Verdict, accepted, refused, firstFault}
-use Rattle.spec.specs.Frames.{Format, cutShort, kindField, payloadLength, behind, rank, kindNumber}
+use Rattle.spec.specs.Lists.{Bytes, all, refused, firstFault}
+use Rattle.spec.specs.Frames.{Format, kindField, behind, kindNumber}
 use Rattle.spec.specs.Book.{Book, noBook}
 use Rattle.spec.specs.BookFile.{FitsFields}
 use Rattle.spec.specs.Read.{growing, Reading, readingStart, frameFaults, bookFaults, refuseOr, isEnd, pastFrame, readAs, headFits, between, outOfOrder, maxIntervals}
@@ -33,7 +33,7 @@ use Rattle.reader.specs.declared.reading.Next.the-variants.{Stop, End, M
 use Rattle.reader.specs.BookAnswers.{steppedBy, steppedAt}
 use Rattle.reader.proofs.FrameTests.{order-by}
 use Rattle.reader.proofs.ByKind.{growing-calls}
-use Rattle.reader.proofs.Steps.{never, stop-of, end-of, more-of, stopped-reads, ended-reads, goes-way}
+use Rattle.reader.proofs.Steps.{stop-of, end-of, more-of, stopped-reads, ended-reads, goes-way}
 
 -- a slice of bytes
 pub bytes-of : (s : Bytes) → ((i : ℕ) → getD s i 0 < 256) → T (bytes s)

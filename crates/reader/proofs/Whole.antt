@@ -1,18 +1,17 @@
 -- A whole frame at a place of a file: what the code's tests in a row, and the answer of its content, say of the first fault
 -- there. Assumes nothing.
-use mathlib.Core.Path.{_≡_, refl, sym, ap, ap₂, _∙_, subst}
+use mathlib.Core.Path.{_≡_, refl, sym, ap, ap₂, _∙_}
 use mathlib.Core.Logic.{_≢_}
-use mathlib.Core.Bool.{Bool, true, false}
+use mathlib.Core.Bool.{true, false}
 use mathlib.Core.Option.{Option, none, some}
-use Prim.Native.Nat.{ℕ, suc, _+_, _-_, _≤_, _<_}
+use Prim.Native.Nat.{ℕ, _+_, _-_, _≤_}
 use native.Mathlib.Omega.{arith}
-use mathlib.Core.List.{List, [], _∷_}
 use lib.ListN.{length, take, drop, length-drop}
 use lib.Seq.{drop-drop}
 use Rattle.model.specs.declared.Book.{Book as BookStruct}
 use Rattle.spec.specs.Lists.{Bytes, firstFault}
 use lib.Dec.{T, eqb}
-use Rattle.laws.proofs.Tests.{decide, true-of, false-of, denied-of, from-denied, eqb-iff}
+use Rattle.laws.proofs.Tests.{true-of, false-of, from-denied, eqb-iff}
 use Rattle.laws.proofs.Frames.{whole-iff}
 use Rattle.spec.specs.Reached.{Reached, atStart, behindHead}
 use Rattle.frames.proofs.Order.{not-first, in-said}

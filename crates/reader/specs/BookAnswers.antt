@@ -1,23 +1,20 @@
 -- What reading answers, in the specification's words: each case of an answer has document 01's number and values. Assumes
 -- nothing.
-use mathlib.Core.Bool.{Bool, true, false, not, _&&_, _||_}
+use mathlib.Core.Bool.{Bool, true, false}
 use mathlib.Core.Option.{Option, none, some}
 use Prim.Native.Nat.{ℕ, _+_}
-use mathlib.Core.List.{[]}
 use lib.ListN.{replicate}
-use lib.Dec.{ltb, eqb}
 use Rattle.spec.specs.Lists.{Bytes, Verdict, accepted, refused, firstFault}
-use Rattle.spec.specs.Frames.{Format, frameHead, Kind, kindOrder, findKind, kindField, payloadLength, payloadOf, rank}
+use Rattle.spec.specs.Frames.{Format, frameHead, Kind, kindField, payloadLength, rank}
 use Rattle.spec.specs.Book.{Book, noBook}
-use Rattle.spec.specs.Read.{Reading, frameFaults, pastFrame, isHead, isEnd, kindFaults, addFound, maxTrains}
-use Rattle.spec.specs.Held.{held, packed}
+use Rattle.spec.specs.Read.{Reading, frameFaults, pastFrame, isEnd, kindFaults, addFound, maxTrains}
+use Rattle.spec.specs.Held.{packed}
 use Rattle.listing.specs.Listed.{runCounts}
 use Rattle.reader.specs.Added.{settled}
 use Rattle.reader.specs.declared.content.Added.{Added}
 use Rattle.reader.specs.declared.reading.Answer.{Answer}
 use Rattle.reader.specs.declared.reading.Answer.the-variants.{Accepted, Refused}
 use Rattle.reader.specs.declared.reading.BookRead.{BookRead}
-use Rattle.reader.specs.declared.reading.Next.{Next}
 use Rattle.reader.specs.declared.reading.Next.the-variants.{Stop, End, More}
 use Rattle.reader.specs.declared.reading.Stepped.{Stepped}
 

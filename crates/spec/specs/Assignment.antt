@@ -1,12 +1,12 @@
 -- Assignments: the truth of a literal, judging, decoding, and a plan written as an assignment. Assumes nothing.
-use mathlib.Core.Bool.{Bool, true, false, not, _&&_, _||_, cond}
-use Prim.Native.Nat.{ℕ, zero, suc, _+_, _*_, _-_}
+use mathlib.Core.Bool.{Bool, true, false, _&&_, cond}
+use Prim.Native.Nat.{ℕ, zero, suc, _+_}
 use mathlib.Core.List.{List, [], _∷_, _++_, map}
 use mathlib.Core.Option.{Option, none, some}
 use lib.ListN.{length, getD}
-use lib.IntN.{ℤ, pos, negsuc}
-use lib.Dec.{leb, ltb, eqb}
-use Rattle.spec.specs.Lists.{Bytes, any, all, upTo, each, one}
+use lib.IntN.{pos, negsuc}
+use lib.Dec.{eqb}
+use Rattle.spec.specs.Lists.{Bytes, any, all, upTo, each}
 use Rattle.spec.specs.Instance.{Instance}
 use Rattle.spec.specs.Sections.{together}
 use Rattle.spec.specs.Plan.{Plan, Move, run, absent, gone, isGone, runs, ofRun, bit, isBit, planBytes}

@@ -1,10 +1,10 @@
 -- The book, as document 01 lists its content, and the directed segments. Assumes nothing.
-use mathlib.Core.Bool.{Bool, true, false, not, _&&_, _||_, cond}
-use Prim.Native.Nat.{ℕ, zero, suc, _+_, _*_, _-_, _/_, _%_}
-use mathlib.Core.List.{List, [], _∷_, _++_}
-use lib.ListN.{length, getD}
-use lib.Dec.{leb, ltb, eqb}
-use Rattle.spec.specs.Lists.{any, all, pick, upTo, lastOr}
+use mathlib.Core.Bool.{Bool, not, _&&_, _||_, cond}
+use Prim.Native.Nat.{ℕ, _+_, _*_, _-_, _/_, _%_}
+use mathlib.Core.List.{List, []}
+use lib.ListN.{getD}
+use lib.Dec.{eqb}
+use Rattle.spec.specs.Lists.{any, pick, lastOr}
 -- "3 Segment: node a, node b, TTD"; "4 Join: node, two different segments touching it"; "6 Call: train, segment, first, last"
 pub use Rattle.model.specs.declared.Segment.{Segment}
 pub use Rattle.model.specs.declared.Join.{Join}

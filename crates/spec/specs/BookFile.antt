@@ -1,6 +1,6 @@
 -- The file of a book in a format, built from its parts: the frames of "The book", each payload field by field. What a reader must
 -- give back is stated against this, and not against the reader. Assumes nothing.
-use mathlib.Core.Bool.{Bool, _&&_}
+use mathlib.Core.Bool.{_&&_}
 use Prim.Native.Nat.{ℕ, _<_}
 use mathlib.Core.List.{List, [], _++_}
 use lib.ListN.{length}

@@ -1,18 +1,17 @@
 -- The entry points, each as ONE definition: what it returns, from the book's bytes, the second input's bytes and the lengths of
 -- the lent slices, and from nothing else; and beside it what each lent slice holds after the call. Assumes nothing.
-use mathlib.Core.Bool.{Bool, true, false, not, _&&_, _||_, cond}
-use Prim.Native.Nat.{ℕ, zero, suc, _+_}
-use mathlib.Core.List.{List, [], _∷_, _++_, map}
+use mathlib.Core.Bool.{Bool, true, false, _&&_}
+use Prim.Native.Nat.{ℕ, _+_}
+use mathlib.Core.List.{List, [], _++_}
 use mathlib.Core.Option.{Option, none, some}
-use lib.ListN.{length, getD, drop, replicate}
+use lib.ListN.{length, drop, replicate}
 use lib.IntN.{ℤ}
-use lib.Dec.{leb, ltb, eqb}
+use lib.Dec.{leb}
 use Rattle.spec.specs.Lists.{Bytes, Verdict, accepted, refused, andThen}
-use Rattle.spec.specs.Book.{Book}
 use Rattle.spec.specs.Read.{readBook}
 use Rattle.spec.specs.Instance.{Instance, instanceOf}
 use Rattle.spec.specs.Plan.{Plan, planFits, planLength, planOf, brokenRule}
-use Rattle.spec.specs.Formula.{Clause, formula, variables, wordsOf, dimacsText}
+use Rattle.spec.specs.Formula.{formula, variables, wordsOf, dimacsText}
 use Rattle.spec.specs.Assignment.{assignmentFits, assigned, firstFalse, decode, encode}
 use Rattle.spec.specs.Refutation.{Lent, clausesFit, checkFile}
 

@@ -1,12 +1,11 @@
 -- The formula: variables, the nine families clause for clause, words, totals and the DIMACS text. A literal is an integer:
 -- `pos (suc v)` affirms the variable v and `negsuc v` denies it, v counted from 0 (the text's v + 1). Assumes nothing.
-use mathlib.Core.Bool.{Bool, true, false, not, _&&_, _||_, cond}
-use Prim.Native.Nat.{ℕ, zero, suc, _+_, _*_, _-_}
+use mathlib.Core.Bool.{not}
+use Prim.Native.Nat.{ℕ, suc, _+_, _*_, _-_}
 use mathlib.Core.List.{List, [], _∷_, _++_, map}
-use lib.ListN.{length, getD}
+use lib.ListN.{length}
 use lib.IntN.{ℤ, pos, negsuc}
-use lib.Dec.{leb, ltb, eqb}
-use Rattle.spec.specs.Lists.{Bytes, any, all, upTo, range, each, only, one, sumTo}
+use Rattle.spec.specs.Lists.{Bytes, upTo, range, each, only, one, sumTo}
 use Rattle.spec.specs.Numbers.{decimal, decimalZ}
 use Rattle.spec.specs.Instance.{Instance, inWindow, servedAtDeparture}
 use Rattle.spec.specs.Extra.{extraVariables, extraClauses}

@@ -1,12 +1,12 @@
 -- "A file of frames": length, kind, payload; each kind's number; and what a format says of payloads: how long each kind's is.
 -- Numbers and lengths are written down here once. Assumes nothing.
-use mathlib.Core.Bool.{Bool, true, false, not, _&&_, _||_}
-use Prim.Native.Nat.{ℕ, zero, suc, _+_, _*_, _-_, _%_}
+use mathlib.Core.Bool.{Bool, true, false, _&&_, _||_}
+use Prim.Native.Nat.{ℕ, suc, _+_, _*_, _-_, _%_}
 use mathlib.Core.List.{List, [], _∷_, _++_}
 use mathlib.Core.Option.{Option, none, some}
 use lib.ListN.{length, take, drop}
 use lib.Dec.{leb, ltb, eqb}
-use Rattle.spec.specs.Lists.{Bytes, any}
+use Rattle.spec.specs.Lists.{Bytes}
 use Rattle.spec.specs.Numbers.{littleEndian, field}
 
 -- "two-byte length of the payload, two-byte kind, payload": how many bytes a frame has ahead of its payload

@@ -1,12 +1,12 @@
 -- What the plan rules and the formula ask of a book, and nothing else: counts, and answers by number. The book's text is
 -- turned into these answers in one place, `instanceOf`, so a rule of the book (which node kinds deny a border, whether a
 -- place serves a call, who may be gone) is changed here and nowhere else. Assumes nothing.
-use mathlib.Core.Bool.{Bool, true, false, not, _&&_, _||_, cond}
-use Prim.Native.Nat.{ℕ, zero, suc, _+_, _*_, _-_}
-use mathlib.Core.List.{List, [], _∷_, _++_, map}
+use mathlib.Core.Bool.{Bool, _&&_}
+use Prim.Native.Nat.{ℕ}
+use mathlib.Core.List.{List, [], map}
 use lib.ListN.{length, getD}
 use Rattle.spec.specs.Lists.{same}
-use Rattle.spec.specs.Book.{Book, Train, Call, nodeKindAt, trainAt, callsOf, noCall, goalOf}
+use Rattle.spec.specs.Book.{Book, Call, nodeKindAt, trainAt, callsOf, noCall, goalOf}
 use Rattle.spec.specs.Book.{deniesBorder, forcesBorder, shareNode, segmentOf, lengthInSegments}
 use Rattle.spec.specs.Runs.{runsOf, startPlace, endPlace, contains}
 use Rattle.spec.specs.Read.{between}

@@ -1,8 +1,8 @@
 -- Little-endian numbers, for any width in bytes, without and with a sign, and decimal digits.
 -- Assumes nothing.
-use mathlib.Core.Bool.{Bool, true, false}
+use mathlib.Core.Bool.{true, false}
 use Prim.Native.Nat.{ℕ, zero, suc, _+_, _*_, _-_, _/_, _%_, _^_}
-use mathlib.Core.List.{List, [], _∷_, _++_}
+use mathlib.Core.List.{[], _∷_, _++_}
 use lib.ListN.{take, drop}
 use lib.IntN.{ℤ, pos, negsuc}
 use lib.Dec.{ltb}

@@ -1,9 +1,9 @@
 -- The plan: its choices, its bytes, the six rules, the least broken rule. The rules are stated of the choices themselves,
 -- never through the formula. Assumes nothing.
 use mathlib.Core.Bool.{Bool, true, false, not, _&&_, _||_, cond}
-use Prim.Native.Nat.{ℕ, zero, suc, _+_, _*_, _-_, _<_}
+use Prim.Native.Nat.{ℕ, _+_, _*_, _-_, _<_}
 use mathlib.Core.List.{List, [], _∷_, _++_, map}
-use mathlib.Core.Option.{Option, none, some}
+use mathlib.Core.Option.{Option}
 use lib.ListN.{length, getD}
 use lib.Dec.{T, leb, ltb, eqb}
 use Rattle.spec.specs.Lists.{Bytes, any, all, upTo, range, each, one, Fault, _when_, firstFault, faultless}

@@ -2,7 +2,7 @@
 -- its number, a blank and its detail". What is printed here is what a program hands to the output. Assumes nothing.
 use mathlib.Core.Bool.{Bool, true, false, _||_}
 use Prim.Native.Nat.{ℕ, _/_}
-use mathlib.Core.List.{List, [], _∷_, _++_}
+use mathlib.Core.List.{[], _∷_, _++_}
 use lib.ListN.{length}
 use lib.Dec.{ltb}
 use Rattle.spec.specs.Lists.{Bytes, Verdict, accepted, refused}

@@ -5,17 +5,17 @@ use Prim.Native.Nat.{ℕ, zero, suc, _+_, _*_, _-_, _/_, _^_, _<_}
 use mathlib.Core.Path.{_≡_}
 use mathlib.Core.Logic.{_≢_}
 use mathlib.Core.List.{List, [], _∷_, _++_, map, List·Memᴰ}
-use mathlib.Core.Option.{Option, none, some}
-use lib.ListN.{length, getD, take, drop}
+use mathlib.Core.Option.{none, some}
+use lib.ListN.{length, getD, drop}
 use lib.IntN.{ℤ, pos, negsuc}
 use lib.Signed.{mag}
 use lib.Dec.{T, leb, ltb, eqb}
-use Rattle.spec.specs.Lists.{Bytes, any, all, upTo, each, one, pick, empty, Fault, _when_, firstFault, Verdict, accepted, refused}
+use Rattle.spec.specs.Lists.{Bytes, all, upTo, each, one, pick, empty, Fault, _when_, firstFault, Verdict, accepted, refused}
 use Rattle.spec.specs.Numbers.{littleEndian, field, signed, unsigned}
 use Rattle.spec.specs.Frames.{frame, stepKind, stepFixed, numberWidth, hintsAt, stepLengthFits, kindField, payloadOf, behind, cutShort}
 unfoldable pub use Rattle.spec.specs.Frames.{literalCount}
 use Rattle.spec.specs.Formula.{Literal, Clause, wordsOf}
-use Rattle.spec.specs.Assignment.{Value, open′, yes′, no′, truth, isYes}
+use Rattle.spec.specs.Assignment.{Value, open′, yes′, no′, truth}
 
 -- A step (document 01's term): its clause, and its hints, the numbers of the clauses that prove it.
 pub record ProofStep : Type 0 where

@@ -1,11 +1,11 @@
 -- Paths, places and runs, and the run list in its order. Assumes nothing.
-use mathlib.Core.Bool.{Bool, true, false, not, _&&_, _||_, cond}
-use Prim.Native.Nat.{ℕ, zero, suc, _+_, _*_, _-_, _/_, _%_}
+use mathlib.Core.Bool.{Bool, true, false, not, _&&_}
+use Prim.Native.Nat.{ℕ, zero, suc, _+_, _*_, _-_}
 use mathlib.Core.List.{List, [], _∷_, _++_, map}
-use lib.ListN.{length, getD, take, drop}
-use lib.Dec.{leb, ltb, eqb}
-use Rattle.spec.specs.Lists.{any, all, upTo, each, only, one, lastOr, different, has}
-use Rattle.spec.specs.Book.{Book, Train, segmentOf, startNode, endNode, joined, trainAt, lengthInSegments, speedInSegments}
+use lib.ListN.{length, take, drop}
+use lib.Dec.{eqb}
+use Rattle.spec.specs.Lists.{upTo, each, one, lastOr, different, has}
+use Rattle.spec.specs.Book.{Book, Train, segmentOf, startNode, endNode, joined, lengthInSegments, speedInSegments}
 
 -- "each ending where the next begins, with a join of the two at that node"
 unfoldable pub leadsTo : Book → ℕ → ℕ → Bool

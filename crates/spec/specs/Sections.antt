@@ -1,6 +1,6 @@
 -- Sections (document 01's term), twice: as the text has them, a chain of segments, and as a computation. That the two are
 -- equal is a theorem. This is the one place of the section rule. Assumes nothing.
-use mathlib.Core.Bool.{Bool, true, false, not, _&&_, _||_, cond}
+use mathlib.Core.Bool.{Bool, not, _&&_, _||_}
 use Prim.Native.Nat.{ℕ, zero, suc, _<_}
 use mathlib.Core.List.{List, map}
 use lib.Dec.{T, eqb}

@@ -18,7 +18,6 @@ use Rattle.clauses.specs.Walked.{start, Walks}
 use Rattle.clauses.proofs.Totals.{stored-front}
 use Rattle.tables.specs.Tables.{Passed}
 use Rattle.formula.proofs.Totals.{is-small}
-use Rattle.writing.specs.declared.FormulaAnswer.{FormulaAnswer}
 use Rattle.writing.specs.declared.FormulaAnswer.the-variants.{Totals, Refused}
 use Rattle.writing.specs.FormulaAnswers.{formulaAnswer}
 

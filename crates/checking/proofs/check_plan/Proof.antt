@@ -40,9 +40,6 @@ module _ (c : tie.After-enum-told) where
       × MeetsReady (p .read .book) (take (p .«meet_bytes») (prepared .prepare .last .1 .1 .0))
   ready = prepared .prepare .ensures .1 (c .enum-told .given .1)
 
-encode-by-requires : tie.Need-encode-by-requires
-encode-by-requires c κs = let a = c .before .before .before in (ready a .0, ready a .2)
-
 returns : tie.Need-returns
 unfolding checkPlan assignmentOutput
 returns c =
@@ -69,7 +66,7 @@ check-plan-spec =
     (λ c. search needs)
     (λ c. omega (arith, ready (c .before) .1))
     (λ c. let a = c .before .before in sym (length-take-le (p a .«meet_bytes») (prepared a .prepare .last .1 .1 .0) (ready a .1)))
-    encode-by-requires
+    (λ c κs. let a = c .before .before .before in (ready a .0, ready a .2))
     returns
     (λ c. search needs)
     returns-2)

@@ -12,9 +12,6 @@ use Rattle.checking.proofs.Answers.{length-decode, decoded-short, decod
 use Rattle.checking.proofs.decode_by.Statement.{statement}
 use Rattle.checking.proofs.decode_by.Tie as tie
 
-plan-length-requires : tie.Need-plan-length-requires
-plan-length-requires c κs = search needs
-
 -- the length that is compared, and the output's
 module _ (c : tie.After-plan-length) where
   abbrev start : tie.Start
@@ -26,28 +23,10 @@ module _ (c : tie.After-plan-length) where
 room : (c : tie.Else1) → planLength (instanceOf (held (start (c .before) .args .b))) ≤ length (now (start (c .before) .args .out))
 room c = omega (arith, c .if1 .left, need (c .before))
 
-returns : tie.Need-returns
-returns c = let k = c .before in decoded-short _ _ _ (omega (arith, c .if1 .taken, need k))
-
-judge-assignment-requires : tie.Need-judge-assignment-requires
-judge-assignment-requires c κs = search needs
-
-enum-known-judged : tie.Need-enum-known-judged
-enum-known-judged c = search needs
-
-enum-told : tie.Need-enum-told
-enum-told c = search needs
-
-decode-requires : tie.Need-decode-requires
-decode-requires c κs = let e = c .before .before .before .before in (start (e .before) .pre .0 .counted, room e)
-
 returns-2 : tie.Need-returns-2
 returns-2 c =
     let j = c .before .before .before in
     decoded-refused _ _ _ (room (j .before)) (sym (c .before .judged .given .1) ∙ j .judge-assignment .ensures)
-
-same-length : tie.Need-same-length
-same-length c = search needs
 
 returns-3 : tie.Need-returns-3
 returns-3 c =
@@ -60,12 +39,12 @@ pub decode-by-spec : {M : Type 1} → statement M
 decode-by-spec =
     tie.close
     (tie.spec
-    plan-length-requires
-    returns
-    judge-assignment-requires
-    enum-known-judged
-    enum-told
-    decode-requires
+    (λ c κs. search needs)
+    (λ c. let k = c .before in decoded-short _ _ _ (omega (arith, c .if1 .taken, need k)))
+    (λ c κs. search needs)
+    (λ c. search needs)
+    (λ c. search needs)
+    (λ c κs. let e = c .before .before .before .before in (start (e .before) .pre .0 .counted, room e))
     returns-2
-    same-length
+    (λ c. search needs)
     returns-3)

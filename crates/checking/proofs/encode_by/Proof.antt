@@ -1,15 +1,13 @@
 -- `checking::encode_by` meets its contract: room and the judgement, then the assignment. Assumes nothing.
 use borrow.Author.Needs.{needs}
-use native.Mathlib.Omega.{arith}
 use mathlib.Core.Path.{_≡_, sym, ap, _∙_}
-use Prim.Native.Nat.{ℕ, _≤_}
+use Prim.Native.Nat.{ℕ}
 use denote.Ref.{now}
 use lib.ListN.{length}
 use Rattle.spec.specs.Instance.{Instance, instanceOf}
 use Rattle.spec.specs.Formula.{variables}
 use Rattle.spec.specs.Entry.{admitPlan}
 use Rattle.spec.specs.Held.{held}
-use Rattle.reader.specs.declared.reading.Answer.{Answer}
 use Rattle.reader.specs.declared.reading.Answer.the-variants.{Accepted}
 use Rattle.reader.specs.BookAnswers.{answerOf}
 use Rattle.plan_rules.proofs.Admitted.{after-room, after-judged}

@@ -8,9 +8,6 @@ use Rattle.sections.proofs.Same.{plan-labelled}
 use Rattle.checking.proofs.write_plan.Statement.{statement}
 use Rattle.checking.proofs.write_plan.Tie as tie
 
-slice-aggregate-label-sections : tie.Need-slice-aggregate-label-sections
-slice-aggregate-label-sections c = search needs
-
 abbrev start : tie.After-labels → tie.Start
 start c = c .before .before .before .before .before
 
@@ -20,9 +17,6 @@ label-sections-requires c κs =
     let p = s .pre .0 .counted .passed in
     (p, s .pre .1, omega (arith, nodes-inside _ _ (s .pre .2), nodes-is (s .args .b) p), refl)
 
-slice-aggregate-encode : tie.Need-slice-aggregate-encode
-slice-aggregate-encode c = search needs
-
 encode-requires : tie.Need-encode-requires
 encode-requires c κs =
     let k = c .before .before .before in
@@ -30,19 +24,13 @@ encode-requires c κs =
     let p = s .pre .0 .counted .passed in
     ((s .pre .0, s .pre .2, plan-labelled (s .args .b) p _ _ refl (k .label-sections .ensures)), s .pre .3)
 
-same-length : tie.Need-same-length
-same-length c = search needs
-
-returns : tie.Need-returns
-returns c = search needs
-
 pub write-plan-spec : {M : Type 1} → statement M
 write-plan-spec =
     tie.close
     (tie.spec
-    slice-aggregate-label-sections
+    (λ c. search needs)
     label-sections-requires
-    slice-aggregate-encode
+    (λ c. search needs)
     encode-requires
-    same-length
-    returns)
+    (λ c. search needs)
+    (λ c. search needs))

@@ -21,31 +21,10 @@ Inv-loop from n values out₀ next₀ k₀ out next k =
 abbrev μ-loop : tie.MeasureT-loop
 μ-loop from n values out₀ next₀ k₀ out next k = n - k
 
-loop-holds : tie.Need-loop-holds Inv-loop μ-loop
-loop-holds c = ahead-start _ _ _ _
-
-add-unit-not : tie.Need-add-unit-not Inv-loop μ-loop
-add-unit-not c = omega arith
-
-unit-not-requires : tie.Need-unit-not-requires Inv-loop μ-loop
-unit-not-requires c κs = omega arith
-
-add-k : tie.Need-add-k Inv-loop μ-loop
-add-k c = omega arith
-
-loop-less : tie.Need-loop-less Inv-loop μ-loop
-loop-less c = omega arith
-
 loop-again : tie.Need-loop-again Inv-loop μ-loop
 loop-again c =
     let t = c .before .before .before in
     turn _ _ _ (t .before .loop .inv) (t .loop-test .taken) (c .before .unit-not .ensures)
-
-same-length : tie.Need-same-length Inv-loop μ-loop
-same-length c = c .before .loop .inv .size
-
-returns : tie.Need-returns Inv-loop μ-loop
-returns c = walks-same (words-row _ _) (turned _ _ _ (c .before .loop .inv) (c .loop-test .left))
 
 pub deny-all-spec : {M : Type 1} → statement M
 deny-all-spec =
@@ -53,11 +32,11 @@ deny-all-spec =
     (tie.spec
     Inv-loop
     μ-loop
-    loop-holds
-    add-unit-not
-    unit-not-requires
-    add-k
-    loop-less
+    (λ c. ahead-start _ _ _ _)
+    (λ c. omega arith)
+    (λ c κs. omega arith)
+    (λ c. omega arith)
+    (λ c. omega arith)
     loop-again
-    same-length
-    returns)
+    (λ c. c .before .loop .inv .size)
+    (λ c. walks-same (words-row _ _) (turned _ _ _ (c .before .loop .inv) (c .loop-test .left))))

@@ -22,37 +22,10 @@ Inv-loop from m n values out₀ next₀ k₀ out next k =
 abbrev μ-loop : tie.MeasureT-loop
 μ-loop from m n values out₀ next₀ k₀ out next k = n - k
 
-add-k : tie.Need-add-k Inv-loop μ-loop
-add-k c = omega arith
-
-loop-holds : tie.Need-loop-holds Inv-loop μ-loop
-loop-holds c = ahead-start _ _ _ _
-
-add-not-both : tie.Need-add-not-both Inv-loop μ-loop
-add-not-both c = omega arith
-
-add-not-both-2 : tie.Need-add-not-both-2 Inv-loop μ-loop
-add-not-both-2 c = omega arith
-
-not-both-requires : tie.Need-not-both-requires Inv-loop μ-loop
-not-both-requires c κs = (omega arith, omega arith)
-
-add-k-2 : tie.Need-add-k-2 Inv-loop μ-loop
-add-k-2 c = omega arith
-
-loop-less : tie.Need-loop-less Inv-loop μ-loop
-loop-less c = omega arith
-
 loop-again : tie.Need-loop-again Inv-loop μ-loop
 loop-again c =
     let t = c .before .before .before in
     turn _ _ _ (t .before .loop .inv) (t .loop-test .taken) (c .before .not-both .ensures)
-
-same-length : tie.Need-same-length Inv-loop μ-loop
-same-length c = c .before .loop .inv .size
-
-returns : tie.Need-returns Inv-loop μ-loop
-returns c = walks-same (sym (words-map _ _)) (turned _ _ _ (c .before .loop .inv) (c .loop-test .left))
 
 pub each-pair-spec : {M : Type 1} → statement M
 each-pair-spec =
@@ -60,13 +33,13 @@ each-pair-spec =
     (tie.spec
     Inv-loop
     μ-loop
-    add-k
-    loop-holds
-    add-not-both
-    add-not-both-2
-    not-both-requires
-    add-k-2
-    loop-less
+    (λ c. omega arith)
+    (λ c. ahead-start _ _ _ _)
+    (λ c. omega arith)
+    (λ c. omega arith)
+    (λ c κs. (omega arith, omega arith))
+    (λ c. omega arith)
+    (λ c. omega arith)
     loop-again
-    same-length
-    returns)
+    (λ c. c .before .loop .inv .size)
+    (λ c. walks-same (sym (words-map _ _)) (turned _ _ _ (c .before .loop .inv) (c .loop-test .left))))

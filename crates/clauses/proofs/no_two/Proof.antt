@@ -21,28 +21,10 @@ Inv-loop from n values out₀ next₀ m₀ out next m =
 abbrev μ-loop : tie.MeasureT-loop
 μ-loop from n values out₀ next₀ m₀ out next m = n - m
 
-loop-holds : tie.Need-loop-holds Inv-loop μ-loop
-loop-holds c = ahead-start _ _ _ _
-
-pairs-of-requires : tie.Need-pairs-of-requires Inv-loop μ-loop
-pairs-of-requires c κs = (omega arith, omega arith, omega arith)
-
-add-m : tie.Need-add-m Inv-loop μ-loop
-add-m c = omega arith
-
-loop-less : tie.Need-loop-less Inv-loop μ-loop
-loop-less c = omega arith
-
 loop-again : tie.Need-loop-again Inv-loop μ-loop
 loop-again c =
     let t = c .before .before .before in
     turn _ _ _ (t .before .loop .inv) (t .loop-test .taken) (c .before .pairs-of .ensures)
-
-same-length : tie.Need-same-length Inv-loop μ-loop
-same-length c = c .before .loop .inv .size
-
-returns : tie.Need-returns Inv-loop μ-loop
-returns c = walks-same (words-rows _ _) (turned _ _ _ (c .before .loop .inv) (c .loop-test .left))
 
 pub no-two-spec : {M : Type 1} → statement M
 no-two-spec =
@@ -50,10 +32,10 @@ no-two-spec =
     (tie.spec
     Inv-loop
     μ-loop
-    loop-holds
-    pairs-of-requires
-    add-m
-    loop-less
+    (λ c. ahead-start _ _ _ _)
+    (λ c κs. (omega arith, omega arith, omega arith))
+    (λ c. omega arith)
+    (λ c. omega arith)
     loop-again
-    same-length
-    returns)
+    (λ c. c .before .loop .inv .size)
+    (λ c. walks-same (words-rows _ _) (turned _ _ _ (c .before .loop .inv) (c .loop-test .left))))

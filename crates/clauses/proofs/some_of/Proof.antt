@@ -23,28 +23,10 @@ Inv-loop from n values out₀ next₀ k₀ out next k =
 abbrev μ-loop : tie.MeasureT-loop
 μ-loop from n values out₀ next₀ k₀ out next k = n - k
 
-loop-holds : tie.Need-loop-holds Inv-loop μ-loop
-loop-holds c = ahead-start _ _ _ _
-
-add-affirm : tie.Need-add-affirm Inv-loop μ-loop
-add-affirm c = omega arith
-
-affirm-requires : tie.Need-affirm-requires Inv-loop μ-loop
-affirm-requires c κs = omega arith
-
-add-k : tie.Need-add-k Inv-loop μ-loop
-add-k c = omega arith
-
-loop-less : tie.Need-loop-less Inv-loop μ-loop
-loop-less c = omega arith
-
 loop-again : tie.Need-loop-again Inv-loop μ-loop
 loop-again c =
     let t = c .before .before .before in
     turn _ _ _ (t .before .loop .inv) (t .loop-test .taken) (c .before .affirm .ensures)
-
-close-requires : tie.Need-close-requires Inv-loop μ-loop
-close-requires c κs = search needs
 
 returns : tie.Need-returns Inv-loop μ-loop
 returns c =
@@ -52,21 +34,18 @@ returns c =
     let row = walks-same (literals-row _ _) (turned _ _ _ (l .before .loop .inv) (l .loop-test .left)) in
     walks-same (words-one _) (walks-behind row (c .before .close .ensures))
 
-same-length : tie.Need-same-length Inv-loop μ-loop
-same-length c = walks-length (returns c)
-
 pub some-of-spec : {M : Type 1} → statement M
 some-of-spec =
     tie.close
     (tie.spec
     Inv-loop
     μ-loop
-    loop-holds
-    add-affirm
-    affirm-requires
-    add-k
-    loop-less
+    (λ c. ahead-start _ _ _ _)
+    (λ c. omega arith)
+    (λ c κs. omega arith)
+    (λ c. omega arith)
+    (λ c. omega arith)
     loop-again
-    close-requires
-    same-length
+    (λ c κs. search needs)
+    (λ c. walks-length (returns c))
     returns)

@@ -28,57 +28,6 @@ Inv-loop out₀ at from m n first i₀ k₀ out i k =
 abbrev μ-loop : tie.MeasureT-loop
 μ-loop out₀ at from m n first i₀ k₀ out i k = n - k
 
-add-negative : tie.Need-add-negative Inv-loop μ-loop
-add-negative c = omega arith
-
-negative-requires : tie.Need-negative-requires Inv-loop μ-loop
-negative-requires c κs = omega arith
-
-add-k : tie.Need-add-k Inv-loop μ-loop
-add-k c = omega arith
-
-loop-holds : tie.Need-loop-holds Inv-loop μ-loop
-loop-holds c = (omega arith, omega arith, omega arith, refl, refl)
-
-add-negative-2 : tie.Need-add-negative-2 Inv-loop μ-loop
-add-negative-2 c = omega arith
-
-negative-requires-2 : tie.Need-negative-requires-2 Inv-loop μ-loop
-negative-requires-2 c κs = omega arith
-
-mul-first : tie.Need-mul-first Inv-loop μ-loop
-mul-first c = search needs
-
-slice-set-from-first : tie.Need-slice-set-from-first Inv-loop μ-loop
-slice-set-from-first c = omega arith
-
-add-second : tie.Need-add-second Inv-loop μ-loop
-add-second c = omega arith
-
-mul-second : tie.Need-mul-second Inv-loop μ-loop
-mul-second c = search needs
-
-slice-set-from-second : tie.Need-slice-set-from-second Inv-loop μ-loop
-slice-set-from-second c = simp length-set (omega arith)
-
-add-out : tie.Need-add-out Inv-loop μ-loop
-add-out c = omega arith
-
-mul-out : tie.Need-mul-out Inv-loop μ-loop
-mul-out c = search needs
-
-slice-set-of-out : tie.Need-slice-set-of-out Inv-loop μ-loop
-slice-set-of-out c = simp length-set (omega arith)
-
-add-i : tie.Need-add-i Inv-loop μ-loop
-add-i c = omega arith
-
-add-k-2 : tie.Need-add-k-2 Inv-loop μ-loop
-add-k-2 c = omega arith
-
-loop-less : tie.Need-loop-less Inv-loop μ-loop
-loop-less c = omega arith
-
 -- a literal, read back from its bits
 read-back : {l : ℤ} (v : ℕ) → v < literalRoom → l ≡ not′ v → not′ v ≡ toZ w32 (ofZ w32 l)
 read-back v h e = sym (ap (λ (z : ℤ). toZ w32 (ofZ w32 z)) e ∙ not-read v h)
@@ -99,9 +48,6 @@ loop-again c =
           (read-back (a .from + x .k) (omega arith) (c .negative2 .ensures)),
     )
 
-same-length : tie.Need-same-length Inv-loop μ-loop
-same-length c = c .before .loop .inv .3
-
 returns : tie.Need-returns Inv-loop μ-loop
 returns c =
     let a = c .before .before .before .args in
@@ -114,23 +60,23 @@ store-pairs-spec =
     (tie.spec
     Inv-loop
     μ-loop
-    add-negative
-    negative-requires
-    add-k
-    loop-holds
-    add-negative-2
-    negative-requires-2
-    mul-first
-    slice-set-from-first
-    add-second
-    mul-second
-    slice-set-from-second
-    add-out
-    mul-out
-    slice-set-of-out
-    add-i
-    add-k-2
-    loop-less
+    (λ c. omega arith)
+    (λ c κs. omega arith)
+    (λ c. omega arith)
+    (λ c. (omega arith, omega arith, omega arith, refl, refl))
+    (λ c. omega arith)
+    (λ c κs. omega arith)
+    (λ c. search needs)
+    (λ c. omega arith)
+    (λ c. omega arith)
+    (λ c. search needs)
+    (λ c. simp length-set (omega arith))
+    (λ c. omega arith)
+    (λ c. search needs)
+    (λ c. simp length-set (omega arith))
+    (λ c. omega arith)
+    (λ c. omega arith)
+    (λ c. omega arith)
     loop-again
-    same-length
+    (λ c. c .before .loop .inv .3)
     returns)

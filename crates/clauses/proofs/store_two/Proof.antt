@@ -1,5 +1,5 @@
 -- `clauses::store_two` meets its contract: word by word it comes to the same. Assumes nothing.
-use mathlib.Core.Path.{sym, ap, ap₂, _∙_}
+use mathlib.Core.Path.{sym}
 use borrow.Author.Tests.{leb-true}
 use Prim.Native.Nat.{_+_, _≤_}
 use native.Mathlib.Omega.{arith}
@@ -19,15 +19,6 @@ entry c = c .before .before .before
 
 room : (c : tie.Then3) → entry c .args .at + 3 ≤ length (entry c .args .out .now)
 room c = leb-true _ _ (c .if3 .taken)
-
-slice-set-from-l : tie.Need-slice-set-from-l
-slice-set-from-l c = omega (arith, room c)
-
-slice-set-from-m : tie.Need-slice-set-from-m
-slice-set-from-m c = simp length-set (omega (arith, room c))
-
-slice-set-of-out : tie.Need-slice-set-of-out
-slice-set-of-out c = simp length-set (omega (arith, room c))
 
 returns-2 : tie.Need-returns-2
 unfolding stored
@@ -54,13 +45,13 @@ store-two-spec =
     (λ c. search needs)
     (λ c. search needs)
     (λ c. search needs)
-    slice-set-from-l
+    (λ c. omega (arith, room c))
     (λ c. search needs)
     (λ c. search needs)
-    slice-set-from-m
+    (λ c. simp length-set (omega (arith, room c)))
     (λ c. search needs)
     (λ c. search needs)
-    slice-set-of-out
+    (λ c. simp length-set (omega (arith, room c)))
     (λ c. search needs)
     returns-2
     (λ c κs. search needs)

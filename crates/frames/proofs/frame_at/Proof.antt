@@ -1,9 +1,8 @@
 -- `frames::frame_at` meets its contract: each answer is the one that the bytes left at the place decide. Assumes nothing.
 use borrow.Author.Needs.{needs}
 use mathlib.Core.Path.{sym, _∙_, ap₂}
-use Prim.Native.Nat.{_+_, _-_}
+use Prim.Native.Nat.{_-_}
 use native.Mathlib.Omega.{arith}
-use lib.ListN.{length}
 use Rattle.frames.specs.declared.Framed.the-variants.{Whole, Cut}
 use Rattle.frames.proofs.Places.{refusal-of, cut-at, whole-at}
 use Rattle.frames.proofs.frame_at.Statement.{statement}

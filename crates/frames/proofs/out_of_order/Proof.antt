@@ -10,7 +10,7 @@ use Rattle.spec.specs.Frames as frames
 use Rattle.spec.specs.Frames.{kindNumber}
 use Rattle.spec.specs.Read.{isEnd}
 use Rattle.frames.specs.Framed.{outOfOrderBy}
-use Rattle.frames.proofs.Order.{HeadFirst, not-first, second-head, order-rest, agrees, differs}
+use Rattle.frames.proofs.Order.{not-first, second-head, order-rest, agrees, differs}
 use Rattle.frames.proofs.out_of_order.Statement.{statement}
 use Rattle.frames.proofs.out_of_order.Tie as tie
 

@@ -1,8 +1,7 @@
 -- `frames::pair` meets its contract: a field of two bytes is the first and 256 times the second. Assumes nothing.
 use borrow.Author.Needs.{needs}
-use Prim.Native.Nat.{ℕ, suc, _+_, _*_, _<_}
+use Prim.Native.Nat.{_+_}
 use native.Mathlib.Omega.{arith}
-use lib.ListN.{length, getD}
 use mathlib.Core.Path.{sym}
 use Rattle.laws.proofs.Numbers.{field-two}
 use Rattle.frames.proofs.pair.Statement.{statement}

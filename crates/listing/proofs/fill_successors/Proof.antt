@@ -25,27 +25,9 @@ Inv-loop b table₀ fans₀ n d₀ table widths d =
 abbrev μ-loop : tie.MeasureT-loop
 μ-loop b table₀ fans₀ n d₀ table widths d = n - d
 
-mul-n : tie.Need-mul-n Inv-loop μ-loop
-mul-n c = omega arith
-
 loop-holds : tie.Need-loop-holds Inv-loop μ-loop
 unfolding successorTable fanWidths upTo count
 loop-holds c = (omega arith, refl, refl, refl, refl)
-
-fill-fan-requires : tie.Need-fill-fan-requires Inv-loop μ-loop
-fill-fan-requires c κs = search needs
-
-cast-widths : tie.Need-cast-widths Inv-loop μ-loop
-cast-widths c = search needs
-
-slice-write-widths : tie.Need-slice-write-widths Inv-loop μ-loop
-slice-write-widths c = omega arith
-
-add-d : tie.Need-add-d Inv-loop μ-loop
-add-d c = omega arith
-
-loop-less : tie.Need-loop-less Inv-loop μ-loop
-loop-less c = omega arith
 
 loop-again : tie.Need-loop-again Inv-loop μ-loop
 unfolding successorTable fanWidths
@@ -66,12 +48,6 @@ loop-again c =
           ∙ sets-map-next (λ d. length (successors b d)) (now (a .widths)) 0 d,
     )
 
-same-length : tie.Need-same-length Inv-loop μ-loop
-same-length c = c .before .loop .inv .1
-
-same-length-2 : tie.Need-same-length-2 Inv-loop μ-loop
-same-length-2 c = c .before .loop .inv .2
-
 returns : tie.Need-returns Inv-loop μ-loop
 returns c =
     let s = c .before in
@@ -87,14 +63,14 @@ fill-successors-spec =
     (tie.spec
     Inv-loop
     μ-loop
-    mul-n
+    (λ c. omega arith)
     loop-holds
-    fill-fan-requires
-    cast-widths
-    slice-write-widths
-    add-d
-    loop-less
+    (λ c κs. search needs)
+    (λ c. search needs)
+    (λ c. omega arith)
+    (λ c. omega arith)
+    (λ c. omega arith)
     loop-again
-    same-length
-    same-length-2
+    (λ c. c .before .loop .inv .1)
+    (λ c. c .before .loop .inv .2)
     returns)

@@ -23,9 +23,6 @@ Inv-loop runs₀ count path base first i₀ runs i =
 abbrev μ-loop : tie.MeasureT-loop
 μ-loop runs₀ count path base first i₀ runs i = 16 - i
 
-loop-holds : tie.Need-loop-holds Inv-loop μ-loop
-loop-holds c = (omega arith, simp length-set (c .before .pre .0), refl)
-
 -- a turn stores the next byte of the path's array
 module _ (c : tie.In-loop Inv-loop μ-loop) where
   abbrev start : tie.Start Inv-loop μ-loop
@@ -49,9 +46,6 @@ module _ (c : tie.In-loop Inv-loop μ-loop) where
       let room : i < length row = omega arith in
       ap (λ (runs : List ℕ). set runs (first + i) (getD row i 0)) (c .before .loop .inv .2) ∙ sets-take-next old row first i 0 room
 
-loop-again : tie.Need-loop-again Inv-loop μ-loop
-loop-again c = (omega arith, simp length-set (c .before .before .loop .inv .1), stored (c .before))
-
 returns : tie.Need-returns Inv-loop μ-loop
 unfolding packedPath entryOf
 returns c =
@@ -70,9 +64,6 @@ returns c =
     ∙ ap₂ (λ (n : ℕ) (ds : List ℕ). sets (set (now (a .runs)) base n) (suc base) ds) (byte ∙ long) (take-all i (a .t3 .at) done ∙ row)
     ∙ sym (runs-kept (a .count) ds (now (a .runs)) (c .before .before .if1 .taken))
 
-returns-2 : tie.Need-returns-2 Inv-loop μ-loop
-returns-2 c = sym (runs-full _ _ _ (c .if1 .left))
-
 pub keep-spec : {M : Type 1} → statement M
 keep-spec =
     tie.close
@@ -83,13 +74,13 @@ keep-spec =
     (λ c. omega arith)
     (λ c. omega arith)
     (λ c. omega arith)
-    loop-holds
+    (λ c. (omega arith, simp length-set (c .before .pre .0), refl))
     (λ c. omega arith)
     (λ c. omega arith)
     (λ c. omega arith)
     (λ c. omega arith)
     (λ c. omega arith)
-    loop-again
+    (λ c. (omega arith, simp length-set (c .before .before .loop .inv .1), stored (c .before)))
     (λ c. c .before .loop .inv .1 ∙ sym (c .before .before .before .pre .0))
     returns
-    returns-2)
+    (λ c. sym (runs-full _ _ _ (c .if1 .left))))

@@ -72,9 +72,6 @@ module _ (c : tie.Then1 Inv-loop μ-loop) where
   stays : placeIn (looped .loop .runs) (l looped) (looped .loop .place) ≡ placeIn (runs looped) (l looped) (looped .loop .place)
   stays = listed-stays (looped .loop .inv .1) (l looped) (omega arith) (looped .loop .place) (omega arith)
 
-loop-holds : tie.Need-loop-holds Inv-loop μ-loop
-loop-holds c = (omega arith, rw each-nothing (listed-none _ _ (omega arith)))
-
 path-at-requires : tie.Need-path-at-requires Inv-loop μ-loop
 path-at-requires c κs =
     let t = c .before in
@@ -115,16 +112,13 @@ returns c =
     let r = done (c .before .before) (inr (ltb-false _ _ (c .if1 .left))) in
     (r .counted, r .filled)
 
-returns-2 : tie.Need-returns-2 Inv-loop μ-loop
-returns-2 c = let r = done (c .before) (inl (c .loop-test .left)) in (r .counted, r .filled)
-
 pub list-longer-spec : {M : Type 1} → statement M
 list-longer-spec =
     tie.close
     (tie.spec
     Inv-loop
     μ-loop
-    loop-holds
+    (λ c. (omega arith, rw each-nothing (listed-none _ _ (omega arith))))
     path-at-requires
     extend-requires
     (λ c. omega arith)
@@ -133,4 +127,4 @@ list-longer-spec =
     (λ c. listed-long (c .before .before .loop .inv .1))
     returns
     (λ c. listed-long (c .before .loop .inv .1))
-    returns-2)
+    (λ c. let r = done (c .before) (inl (c .loop-test .left)) in (r .counted, r .filled)))

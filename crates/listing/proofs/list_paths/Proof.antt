@@ -44,18 +44,6 @@ module _ (c : tie.At-loop Inv-loop μ-loop) where
   unfolding pathsBy
   done h = listed-end (from start) (c .loop .inv .1) (are-short start (c .loop .d)) (start .args .directed) (c .loop .inv .0) h
 
-loop-holds : tie.Need-loop-holds Inv-loop μ-loop
-loop-holds c = (omega arith, rw each-nothing (listed-none _ _ (omega arith)))
-
-cast-path : tie.Need-cast-path Inv-loop μ-loop
-cast-path c = omega arith
-
-element-write-path : tie.Need-element-write-path Inv-loop μ-loop
-element-write-path c = search needs
-
-sub-extend : tie.Need-sub-extend Inv-loop μ-loop
-sub-extend c = omega arith
-
 extend-requires : tie.Need-extend-requires Inv-loop μ-loop
 unfolding pathOf packedPath padded lastOr
 extend-requires c κs =
@@ -69,12 +57,6 @@ extend-requires c κs =
       omega arith,
     )
 
-add-d : tie.Need-add-d Inv-loop μ-loop
-add-d c = omega arith
-
-loop-less : tie.Need-loop-less Inv-loop μ-loop
-loop-less c = omega arith
-
 loop-again : tie.Need-loop-again Inv-loop μ-loop
 unfolding pathOf
 loop-again c =
@@ -85,19 +67,10 @@ loop-again c =
           (record { counted = e .0; filled = e .1 }),
     )
 
-same-length : tie.Need-same-length Inv-loop μ-loop
-same-length c = listed-long (c .before .before .loop .inv .1)
-
 returns : tie.Need-returns Inv-loop μ-loop
 returns c =
     let l = done (c .before .before) (inr (ltb-false _ _ (c .if1 .left))) in
     (l .counted, l .filled)
-
-same-length-2 : tie.Need-same-length-2 Inv-loop μ-loop
-same-length-2 c = listed-long (c .before .loop .inv .1)
-
-returns-2 : tie.Need-returns-2 Inv-loop μ-loop
-returns-2 c = let l = done (c .before) (inl (c .loop-test .left)) in (l .counted, l .filled)
 
 pub list-paths-spec : {M : Type 1} → statement M
 list-paths-spec =
@@ -105,15 +78,15 @@ list-paths-spec =
     (tie.spec
     Inv-loop
     μ-loop
-    loop-holds
-    cast-path
-    element-write-path
-    sub-extend
+    (λ c. (omega arith, rw each-nothing (listed-none _ _ (omega arith))))
+    (λ c. omega arith)
+    (λ c. search needs)
+    (λ c. omega arith)
     extend-requires
-    add-d
-    loop-less
+    (λ c. omega arith)
+    (λ c. omega arith)
     loop-again
-    same-length
+    (λ c. listed-long (c .before .before .loop .inv .1))
     returns
-    same-length-2
-    returns-2)
+    (λ c. listed-long (c .before .loop .inv .1))
+    (λ c. let l = done (c .before) (inl (c .loop-test .left)) in (l .counted, l .filled)))

@@ -85,15 +85,6 @@ module _ (c : tie.After-list-paths) where
       ∙ read-back (first known) (given .args .runs .now) (l known) (given .pre .7) (omega (arith, listed .counted)) (first-short known)
       (fits-long (b known) (l known) (first known) (first-fit known))
 
-length-in-segments-requires : tie.Need-length-in-segments-requires
-length-in-segments-requires c κs = search needs
-
-speed-in-segments-requires : tie.Need-speed-in-segments-requires
-speed-in-segments-requires c κs = search needs
-
-mul-directed : tie.Need-mul-directed
-mul-directed c = search needs
-
 list-paths-requires : tie.Need-list-paths-requires
 list-paths-requires c κs =
     let a = c .before .before in
@@ -152,20 +143,14 @@ module _ (c : tie.After-list-further) where
       (known a .before .length-in-segments .ensures) (known a .speed-in-segments .ensures) (bounds (known a) .0))
       (listed-more (listed a) (first-short (known a)) more)
 
-same-length : tie.Need-same-length
-same-length c = search needs
-
-returns : tie.Need-returns
-returns c = let r = all-listed (c .before .before) in (r .counted, r .filled)
-
 pub list-runs-spec : {M : Type 1} → statement M
 list-runs-spec =
     tie.close
     (tie.spec
-    length-in-segments-requires
-    speed-in-segments-requires
-    mul-directed
+    (λ c κs. search needs)
+    (λ c κs. search needs)
+    (λ c. search needs)
     list-paths-requires
     list-further-requires
-    same-length
-    returns)
+    (λ c. search needs)
+    (λ c. let r = all-listed (c .before .before) in (r .counted, r .filled)))

@@ -7,7 +7,7 @@ use native.Mathlib.Omega.{arith}
 use mathlib.Core.Path.{_≡_, refl, sym, ap, _∙_}
 use mathlib.Core.List.{List, map, map-append}
 use Prim.Native.Nat.{ℕ, _+_, _*_, _-_, _≤_, _<_}
-use lib.ListN.{length, getD, set, length-map, length-replicate}
+use lib.ListN.{length, set, length-map, length-replicate}
 use Rattle.spec.specs.Lists.{Bytes, count, upTo, one}
 use Rattle.spec.specs.Held.{held, padded}
 use Rattle.model.specs.declared.Book.{Book as BookStruct}

@@ -29,12 +29,6 @@ loop-holds : tie.Need-loop-holds Inv-loop μ-loop
 unfolding has pathOf
 loop-holds c = any-map _ _ _
 
-element-copy-out-wide : tie.Need-element-copy-out-wide Inv-loop μ-loop
-element-copy-out-wide c = omega arith
-
-wide-requires : tie.Need-wide-requires Inv-loop μ-loop
-wide-requires c κs = search needs
-
 room : (c : tie.Start Inv-loop μ-loop) → c .args .t1 .n ≤ length (c .args .t1 .at)
 room c = let e : length (c .args .t1 .at) ≡ 16 = search needs in omega arith
 
@@ -54,21 +48,6 @@ module _ (c : tie.After-wide Inv-loop μ-loop) where
       ∙ any-next _ _ _ 0 (c .before .before .loop-test .taken) (room given) _
       ∙ simp (c .wide .ensures .0)
 
-returns : tie.Need-returns Inv-loop μ-loop
-returns c = let h = eq-eqb _ _ (c .if1 .taken) in sym (turn (c .before) ∙ simp h)
-
-add-i : tie.Need-add-i Inv-loop μ-loop
-add-i c = omega arith
-
-loop-less : tie.Need-loop-less Inv-loop μ-loop
-loop-less c = omega arith
-
-loop-again : tie.Need-loop-again Inv-loop μ-loop
-loop-again c = let h = ne-eqb _ _ (c .if1 .left) in turn (c .before) ∙ simp h
-
-returns-2 : tie.Need-returns-2 Inv-loop μ-loop
-returns-2 c = sym (c .before .loop .inv ∙ any-end _ _ _ (c .loop-test .left) _)
-
 pub uses-spec : {M : Type 1} → statement M
 uses-spec =
     tie.close
@@ -76,10 +55,10 @@ uses-spec =
     Inv-loop
     μ-loop
     loop-holds
-    element-copy-out-wide
-    wide-requires
-    returns
-    add-i
-    loop-less
-    loop-again
-    returns-2)
+    (λ c. omega arith)
+    (λ c κs. search needs)
+    (λ c. let h = eq-eqb _ _ (c .if1 .taken) in sym (turn (c .before) ∙ simp h))
+    (λ c. omega arith)
+    (λ c. omega arith)
+    (λ c. let h = ne-eqb _ _ (c .if1 .left) in turn (c .before) ∙ simp h)
+    (λ c. sym (c .before .loop .inv ∙ any-end _ _ _ (c .loop-test .left) _)))

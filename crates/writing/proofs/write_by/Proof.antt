@@ -13,30 +13,6 @@ use Rattle.writing.proofs.Answers.{answer-short, output-short, answer-f
 use Rattle.writing.proofs.write_by.Statement.{statement}
 use Rattle.writing.proofs.write_by.Tie as tie
 
-sub-none : tie.Need-sub-none
-sub-none c = search needs
-
-part-none-start : tie.Need-part-none-start
-part-none-start c = search needs
-
-part-none-end : tie.Need-part-none-end
-part-none-end c = search needs
-
-sub-walk-formula : tie.Need-sub-walk-formula
-sub-walk-formula c = search needs
-
-part-walk-formula-start : tie.Need-part-walk-formula-start
-part-walk-formula-start c = search needs
-
-part-walk-formula-end : tie.Need-part-walk-formula-end
-part-walk-formula-end c = search needs
-
-walk-formula-requires : tie.Need-walk-formula-requires
-walk-formula-requires c κs = search needs
-
-same-length : tie.Need-same-length
-same-length c = search needs
-
 returns : tie.Need-returns
 returns c =
     let m = c .before .before .before in
@@ -48,14 +24,8 @@ returns c =
     let h : length out < length (wordsOf (formula (instanceOf (held (s .args .b))))) = omega (arith, c .if1 .taken, ap length e, n) in
     (answer-short (s .args .b) p (length out) h, e ∙ output-short (s .args .b) p out h)
 
-walk-formula-requires-2 : tie.Need-walk-formula-requires-2
-walk-formula-requires-2 c κs = search needs
-
 variable-count-requires : tie.Need-variable-count-requires
 variable-count-requires c κs = c .before .before .before .before .before .before .before .before .before .before .before .before .pre .0 .counted
-
-same-length-2 : tie.Need-same-length-2
-same-length-2 c = search needs
 
 returns-2 : tie.Need-returns-2
 returns-2 c =
@@ -77,16 +47,16 @@ pub write-by-spec : {M : Type 1} → statement M
 write-by-spec =
     tie.close
     (tie.spec
-    sub-none
-    part-none-start
-    part-none-end
-    sub-walk-formula
-    part-walk-formula-start
-    part-walk-formula-end
-    walk-formula-requires
-    same-length
+    (λ c. search needs)
+    (λ c. search needs)
+    (λ c. search needs)
+    (λ c. search needs)
+    (λ c. search needs)
+    (λ c. search needs)
+    (λ c κs. search needs)
+    (λ c. search needs)
     returns
-    walk-formula-requires-2
+    (λ c κs. search needs)
     variable-count-requires
-    same-length-2
+    (λ c. search needs)
     returns-2)

@@ -6,18 +6,6 @@ use Rattle.laws.proofs.Tests.{from-true, from-false}
 use Rattle.cabinet.proofs.commands.named.Statement.{statement}
 use Rattle.cabinet.proofs.commands.named.Tie as tie
 
-returns : tie.Need-returns
-returns c = c .before .same .ensures .0 (c .if1 .taken)
-
-returns-2 : tie.Need-returns-2
-returns-2 c = c .before .same2 .ensures .0 (c .if2 .taken)
-
-returns-3 : tie.Need-returns-3
-returns-3 c = c .before .same3 .ensures .0 (c .if3 .taken)
-
-returns-4 : tie.Need-returns-4
-returns-4 c = c .before .same4 .ensures .0 (c .if4 .taken)
-
 -- a test that failed is of another word
 other : {A : Type 0} {b : Bool} → b ≡ false → (A → b ≡ true) → A → ⊥
 other failed held a = from-false failed (from-true (held a))
@@ -39,14 +27,14 @@ named-spec =
     (tie.spec
     (λ c. search needs)
     (λ c κs. search needs)
-    returns
+    (λ c. c .before .same .ensures .0 (c .if1 .taken))
     (λ c. search needs)
     (λ c κs. search needs)
-    returns-2
+    (λ c. c .before .same2 .ensures .0 (c .if2 .taken))
     (λ c. search needs)
     (λ c κs. search needs)
-    returns-3
+    (λ c. c .before .same3 .ensures .0 (c .if3 .taken))
     (λ c. search needs)
     (λ c κs. search needs)
-    returns-4
+    (λ c. c .before .same4 .ensures .0 (c .if4 .taken))
     returns-5)

@@ -11,49 +11,19 @@ Inv-loop train n runs chains run₀ run = run ≤ 256
 abbrev μ-loop : tie.MeasureT-loop
 μ-loop train n runs chains run₀ run = 256 - run
 
-print-head-requires : tie.Need-print-head-requires Inv-loop μ-loop
-print-head-requires c κs = search needs
-
-loop-holds : tie.Need-loop-holds Inv-loop μ-loop
-loop-holds c = omega arith
-
-mul-print-run : tie.Need-mul-print-run Inv-loop μ-loop
-mul-print-run c = search needs
-
-add-print-run : tie.Need-add-print-run Inv-loop μ-loop
-add-print-run c = search needs
-
-print-run-requires : tie.Need-print-run-requires Inv-loop μ-loop
-print-run-requires c κs = search needs
-
-add-run : tie.Need-add-run Inv-loop μ-loop
-add-run c = search needs
-
-loop-less : tie.Need-loop-less Inv-loop μ-loop
-loop-less c = omega arith
-
-loop-again : tie.Need-loop-again Inv-loop μ-loop
-loop-again c = omega arith
-
-returns : tie.Need-returns Inv-loop μ-loop
-returns c = search needs
-
-returns-2 : tie.Need-returns-2 Inv-loop μ-loop
-returns-2 c = search needs
-
 pub print-train-spec : {M : Type 1} → statement M
 print-train-spec =
     tie.close
     (tie.spec
     Inv-loop
     μ-loop
-    print-head-requires
-    loop-holds
-    mul-print-run
-    add-print-run
-    print-run-requires
-    add-run
-    loop-less
-    loop-again
-    returns
-    returns-2)
+    (λ c κs. search needs)
+    (λ c. omega arith)
+    (λ c. search needs)
+    (λ c. search needs)
+    (λ c κs. search needs)
+    (λ c. search needs)
+    (λ c. omega arith)
+    (λ c. omega arith)
+    (λ c. search needs)
+    (λ c. search needs))

@@ -24,9 +24,6 @@ filled c =
     let text = wordsText (take (taken (length (k .loop .buf)) ls) ls) in
     ap length {y = sets (k .loop .buf) 0 text} (c .put-words .ensures .3) ∙ length-sets (k .loop .buf) 0 text ∙ k .loop .inv .1
 
-loop-holds : tie.Need-loop-holds Inv-loop μ-loop
-loop-holds c = (omega arith, sym (c .large-buffer .ensures), c .before .pre)
-
 put-words-requires : tie.Need-put-words-requires Inv-loop μ-loop
 put-words-requires c κs =
     let i = c .before .before .loop .inv in
@@ -54,7 +51,7 @@ more-words-spec =
     Inv-loop
     μ-loop
     (λ c κs. search needs)
-    loop-holds
+    (λ c. (omega arith, sym (c .large-buffer .ensures), c .before .pre))
     (λ c. sym (c .before .before .loop .inv .1))
     put-words-requires
     (λ c. sym (filled (c .before .before)))

@@ -7,9 +7,6 @@ use lib.Seq.{length-take-le}
 use Rattle.cases.proofs.formulas.opened.Statement.{statement}
 use Rattle.cases.proofs.formulas.opened.Tie as tie
 
-slice-aggregate-open-text : tie.Need-slice-aggregate-open-text
-slice-aggregate-open-text c = sym (length-take-le _ _ (c .before .lent .ensures))
-
 returns : tie.Need-returns
 returns c =
     let o = c .before .before .before in
@@ -23,7 +20,7 @@ opened-spec =
     (tie.spec
     (λ c κs. search needs)
     (λ c. search needs)
-    slice-aggregate-open-text
+    (λ c. sym (length-take-le _ _ (c .before .lent .ensures)))
     (λ c κs. search needs)
     (λ c. search needs)
     (λ c. search needs)

@@ -5,16 +5,13 @@ use lib.Seq.{length-take-le}
 use Rattle.cases.proofs.judging.verdict.Statement.{statement}
 use Rattle.cases.proofs.judging.verdict.Tie as tie
 
-slice-aggregate-verdict-text : tie.Need-slice-aggregate-verdict-text
-slice-aggregate-verdict-text c = sym (length-take-le _ _ (c .before .lent .ensures))
-
 pub verdict-spec : {M : Type 1} → statement M
 verdict-spec =
     tie.close
     (tie.spec
     (λ c κs. search needs)
     (λ c. search needs)
-    slice-aggregate-verdict-text
+    (λ c. sym (length-take-le _ _ (c .before .lent .ensures)))
     (λ c κs. search needs)
     (λ c. search needs)
     (λ c. search needs)

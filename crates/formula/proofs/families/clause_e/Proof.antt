@@ -28,9 +28,6 @@ returns c f h =
     let literals = walks-behind (d .deny .ensures) (walks-behind (g .followers .ensures f h) gone) in
     walks-same (words-one _) (walks-behind literals (q .close .ensures))
 
-same-length : tie.Need-same-length
-same-length c = let h = start (denied c) .pre .4 in walks-length (returns c (h .0) (h .1))
-
 pub clause-e-spec : {M : Type 1} → statement M
 clause-e-spec =
     tie.close
@@ -41,5 +38,5 @@ clause-e-spec =
     (λ c κs. search needs)
     (λ c κs. search needs)
     (λ c κs. search needs)
-    same-length
+    (λ c. let h = start (denied c) .pre .4 in walks-length (returns c (h .0) (h .1)))
     returns)

@@ -21,31 +21,10 @@ Inv-loop lower higher n values out₀ next₀ s₀ out next s =
 abbrev μ-loop : tie.MeasureT-loop
 μ-loop lower higher n values out₀ next₀ s₀ out next s = n - s
 
-loop-holds : tie.Need-loop-holds Inv-loop μ-loop
-loop-holds c = ahead-start _ _ _ _
-
-add-not-both : tie.Need-add-not-both Inv-loop μ-loop
-add-not-both c = omega arith
-
-add-not-both-2 : tie.Need-add-not-both-2 Inv-loop μ-loop
-add-not-both-2 c = omega arith
-
-not-both-requires : tie.Need-not-both-requires Inv-loop μ-loop
-not-both-requires c κs = (omega arith, omega arith)
-
-add-s : tie.Need-add-s Inv-loop μ-loop
-add-s c = omega arith
-
-loop-less : tie.Need-loop-less Inv-loop μ-loop
-loop-less c = omega arith
-
 loop-again : tie.Need-loop-again Inv-loop μ-loop
 loop-again c =
     let t = c .before .before .before in
     turn _ _ _ (t .before .loop .inv) (t .loop-test .taken) (c .before .not-both .ensures)
-
-same-length : tie.Need-same-length Inv-loop μ-loop
-same-length c = c .before .loop .inv .size
 
 returns : tie.Need-returns Inv-loop μ-loop
 unfolding clausesI
@@ -57,12 +36,12 @@ clauses-i-spec =
     (tie.spec
     Inv-loop
     μ-loop
-    loop-holds
-    add-not-both
-    add-not-both-2
-    not-both-requires
-    add-s
-    loop-less
+    (λ c. ahead-start _ _ _ _)
+    (λ c. omega arith)
+    (λ c. omega arith)
+    (λ c κs. (omega arith, omega arith))
+    (λ c. omega arith)
+    (λ c. omega arith)
     loop-again
-    same-length
+    (λ c. c .before .loop .inv .size)
     returns)

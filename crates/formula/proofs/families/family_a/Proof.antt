@@ -37,30 +37,6 @@ Inv-loop values out₀ b n next₀ node₀ out next node =
 abbrev μ-loop : tie.MeasureT-loop
 μ-loop values out₀ b n next₀ node₀ out next node = n - node
 
-loop-holds : tie.Need-loop-holds Inv-loop μ-loop
-loop-holds c = ahead-start _ _ _ _
-
-element-copy-out-kind : tie.Need-element-copy-out-kind Inv-loop μ-loop
-element-copy-out-kind c = omega arith
-
-denies-border-requires : tie.Need-denies-border-requires Inv-loop μ-loop
-denies-border-requires c κs = search needs
-
-unit-not-if-requires : tie.Need-unit-not-if-requires Inv-loop μ-loop
-unit-not-if-requires c κs = omega arith
-
-forces-border-requires : tie.Need-forces-border-requires Inv-loop μ-loop
-forces-border-requires c κs = search needs
-
-unit-is-if-requires : tie.Need-unit-is-if-requires Inv-loop μ-loop
-unit-is-if-requires c κs = omega arith
-
-add-node : tie.Need-add-node Inv-loop μ-loop
-add-node c = omega arith
-
-loop-less : tie.Need-loop-less Inv-loop μ-loop
-loop-less c = omega arith
-
 loop-again : tie.Need-loop-again Inv-loop μ-loop
 loop-again c =
     let f = c .before .before .before in
@@ -75,9 +51,6 @@ loop-again c =
     let both = walks-behind (walks-same denied (n .unit-not-if .ensures)) (walks-same forced (c .before .unit-is-if .ensures)) in
     turn _ _ _ (t .before .loop .inv) below (walks-same (sym (words-append _ _)) both)
 
-same-length : tie.Need-same-length Inv-loop μ-loop
-same-length c = c .before .loop .inv .size
-
 returns : tie.Need-returns Inv-loop μ-loop
 unfolding familyA borderVar instanceOf compile
 returns c =
@@ -91,14 +64,14 @@ family-a-spec =
     (tie.spec
     Inv-loop
     μ-loop
-    loop-holds
-    element-copy-out-kind
-    denies-border-requires
-    unit-not-if-requires
-    forces-border-requires
-    unit-is-if-requires
-    add-node
-    loop-less
+    (λ c. ahead-start _ _ _ _)
+    (λ c. omega arith)
+    (λ c κs. search needs)
+    (λ c κs. omega arith)
+    (λ c κs. search needs)
+    (λ c κs. omega arith)
+    (λ c. omega arith)
+    (λ c. omega arith)
     loop-again
-    same-length
+    (λ c. c .before .loop .inv .size)
     returns)

@@ -31,9 +31,6 @@ Inv-loop base n r chains values out₀ next₀ q₀ out next q =
 abbrev μ-loop : tie.MeasureT-loop
 μ-loop base n r chains values out₀ next₀ q₀ out next q = n - q
 
-loop-holds : tie.Need-loop-holds Inv-loop μ-loop
-loop-holds c f h = (first-below h, first-passes h, ahead-same (first-rows h _) (ahead-start _ _ _ _))
-
 -- a turn's number passes the test, and so the next is behind it
 module _ (t : tie.In-loop Inv-loop μ-loop) where
   abbrev start : tie.Start Inv-loop μ-loop
@@ -64,12 +61,6 @@ loop-again c f h =
       ahead-same (next-rows h (q t) below found _) (turn _ _ _ (v .2) below (walks-same literal (c .before .before .affirm .ensures))),
     )
 
-returns : tie.Need-returns Inv-loop μ-loop
-returns c f h = turned _ _ _ (c .before .loop .inv f h .2) (c .loop-test .left)
-
-same-length : tie.Need-same-length Inv-loop μ-loop
-same-length c = let h = c .before .before .before .before .before .pre .3 in c .before .loop .inv (h .0) (h .1) .2 .size
-
 pub followers-spec : {M : Type 1} → statement M
 followers-spec =
     tie.close
@@ -79,7 +70,7 @@ followers-spec =
     (λ c. omega arith)
     (λ c. omega arith)
     (λ c. omega arith)
-    loop-holds
+    (λ c f h. (first-below h, first-passes h, ahead-same (first-rows h _) (ahead-start _ _ _ _)))
     (λ c. omega arith)
     (λ c κs. omega arith)
     (λ c. omega arith)
@@ -88,5 +79,5 @@ followers-spec =
     (λ c. omega arith)
     loop-less
     loop-again
-    same-length
-    returns)
+    (λ c. let h = c .before .before .before .before .before .pre .3 in c .before .loop .inv (h .0) (h .1) .2 .size)
+    (λ c f h. turned _ _ _ (c .before .loop .inv f h .2) (c .loop-test .left)))

@@ -17,9 +17,6 @@ use Rattle.formula.proofs.Judged.{answer-unfit, answer-false, answer-tr
 use Rattle.formula.proofs.judging.judge_assignment.Statement.{statement}
 use Rattle.formula.proofs.judging.judge_assignment.Tie as tie
 
-returns : tie.Need-returns
-returns c = answer-unfit _ _ (sym (c .before .assignment-fits .ensures) ∙ not-true _ (c .if1 .taken))
-
 -- what the walk found
 module _ (c : tie.After-walk-formula) where
   abbrev start : tie.Start
@@ -33,21 +30,15 @@ module _ (c : tie.After-walk-formula) where
   unfolding totals
   found = ap (λ (w : Walk). w .wrong) (walk-totals (start .args .b) (start .pre .0 .counted .passed) (c .walk-formula .ensures))
 
-returns-2 : tie.Need-returns-2
-returns-2 c = let w = c .before .before .before in answer-false _ _ (fits w) _ (found w) (c .if2 .taken)
-
-returns-3 : tie.Need-returns-3
-returns-3 c = let w = c .before .before .before in answer-true _ _ (fits w) _ (found w) (c .if2 .left)
-
 pub judge-assignment-spec : {M : Type 1} → statement M
 judge-assignment-spec =
     tie.close
     (tie.spec
     (λ c κs. search needs)
-    returns
+    (λ c. answer-unfit _ _ (sym (c .before .assignment-fits .ensures) ∙ not-true _ (c .if1 .taken)))
     (λ c. search needs)
     (λ c. search needs)
     (λ c. search needs)
     (λ c κs. search needs)
-    returns-2
-    returns-3)
+    (λ c. let w = c .before .before .before in answer-false _ _ (fits w) _ (found w) (c .if2 .taken))
+    (λ c. let w = c .before .before .before in answer-true _ _ (fits w) _ (found w) (c .if2 .left)))

@@ -28,9 +28,6 @@ module _ (c : tie.After-served-at-departure) where
       let k = start .pre .block .block in
       departure-answer (a .t1) train (a .number) (call .call-at .ensures) (k .passed) (k .known) (c .served-at-departure .ensures)
 
-returns : tie.Need-returns
-returns c = walks-nothing (words-served _ _ _ (sym (answer (c .before)) ∙ c .if1 .taken))
-
 returns-2 : tie.Need-returns-2
 returns-2 c =
     let r = c .before .before .before .before in
@@ -48,7 +45,7 @@ call-clause-spec =
     let s = c .before .before .before .before in
     let k = s .pre .block .block in
     size-small (s .args .t1) (k .passed) (s .args .first .train) (k .known))
-    returns
+    (λ c. walks-nothing (words-served _ _ _ (sym (answer (c .before)) ∙ c .if1 .taken)))
     (λ c κs. search needs)
     (λ c κs. search needs)
     (λ c. search needs)

@@ -97,9 +97,6 @@ module _ (c : tie.Joined1 Inv-loop μ-loop) where
       (λ w. came-to (w .2) (w .1) (walks-nothing (only-false _ (sym answer ∙ w .0 .left))))
       (c .if1 .came)
 
-loop-again : tie.Need-loop-again Inv-loop μ-loop
-loop-again c = turn _ _ _ (inner c .before .loop .inv) (inner c .loop-test .taken) (passed c)
-
 returns : tie.Need-returns Inv-loop μ-loop
 unfolding callRuns
 returns c =
@@ -125,6 +122,6 @@ call-runs-spec =
     servers-requires
     (λ c. omega (arith, below (c .before .before)))
     (λ c. omega (arith, c .before .before .loop-test .taken))
-    loop-again
+    (λ c. turn _ _ _ (inner c .before .loop .inv) (inner c .loop-test .taken) (passed c))
     (λ c. c .before .loop .inv .size)
     returns)

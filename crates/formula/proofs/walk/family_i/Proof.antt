@@ -35,16 +35,10 @@ Inv-loop b counts values out₀ intervals next₀ t₀ out next t =
 abbrev μ-loop : tie.MeasureT-loop
 μ-loop b counts values out₀ intervals next₀ t₀ out next t = intervals - t
 
-interval-pairs-requires : tie.Need-interval-pairs-requires Inv-loop μ-loop
-interval-pairs-requires c κs = (c .before .before .before .before .pre, c .before .loop-test .taken)
-
 add-t : tie.Need-add-t Inv-loop μ-loop
 add-t c =
     let t = c .before .before .before in
     omega (arith, t .loop-test .taken, t .before .before .before .pre .passed .packed .numbers .intervals)
-
-loop-less : tie.Need-loop-less Inv-loop μ-loop
-loop-less c = omega (arith, c .before .before .before .loop-test .taken)
 
 loop-again : tie.Need-loop-again Inv-loop μ-loop
 loop-again c =
@@ -62,9 +56,9 @@ family-i-spec =
     Inv-loop
     μ-loop
     (λ c. ahead-start _ _ _ _)
-    interval-pairs-requires
+    (λ c κs. (c .before .before .before .before .pre, c .before .loop-test .taken))
     add-t
-    loop-less
+    (λ c. omega (arith, c .before .before .before .loop-test .taken))
     loop-again
     (λ c. c .before .loop .inv .size)
     returns)

@@ -45,9 +45,6 @@ add-i c =
     let t = c .before .before .before in
     omega (arith, t .loop-test .taken, t .before .before .before .pre .0 .passed .packed .counts .trains)
 
-loop-less : tie.Need-loop-less Inv-loop μ-loop
-loop-less c = omega (arith, c .before .before .before .loop-test .taken)
-
 loop-again : tie.Need-loop-again Inv-loop μ-loop
 loop-again c =
     let t = c .before .before .before in
@@ -66,7 +63,7 @@ interval-pairs-spec =
     (λ c. ahead-start _ _ _ _)
     pairs-behind-requires
     add-i
-    loop-less
+    (λ c. omega (arith, c .before .before .before .loop-test .taken))
     loop-again
     (λ c. c .before .loop .inv .size)
     returns)

@@ -47,9 +47,6 @@ Inv-loop b counts interval train values out₀ lower trains next₀ j₀ out nex
 abbrev μ-loop : tie.MeasureT-loop
 μ-loop b counts interval train values out₀ lower trains next₀ j₀ out next j = trains - j
 
-add-j : tie.Need-add-j Inv-loop μ-loop
-add-j c = let k = c .before .before .pre in omega (arith, k .1, k .0 .passed .packed .counts .trains)
-
 first-claim-requires-2 : tie.Need-first-claim-requires-2 Inv-loop μ-loop
 first-claim-requires-2 c κs =
     let k = c .before .before .before .before .pre in
@@ -66,9 +63,6 @@ add-j-2 : tie.Need-add-j-2 Inv-loop μ-loop
 add-j-2 c =
     let t = c .before .before .before .before in
     omega (arith, t .loop-test .taken, t .before .before .before .before .pre .0 .passed .packed .counts .trains)
-
-loop-less : tie.Need-loop-less Inv-loop μ-loop
-loop-less c = omega (arith, c .before .before .before .before .loop-test .taken)
 
 loop-again : tie.Need-loop-again Inv-loop μ-loop
 loop-again c =
@@ -90,12 +84,12 @@ pairs-behind-spec =
     Inv-loop
     μ-loop
     (λ c κs. c .before .pre)
-    add-j
+    (λ c. let k = c .before .before .pre in omega (arith, k .1, k .0 .passed .packed .counts .trains))
     (λ c. ahead-start _ _ _ _)
     first-claim-requires-2
     clauses-i-requires
     add-j-2
-    loop-less
+    (λ c. omega (arith, c .before .before .before .before .loop-test .taken))
     loop-again
     (λ c. c .before .loop .inv .size)
     returns)

@@ -23,15 +23,6 @@ abbrev μ-loop : tie.MeasureT-loop
 abbrev behind : tie.Start Inv-loop μ-loop → ℕ → Bool
 behind c i = all (λ d. ltb d (c .args .limit)) (drop i (c .args .p .now))
 
-loop-holds : tie.Need-loop-holds Inv-loop μ-loop
-loop-holds c = refl
-
-shared-slice-read-wide : tie.Need-shared-slice-read-wide Inv-loop μ-loop
-shared-slice-read-wide c = omega arith
-
-wide-requires : tie.Need-wide-requires Inv-loop μ-loop
-wide-requires c κs = search needs
-
 -- a turn: this byte, and those behind it
 turn : (c : tie.After-wide Inv-loop μ-loop)
     → behind (c .before .before .before .before .before) (c .before .before .before .before .before .args .from)
@@ -41,32 +32,17 @@ turn c =
     let s = c .before .before .before in
     s .loop .inv ∙ all-drop-next _ _ _ 0 (c .before .before .loop-test .taken) ∙ simp (← c .wide .ensures .0)
 
-returns : tie.Need-returns Inv-loop μ-loop
-returns c = let h = le-ltb _ _ (c .if1 .taken) in sym (turn (c .before) ∙ simp h)
-
-add-i : tie.Need-add-i Inv-loop μ-loop
-add-i c = omega arith
-
-loop-less : tie.Need-loop-less Inv-loop μ-loop
-loop-less c = omega arith
-
-loop-again : tie.Need-loop-again Inv-loop μ-loop
-loop-again c = let h = lt-ltb _ _ (c .if1 .left) in turn (c .before) ∙ simp h
-
-returns-2 : tie.Need-returns-2 Inv-loop μ-loop
-returns-2 c = sym (c .before .loop .inv ∙ all-drop-end _ _ _ (c .loop-test .left))
-
 pub all-below-spec : {M : Type 1} → statement M
 all-below-spec =
     tie.close
     (tie.spec
     Inv-loop
     μ-loop
-    loop-holds
-    shared-slice-read-wide
-    wide-requires
-    returns
-    add-i
-    loop-less
-    loop-again
-    returns-2)
+    (λ c. refl)
+    (λ c. omega arith)
+    (λ c κs. search needs)
+    (λ c. let h = le-ltb _ _ (c .if1 .taken) in sym (turn (c .before) ∙ simp h))
+    (λ c. omega arith)
+    (λ c. omega arith)
+    (λ c. let h = lt-ltb _ _ (c .if1 .left) in turn (c .before) ∙ simp h)
+    (λ c. sym (c .before .loop .inv ∙ all-drop-end _ _ _ (c .loop-test .left))))

@@ -26,21 +26,6 @@ loop-holds c =
     let e : c .args .from - c .args .from ≡ 0 = omega arith in
     (omega arith, omega arith, rw (e, padded))
 
-shared-slice-read-row : tie.Need-shared-slice-read-row Inv-loop μ-loop
-shared-slice-read-row c = omega arith
-
-sub-row : tie.Need-sub-row Inv-loop μ-loop
-sub-row c = omega arith
-
-array-write-row : tie.Need-array-write-row Inv-loop μ-loop
-array-write-row c = search needs
-
-add-i : tie.Need-add-i Inv-loop μ-loop
-add-i c = omega arith
-
-loop-less : tie.Need-loop-less Inv-loop μ-loop
-loop-less c = omega arith
-
 -- a turn: i's byte goes behind those that are there
 module _ (p : List ℕ) (from i : ℕ) (l : from ≤ i) (k : i < length p) where
   more : take (i + 1 - from) (drop from p) ≡ take (i - from) (drop from p) ++ one (getD p i 0)
@@ -67,9 +52,6 @@ turn c =
     (padded-next 8 (i - from) 0 (getD p i 0) (take (i - from) (drop from p))
     (many p from i (s .loop .inv .0) (c .before .loop-test .taken)) (omega arith))
 
-loop-again : tie.Need-loop-again Inv-loop μ-loop
-loop-again c = (omega arith, omega arith, turn c)
-
 returns : tie.Need-returns Inv-loop μ-loop
 returns c =
     let s = c .before in
@@ -83,10 +65,10 @@ row-of-spec =
     Inv-loop
     μ-loop
     loop-holds
-    shared-slice-read-row
-    sub-row
-    array-write-row
-    add-i
-    loop-less
-    loop-again
+    (λ c. omega arith)
+    (λ c. omega arith)
+    (λ c. search needs)
+    (λ c. omega arith)
+    (λ c. omega arith)
+    (λ c. (omega arith, omega arith, turn c))
     returns)

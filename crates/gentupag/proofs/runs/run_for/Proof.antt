@@ -1,7 +1,7 @@
 -- `gentupag::runs::run_for` meets its contract: the train is not there, or its part of the table is lent. Assumes nothing.
 use borrow.Author.Needs.{needs}
 use native.Mathlib.Omega.{arith}
-use Prim.Native.Nat.{ℕ, _+_, _*_, _≤_, _<_}
+use Prim.Native.Nat.{_+_, _*_, _≤_, _<_}
 use lib.ListN.{length}
 use Rattle.listing.specs.Listed.{trainBytes}
 use Rattle.tables.proofs.Here.{runs-lent}

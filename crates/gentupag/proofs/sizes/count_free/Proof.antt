@@ -6,7 +6,6 @@ use mathlib.Core.Path.{_≡_, refl, sym, ap, ap₂, _∙_}
 use mathlib.Core.Logic.{⊎-elim}
 use mathlib.Core.Bool.{Bool, true, false, not, _&&_}
 use Prim.Native.Nat.{ℕ, _+_, _-_, _≤_, _<_}
-use mathlib.Core.List.{List}
 use lib.ListN.{length, length-append}
 use Rattle.model.specs.declared.Book.{Book as BookStruct}
 use Rattle.spec.specs.Lists.{upTo, range, pick, only, one}
@@ -50,9 +49,6 @@ free-is c t e =
     let l = c .before .before .loop-test .taken in
     sym (ap₂ (λ x y. not x && not y) (denied-held b _ l refl) (forced-held b _ l refl)) ∙ sym (c .is-free .ensures) ∙ e
 
-loop-holds : tie.Need-loop-holds Inv-loop μ-loop
-loop-holds c = (omega arith, omega arith, omega arith)
-
 loop-again : tie.Need-loop-again Inv-loop μ-loop
 unfolding only
 loop-again c =
@@ -81,7 +77,7 @@ count-free-spec =
     (tie.spec
     Inv-loop
     μ-loop
-    loop-holds
+    (λ c. (omega arith, omega arith, omega arith))
     (λ c. omega arith)
     (λ c κs. search needs)
     (λ c. omega arith)

@@ -2,8 +2,8 @@
 use borrow.Author.Needs.{needs}
 use borrow.Author.Tests.{not-true, not-false}
 use mathlib.Core.Path.{sym, ap, _∙_}
-use mathlib.Core.Bool.{Bool, true, false, not, _&&_}
-use Rattle.spec.specs.Book.{deniesBorder, forcesBorder}
+use mathlib.Core.Bool.{Bool, not, _&&_}
+use Rattle.spec.specs.Book.{forcesBorder}
 use Rattle.gentupag.proofs.sizes.is_free.Statement.{statement}
 use Rattle.gentupag.proofs.sizes.is_free.Tie as tie
 

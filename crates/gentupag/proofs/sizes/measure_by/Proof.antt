@@ -1,6 +1,6 @@
 -- `gentupag::sizes::measure_by` meets its contract: the walk over an empty output measures the formula. Assumes nothing.
 use borrow.Author.Needs.{needs}
-use mathlib.Core.Path.{_≡_, refl, sym}
+use mathlib.Core.Path.{sym}
 use Rattle.spec.specs.Instance.{instanceOf, compile}
 use Rattle.spec.specs.Library.{sizesOf}
 use Rattle.spec.specs.Held.{held}

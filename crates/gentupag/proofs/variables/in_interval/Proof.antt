@@ -37,9 +37,6 @@ module _ (s : tie.Start) where
       let k = base-small I (passed-few (s .args .b) (counted .passed)) (s .args .train) (s .args .interval) inside (omega (arith, within)) in
       omega (arith, s .pre .3)
 
-gone-variable-requires : tie.Need-gone-variable-requires
-gone-variable-requires c κs = omega (arith, few c, low c)
-
 returns : tie.Need-returns
 returns c =
     let g = c .before .before in
@@ -76,7 +73,7 @@ in-interval-spec =
     (tie.spec
     (λ c. search needs)
     (λ c. search needs)
-    gone-variable-requires
+    (λ c κs. omega (arith, few c, low c))
     (λ c. search needs)
     (λ c κs. search needs)
     returns

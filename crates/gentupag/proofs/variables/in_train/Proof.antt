@@ -71,9 +71,6 @@ module _ (c : tie.After-next-interval) where
   inside : interval < start .args .b .intervals
   inside = row-inside first wide (start .args .b .intervals) at some from below
 
-next-interval-requires : tie.Need-next-interval-requires
-next-interval-requires c κs = omega (arith, few (c .before), short (c .before))
-
 base-from-requires : tie.Need-base-from-requires
 base-from-requires c κs = (
   low c,
@@ -122,7 +119,7 @@ in-train-spec =
     (λ c. search needs)
     (λ c κs. search needs)
     (λ c. search needs)
-    next-interval-requires
+    (λ c κs. omega (arith, few (c .before), short (c .before)))
     (λ c. search needs)
     base-from-requires
     in-interval-requires

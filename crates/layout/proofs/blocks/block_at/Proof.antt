@@ -1,7 +1,7 @@
 -- `blocks::block_at` meets its contract: the intervals before are as wide as the train's variables in one. Assumes nothing.
 use native.Mathlib.Omega.{arith}
 use mathlib.Core.Path.{_≡_, refl, sym, ap, _∙_}
-use Prim.Native.Nat.{ℕ, _+_, _*_, _≤_}
+use Prim.Native.Nat.{ℕ, _+_, _*_}
 use Rattle.spec.specs.Instance.{Instance, instanceOf}
 use Rattle.spec.specs.Formula as formula
 use Rattle.spec.specs.Held.{held}

@@ -1,5 +1,4 @@
 -- `moves::moves_fit` meets its contract. The loop's invariant: the answer for all trains is that for those from i on. Assumes nothing.
-use borrow.Author.Needs.{needs}
 use native.Mathlib.Omega.{arith}
 use mathlib.Core.Path.{_≡_, sym, ap, _∙_}
 use mathlib.Core.Bool.{Bool}
@@ -34,12 +33,6 @@ loop-holds c =
 few : (c : tie.In-loop Inv-loop μ-loop) → c .before .loop .i < 8
 few c = omega (arith, c .loop-test .taken, c .before .before .before .pre .0 .passed .packed .counts .trains)
 
-mul-train-fits : tie.Need-mul-train-fits Inv-loop μ-loop
-mul-train-fits c = omega (arith, few c)
-
-array-read-train-fits : tie.Need-array-read-train-fits Inv-loop μ-loop
-array-read-train-fits c = few c
-
 train-fits-requires : tie.Need-train-fits-requires Inv-loop μ-loop
 train-fits-requires c κs =
     let p = c .before .before .before .pre in
@@ -51,19 +44,10 @@ returns c =
     all-broken _ (c .before .before .before .loop .inv) (c .before .before .loop-test .taken)
     (sym (c .before .train-fits .ensures) ∙ not-true _ (c .if1 .taken))
 
-add-i : tie.Need-add-i Inv-loop μ-loop
-add-i c = omega arith
-
-loop-less : tie.Need-loop-less Inv-loop μ-loop
-loop-less c = omega arith
-
 loop-again : tie.Need-loop-again Inv-loop μ-loop
 loop-again c =
     all-turn _ (c .before .before .before .loop .inv) (c .before .before .loop-test .taken)
     (sym (c .before .train-fits .ensures) ∙ not-false _ (c .if1 .left))
-
-returns-2 : tie.Need-returns-2 Inv-loop μ-loop
-returns-2 c = all-done _ (c .before .loop .inv) (c .loop-test .left)
 
 pub moves-fit-spec : {M : Type 1} → statement M
 moves-fit-spec =
@@ -72,11 +56,11 @@ moves-fit-spec =
     Inv-loop
     μ-loop
     loop-holds
-    mul-train-fits
-    array-read-train-fits
+    (λ c. omega (arith, few c))
+    (λ c. few c)
     train-fits-requires
     returns
-    add-i
-    loop-less
+    (λ c. omega arith)
+    (λ c. omega arith)
     loop-again
-    returns-2)
+    (λ c. all-done _ (c .before .loop .inv) (c .loop-test .left)))

@@ -17,9 +17,6 @@ use Rattle.layout.proofs.Places.{nodes-fit, bits-are, fits-long, fits-b
 use Rattle.layout.proofs.moves.plan_fits.Statement.{statement}
 use Rattle.layout.proofs.moves.plan_fits.Tie as tie
 
-plan-length-requires : tie.Need-plan-length-requires
-plan-length-requires c κs = search needs
-
 returns : tie.Need-returns
 returns c =
     let l = c .before in
@@ -35,21 +32,6 @@ module _ (c : tie.Else1) where
 
   nodes-here : start .args .b .«node_count» ≤ length (now (start .args .plan))
   nodes-here = omega (arith, long-here, nodes-fit (start .args .b) (start .pre .passed))
-
-sub-all-below : tie.Need-sub-all-below
-sub-all-below c = search needs
-
-part-all-below-start : tie.Need-part-all-below-start
-part-all-below-start c = search needs
-
-part-all-below-end : tie.Need-part-all-below-end
-part-all-below-end c = nodes-here c
-
-all-below-requires : tie.Need-all-below-requires
-all-below-requires c κs = search needs
-
-moves-fit-requires : tie.Need-moves-fit-requires
-moves-fit-requires c κs = let e = c .before .before .before in (start e .pre, long-here e)
 
 -- what the scan of the nodes' bytes says
 module _ (c : tie.After-all-below) where
@@ -72,19 +54,16 @@ module _ (c : tie.After-all-below) where
 returns-2 : tie.Need-returns-2
 returns-2 c = let a = c .before .before in fits-moves _ _ (long a) (sym (bits a) ∙ c .before .if2 .taken) (c .moves-fit .ensures)
 
-returns-3 : tie.Need-returns-3
-returns-3 c = let a = c .before in c .if2 .left ∙ fits-bits _ _ (long a) (sym (bits a) ∙ c .if2 .left)
-
 pub plan-fits-spec : {M : Type 1} → statement M
 plan-fits-spec =
     tie.close
     (tie.spec
-    plan-length-requires
+    (λ c κs. search needs)
     returns
-    sub-all-below
-    part-all-below-start
-    part-all-below-end
-    all-below-requires
-    moves-fit-requires
+    (λ c. search needs)
+    (λ c. search needs)
+    (λ c. nodes-here c)
+    (λ c κs. search needs)
+    (λ c κs. let e = c .before .before .before in (start e .pre, long-here e))
     returns-2
-    returns-3)
+    (λ c. let a = c .before in c .if2 .left ∙ fits-bits _ _ (long a) (sym (bits a) ∙ c .if2 .left)))

@@ -1,21 +1,12 @@
 -- `numbering::base_of` meets its contract: the intervals before are as wide as the train's variables in one. Assumes nothing.
 use borrow.Author.Needs.{needs}
 use native.Mathlib.Omega.{arith}
-use mathlib.Core.Path.{_≡_, sym, ap, _∙_, subst}
+use mathlib.Core.Path.{sym, ap, _∙_, subst}
 use Prim.Native.Nat.{ℕ, _+_, _*_, _≤_}
 use lib.ListN.{getD}
 use Rattle.tables.proofs.Small.{few-runs, few-segments, first-below, base-here}
 use Rattle.layout.proofs.numbering.base_of.Statement.{statement}
 use Rattle.layout.proofs.numbering.base_of.Tie as tie
-
-first-variable-requires : tie.Need-first-variable-requires
-first-variable-requires c κs = search needs
-
-mul-base-from : tie.Need-mul-base-from
-mul-base-from c = search needs
-
-array-read-base-from : tie.Need-array-read-base-from
-array-read-base-from c = search needs
 
 base-from-requires : tie.Need-base-from-requires
 base-from-requires c κs =
@@ -42,8 +33,8 @@ pub base-of-spec : {M : Type 1} → statement M
 base-of-spec =
     tie.close
     (tie.spec
-    first-variable-requires
-    mul-base-from
-    array-read-base-from
+    (λ c κs. search needs)
+    (λ c. search needs)
+    (λ c. search needs)
     base-from-requires
     returns)

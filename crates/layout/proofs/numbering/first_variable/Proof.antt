@@ -49,12 +49,6 @@ module _ (c : tie.In-loop Inv-loop μ-loop) where
       ap (λ (n : ℕ). n + b .intervals * (getD runs j 0 + 1 + b .«segment_count»)) (c .before .loop .inv .1)
       ∙ first-then b runs counted j below
 
-mul-base-from : tie.Need-mul-base-from Inv-loop μ-loop
-mul-base-from c = omega (arith, few-j c)
-
-array-read-base-from : tie.Need-array-read-base-from Inv-loop μ-loop
-array-read-base-from c = few-j c
-
 base-from-requires : tie.Need-base-from-requires Inv-loop μ-loop
 base-from-requires c κs = (
   subst (λ (n : ℕ). n ≤ 168296544) (sym (c .before .loop .inv .1)) (first-below (b c) (runs c) (counted c) (j c) (below c)),
@@ -62,12 +56,6 @@ base-from-requires c κs = (
   few-segments (b c) (runs c) (counted c) (j c) (below c),
   omega (arith, counted c .passed .packed .numbers .intervals),
 )
-
-add-j : tie.Need-add-j Inv-loop μ-loop
-add-j c = omega (arith, few-j (c .before))
-
-loop-less : tie.Need-loop-less Inv-loop μ-loop
-loop-less c = let h = c .before .loop-test .taken in omega arith
 
 loop-again : tie.Need-loop-again Inv-loop μ-loop
 loop-again c =
@@ -86,10 +74,10 @@ first-variable-spec =
     Inv-loop
     μ-loop
     loop-holds
-    mul-base-from
-    array-read-base-from
+    (λ c. omega (arith, few-j c))
+    (λ c. few-j c)
     base-from-requires
-    add-j
-    loop-less
+    (λ c. omega (arith, few-j (c .before)))
+    (λ c. let h = c .before .loop-test .taken in omega arith)
     loop-again
     returns)

@@ -57,15 +57,6 @@ loop-holds c = refl
 room : (c : tie.Start Inv-loop μ-loop) → c .args .t1 .«call_count» ≤ length (c .args .t1 .calls)
 room c = let e : length (c .args .t1 .calls) ≡ 32 = search (needs, length-of-map) in omega arith
 
-mul-c : tie.Need-mul-c Inv-loop μ-loop
-mul-c c = omega arith
-
-element-copy-out-c : tie.Need-element-copy-out-c Inv-loop μ-loop
-element-copy-out-c c = omega arith
-
-wide-requires : tie.Need-wide-requires Inv-loop μ-loop
-wide-requires c κs = search needs
-
 -- a turn: this call where it is the train's, and those behind it
 module _ (c : tie.After-wide Inv-loop μ-loop) where
   abbrev start : tie.Start Inv-loop μ-loop
@@ -107,18 +98,6 @@ module _ (c : tie.After-wide Inv-loop μ-loop) where
       ∙ nth-other _ _ _ _ noCall zeroCall (c .before .before .loop-test .taken) (room start) left
       (ne-eqb _ _ (λ e. h (c .wide .ensures .0 ∙ e)))
 
-returns : tie.Need-returns Inv-loop μ-loop
-returns c = turn-here (c .before .before) (c .before .if1 .taken) (c .if2 .taken)
-
-sub-left : tie.Need-sub-left Inv-loop μ-loop
-sub-left c = omega arith
-
-add-i : tie.Need-add-i Inv-loop μ-loop
-add-i c = omega arith
-
-loop-less : tie.Need-loop-less Inv-loop μ-loop
-loop-less c = omega arith
-
 loop-again : tie.Need-loop-again Inv-loop μ-loop
 loop-again c =
     ⊎-elim
@@ -137,12 +116,12 @@ call-at-spec =
     Inv-loop
     μ-loop
     loop-holds
-    mul-c
-    element-copy-out-c
-    wide-requires
-    returns
-    sub-left
-    add-i
-    loop-less
+    (λ c. omega arith)
+    (λ c. omega arith)
+    (λ c κs. search needs)
+    (λ c. turn-here (c .before .before) (c .before .if1 .taken) (c .if2 .taken))
+    (λ c. omega arith)
+    (λ c. omega arith)
+    (λ c. omega arith)
     loop-again
     returns-2)

@@ -30,21 +30,6 @@ loop-holds : tie.Need-loop-holds Inv-loop μ-loop
 unfolding goalOf callsOf noCall held
 loop-holds c = refl
 
-mul-c : tie.Need-mul-c Inv-loop μ-loop
-mul-c c = omega arith
-
-element-copy-out-c : tie.Need-element-copy-out-c Inv-loop μ-loop
-element-copy-out-c c = omega arith
-
-wide-requires : tie.Need-wide-requires Inv-loop μ-loop
-wide-requires c κs = search needs
-
-add-i : tie.Need-add-i Inv-loop μ-loop
-add-i c = omega arith
-
-loop-less : tie.Need-loop-less Inv-loop μ-loop
-loop-less c = omega arith
-
 -- a turn: this call where it is the train's, and those behind it
 module _ (c : tie.After-wide Inv-loop μ-loop) where
   abbrev start : tie.Start Inv-loop μ-loop
@@ -77,9 +62,6 @@ loop-again c =
     (λ w. turn-left (c .before) (w .0 .left) ∙ simp (w .1))
     (c .if1 .came)
 
-returns : tie.Need-returns Inv-loop μ-loop
-returns c = sym (c .before .loop .inv ∙ last-end _ _ _ _ _ (c .loop-test .left))
-
 pub goal-spec : {M : Type 1} → statement M
 goal-spec =
     tie.close
@@ -87,10 +69,10 @@ goal-spec =
     Inv-loop
     μ-loop
     loop-holds
-    mul-c
-    element-copy-out-c
-    wide-requires
-    add-i
-    loop-less
+    (λ c. omega arith)
+    (λ c. omega arith)
+    (λ c κs. search needs)
+    (λ c. omega arith)
+    (λ c. omega arith)
     loop-again
-    returns)
+    (λ c. sym (c .before .loop .inv ∙ last-end _ _ _ _ _ (c .loop-test .left))))

@@ -51,21 +51,6 @@ loop-holds c =
       marks-none (c .args .t1) (c .args .ttd) 96,
     )
 
-mul-s : tie.Need-mul-s Inv-loop μ-loop
-mul-s c = omega arith
-
-element-copy-out-s : tie.Need-element-copy-out-s Inv-loop μ-loop
-element-copy-out-s c = omega arith
-
-wide-requires : tie.Need-wide-requires Inv-loop μ-loop
-wide-requires c κs = tt
-
-wide-requires-2 : tie.Need-wide-requires-2 Inv-loop μ-loop
-wide-requires-2 c κs = tt
-
-wide-requires-3 : tie.Need-wide-requires-3 Inv-loop μ-loop
-wide-requires-3 c κs = tt
-
 -- a turn: segment i is hit, or one behind it
 module _ (c : tie.In-loop Inv-loop μ-loop) where
   abbrev start : tie.Start Inv-loop μ-loop
@@ -132,42 +117,6 @@ module _ (c : tie.After-divides2 Inv-loop μ-loop) where
 
   turn-b : whole (start (inside both)) ≡ (c .divides2 .result || behind (start (inside both)) (i (inside both) + 1))
   turn-b = let h = at-a first in turn-of both ∙ simp (h, c .before .before .if2 .left, at-b)
-
-element-copy-out-divides : tie.Need-element-copy-out-divides Inv-loop μ-loop
-element-copy-out-divides c = a-fits c
-
-array-read-divides : tie.Need-array-read-divides Inv-loop μ-loop
-array-read-divides c = a-fits (c .before)
-
-divides-requires : tie.Need-divides-requires Inv-loop μ-loop
-divides-requires c κs = tt
-
-returns : tie.Need-returns Inv-loop μ-loop
-returns c = let h = at-a (c .before) in sym (turn-of (c .before .before .before) ∙ simp (h, c .if2 .taken))
-
-element-copy-out-divides-2 : tie.Need-element-copy-out-divides-2 Inv-loop μ-loop
-element-copy-out-divides-2 c = b-fits (c .before .before .before)
-
-array-read-divides-2 : tie.Need-array-read-divides-2 Inv-loop μ-loop
-array-read-divides-2 c = b-fits (c .before .before .before .before)
-
-divides-requires-2 : tie.Need-divides-requires-2 Inv-loop μ-loop
-divides-requires-2 c κs = tt
-
-returns-2 : tie.Need-returns-2 Inv-loop μ-loop
-returns-2 c = sym (turn-b (c .before) ∙ simp (c .if3 .taken))
-
-array-write-seen : tie.Need-array-write-seen Inv-loop μ-loop
-array-write-seen c = a-fits (both (c .before))
-
-array-write-seen-2 : tie.Need-array-write-seen-2 Inv-loop μ-loop
-array-write-seen-2 c = b-fits (both (c .before))
-
-add-i : tie.Need-add-i Inv-loop μ-loop
-add-i c = omega arith
-
-loop-less : tie.Need-loop-less Inv-loop μ-loop
-loop-less c = omega arith
 
 -- the marks behind a segment of the TTD, and behind another
 marks-of : (c : tie.After-wide3 Inv-loop μ-loop)
@@ -241,22 +190,22 @@ may-divide-spec =
     Inv-loop
     μ-loop
     loop-holds
-    mul-s
-    element-copy-out-s
-    wide-requires
-    wide-requires-2
-    wide-requires-3
-    element-copy-out-divides
-    array-read-divides
-    divides-requires
-    returns
-    element-copy-out-divides-2
-    array-read-divides-2
-    divides-requires-2
-    returns-2
-    array-write-seen
-    array-write-seen-2
-    add-i
-    loop-less
+    (λ c. omega arith)
+    (λ c. omega arith)
+    (λ c κs. tt)
+    (λ c κs. tt)
+    (λ c κs. tt)
+    (λ c. a-fits c)
+    (λ c. a-fits (c .before))
+    (λ c κs. tt)
+    (λ c. let h = at-a (c .before) in sym (turn-of (c .before .before .before) ∙ simp (h, c .if2 .taken)))
+    (λ c. b-fits (c .before .before .before))
+    (λ c. b-fits (c .before .before .before .before))
+    (λ c κs. tt)
+    (λ c. sym (turn-b (c .before) ∙ simp (c .if3 .taken)))
+    (λ c. a-fits (both (c .before)))
+    (λ c. b-fits (both (c .before)))
+    (λ c. omega arith)
+    (λ c. omega arith)
     loop-again
     returns-3)

@@ -36,15 +36,6 @@ loop-holds : tie.Need-loop-holds Inv-loop μ-loop
 unfolding someHas held
 loop-holds c = refl
 
-mul-wide : tie.Need-mul-wide Inv-loop μ-loop
-mul-wide c = omega arith
-
-element-copy-out-wide : tie.Need-element-copy-out-wide Inv-loop μ-loop
-element-copy-out-wide c = omega arith
-
-wide-requires : tie.Need-wide-requires Inv-loop μ-loop
-wide-requires c κs = search needs
-
 -- a turn: this segment, or those behind it
 turn : (c : tie.After-wide Inv-loop μ-loop)
     → whole (c .before .before .before)
@@ -56,21 +47,6 @@ turn c =
     ∙ any-next _ _ _ zeroSegment (c .before .loop-test .taken) (room (s .before)) _
     ∙ simp (← c .wide .ensures .0)
 
-returns : tie.Need-returns Inv-loop μ-loop
-returns c = let h = eq-eqb _ _ (c .if1 .taken) in sym (turn (c .before) ∙ simp h)
-
-add-i : tie.Need-add-i Inv-loop μ-loop
-add-i c = omega arith
-
-loop-less : tie.Need-loop-less Inv-loop μ-loop
-loop-less c = omega arith
-
-loop-again : tie.Need-loop-again Inv-loop μ-loop
-loop-again c = let h = ne-eqb _ _ (c .if1 .left) in turn (c .before) ∙ simp h
-
-returns-2 : tie.Need-returns-2 Inv-loop μ-loop
-returns-2 c = sym (c .before .loop .inv ∙ any-end _ _ _ (c .loop-test .left) _)
-
 pub some-has-spec : {M : Type 1} → statement M
 some-has-spec =
     tie.close
@@ -78,11 +54,11 @@ some-has-spec =
     Inv-loop
     μ-loop
     loop-holds
-    mul-wide
-    element-copy-out-wide
-    wide-requires
-    returns
-    add-i
-    loop-less
-    loop-again
-    returns-2)
+    (λ c. omega arith)
+    (λ c. omega arith)
+    (λ c κs. search needs)
+    (λ c. let h = eq-eqb _ _ (c .if1 .taken) in sym (turn (c .before) ∙ simp h))
+    (λ c. omega arith)
+    (λ c. omega arith)
+    (λ c. let h = ne-eqb _ _ (c .if1 .left) in turn (c .before) ∙ simp h)
+    (λ c. sym (c .before .loop .inv ∙ any-end _ _ _ (c .loop-test .left) _)))

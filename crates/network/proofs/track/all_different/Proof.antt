@@ -47,21 +47,6 @@ abbrev μ-loop : tie.MeasureT-loop
 room : (c : tie.Start Inv-loop2 μ-loop2 Inv-loop μ-loop) → c .args .n ≤ length (c .args .t1)
 room c = let e : length (c .args .t1) ≡ 8 = search needs in omega arith
 
-loop-holds : tie.Need-loop-holds Inv-loop2 μ-loop2 Inv-loop μ-loop
-loop-holds c = refl
-
-add-j : tie.Need-add-j Inv-loop2 μ-loop2 Inv-loop μ-loop
-add-j c = omega arith
-
-loop2-holds : tie.Need-loop2-holds Inv-loop2 μ-loop2 Inv-loop μ-loop
-loop2-holds c = from-next _ _ _ (c .loop-test .taken) (room (c .before .before))
-
-array-read-if1 : tie.Need-array-read-if1 Inv-loop2 μ-loop2 Inv-loop μ-loop
-array-read-if1 c = omega arith
-
-array-read-if1-2 : tie.Need-array-read-if1-2 Inv-loop2 μ-loop2 Inv-loop μ-loop
-array-read-if1-2 c = omega arith
-
 -- an inner turn: j's segment, and those behind it
 module _ (c : tie.In-loop2 Inv-loop2 μ-loop2 Inv-loop μ-loop) where
   abbrev place : List ℕ
@@ -87,24 +72,12 @@ returns c =
     let h = eq-eqb _ _ (c .if1 .taken) in
     sym (s .before .before .loop .inv ∙ s .loop2 .inv ∙ simp (e, h))
 
-add-j-2 : tie.Need-add-j-2 Inv-loop2 μ-loop2 Inv-loop μ-loop
-add-j-2 c = omega arith
-
-loop2-less : tie.Need-loop2-less Inv-loop2 μ-loop2 Inv-loop μ-loop
-loop2-less c = omega arith
-
 loop2-again : tie.Need-loop2-again Inv-loop2 μ-loop2 Inv-loop μ-loop
 unfolding segmentOf
 loop2-again c =
     let e = turn (c .before) in
     let h = ne-eqb _ _ (c .if1 .left) in
     c .before .before .loop2 .inv ∙ simp (e, h)
-
-add-i : tie.Need-add-i Inv-loop2 μ-loop2 Inv-loop μ-loop
-add-i c = omega arith
-
-loop-less : tie.Need-loop-less Inv-loop2 μ-loop2 Inv-loop μ-loop
-loop-less c = omega arith
 
 loop-again : tie.Need-loop-again Inv-loop2 μ-loop2 Inv-loop μ-loop
 loop-again c =
@@ -128,16 +101,16 @@ all-different-spec =
     μ-loop2
     Inv-loop
     μ-loop
-    loop-holds
-    add-j
-    loop2-holds
-    array-read-if1
-    array-read-if1-2
+    (λ c. refl)
+    (λ c. omega arith)
+    (λ c. from-next _ _ _ (c .loop-test .taken) (room (c .before .before)))
+    (λ c. omega arith)
+    (λ c. omega arith)
     returns
-    add-j-2
-    loop2-less
+    (λ c. omega arith)
+    (λ c. omega arith)
     loop2-again
-    add-i
-    loop-less
+    (λ c. omega arith)
+    (λ c. omega arith)
     loop-again
     returns-2)

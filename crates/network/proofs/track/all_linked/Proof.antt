@@ -34,24 +34,6 @@ known : (c : tie.Start Inv-loop μ-loop) (k : ℕ) → k < c .args .n → getD (
 known c k l =
     ltb→lt _ _ (all-take-at (λ d. ltb d (2 * c .args .b .«segment_count»)) (c .args .t2) (c .args .n) k 0 l (room c) (c .pre .2))
 
-loop-holds : tie.Need-loop-holds Inv-loop μ-loop
-loop-holds c = (omega arith, refl)
-
-sub-wide : tie.Need-sub-wide Inv-loop μ-loop
-sub-wide c = omega arith
-
-array-read-wide : tie.Need-array-read-wide Inv-loop μ-loop
-array-read-wide c = omega arith
-
-wide-requires : tie.Need-wide-requires Inv-loop μ-loop
-wide-requires c κs = search needs
-
-array-read-wide-2 : tie.Need-array-read-wide-2 Inv-loop μ-loop
-array-read-wide-2 c = omega arith
-
-wide-requires-2 : tie.Need-wide-requires-2 Inv-loop μ-loop
-wide-requires-2 c κs = search needs
-
 leads-to-requires : tie.Need-leads-to-requires Inv-loop μ-loop
 leads-to-requires c κs =
     let s = c .before .before .before in
@@ -70,15 +52,6 @@ turn c =
     s .loop .inv .1
     ∙ linked-next _ _ _ _ 0 l (room (s .before))
     ∙ simp (e, c .leads-to .ensures, c .before .before .wide .ensures .0, c .before .wide2 .ensures .0)
-
-returns : tie.Need-returns Inv-loop μ-loop
-returns c = let h = not-true (c .before .leads-to .result) (c .if1 .taken) in sym (turn (c .before) ∙ simp h)
-
-add-i : tie.Need-add-i Inv-loop μ-loop
-add-i c = omega arith
-
-loop-less : tie.Need-loop-less Inv-loop μ-loop
-loop-less c = omega arith
 
 loop-again : tie.Need-loop-again Inv-loop μ-loop
 loop-again c =
@@ -99,15 +72,15 @@ all-linked-spec =
     (tie.spec
     Inv-loop
     μ-loop
-    loop-holds
-    sub-wide
-    array-read-wide
-    wide-requires
-    array-read-wide-2
-    wide-requires-2
+    (λ c. (omega arith, refl))
+    (λ c. omega arith)
+    (λ c. omega arith)
+    (λ c κs. search needs)
+    (λ c. omega arith)
+    (λ c κs. search needs)
     leads-to-requires
-    returns
-    add-i
-    loop-less
+    (λ c. let h = not-true (c .before .leads-to .result) (c .if1 .taken) in sym (turn (c .before) ∙ simp h))
+    (λ c. omega arith)
+    (λ c. omega arith)
     loop-again
     returns-2)

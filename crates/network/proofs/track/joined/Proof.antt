@@ -34,15 +34,6 @@ loop-holds : tie.Need-loop-holds Inv-loop μ-loop
 unfolding joined held
 loop-holds c = (omega arith, refl)
 
-mul-join-is : tie.Need-mul-join-is Inv-loop μ-loop
-mul-join-is c = omega arith
-
-element-copy-out-join-is : tie.Need-element-copy-out-join-is Inv-loop μ-loop
-element-copy-out-join-is c = omega arith
-
-join-is-requires : tie.Need-join-is-requires Inv-loop μ-loop
-join-is-requires c κs = tt
-
 -- a turn: this join, or those behind it
 turn : (c : tie.After-join-is Inv-loop μ-loop)
     → whole (c .before .before .before .before)
@@ -53,21 +44,6 @@ turn c =
     ∙ any-next _ _ _ zeroJoin (c .before .before .loop-test .taken) (room (s .before)) _
     ∙ simp (c .join-is .ensures)
 
-returns : tie.Need-returns Inv-loop μ-loop
-returns c = sym (turn (c .before) ∙ simp (c .if1 .taken))
-
-add-i : tie.Need-add-i Inv-loop μ-loop
-add-i c = omega arith
-
-loop-less : tie.Need-loop-less Inv-loop μ-loop
-loop-less c = omega arith
-
-loop-again : tie.Need-loop-again Inv-loop μ-loop
-loop-again c = (omega arith, turn (c .before) ∙ simp (c .if1 .left))
-
-returns-2 : tie.Need-returns-2 Inv-loop μ-loop
-returns-2 c = sym (c .before .loop .inv .1 ∙ any-end _ _ _ (c .loop-test .left) _)
-
 pub joined-spec : {M : Type 1} → statement M
 joined-spec =
     tie.close
@@ -75,11 +51,11 @@ joined-spec =
     Inv-loop
     μ-loop
     loop-holds
-    mul-join-is
-    element-copy-out-join-is
-    join-is-requires
-    returns
-    add-i
-    loop-less
-    loop-again
-    returns-2)
+    (λ c. omega arith)
+    (λ c. omega arith)
+    (λ c κs. tt)
+    (λ c. sym (turn (c .before) ∙ simp (c .if1 .taken)))
+    (λ c. omega arith)
+    (λ c. omega arith)
+    (λ c. (omega arith, turn (c .before) ∙ simp (c .if1 .left)))
+    (λ c. sym (c .before .loop .inv .1 ∙ any-end _ _ _ (c .loop-test .left) _)))

@@ -49,9 +49,6 @@ add-train c =
     let t = c .before .before .before .before in
     omega (arith, t .loop-test .taken, given (t .before) .pre .0 .passed .packed .counts .trains)
 
-loop-less : tie.Need-loop-less Inv-loop μ-loop
-loop-less c = let h = c .before .before .before .before .loop-test .taken in omega (arith, h)
-
 loop-again : tie.Need-loop-again Inv-loop μ-loop
 loop-again c =
     let t = c .before .before .before .before in
@@ -83,7 +80,7 @@ decode-spec =
     (λ c. (omega arith, rows-none))
     decode-train-requires
     add-train
-    loop-less
+    (λ c. let h = c .before .before .before .before .loop-test .taken in omega (arith, h))
     loop-again
     (λ c. kept (c .before))
     returns)

@@ -62,9 +62,6 @@ block : (c : tie.After-block-at Inv-loop μ-loop) → let s = given (c .before) 
     BlockOf (s .args .b) (s .args .train) (interval (c .before)) (c .block-at .result)
 block c = block-of (c .before .before .before .train-block .ensures .train) (c .block-at .ensures .0)
 
-code-of-requires : tie.Need-code-of-requires Inv-loop μ-loop
-code-of-requires c κs = let k = block c .block in (k .small, runs-small _ (k .passed) _ (k .known) _ (k .runs))
-
 move-place-requires : tie.Need-move-place-requires Inv-loop μ-loop
 move-place-requires c κs =
     let t = c .before .before in
@@ -106,7 +103,7 @@ decode-train-spec =
     (λ c κs. let p = c .before .before .pre in (p .0, p .1))
     (λ c. (omega arith, rows-none))
     (λ c κs. let e = c .before .before .train-block .ensures in (block-of (sym (e .train)) e, omega (arith, c .loop-test .taken)))
-    code-of-requires
+    (λ c κs. let k = block c .block in (k .small, runs-small _ (k .passed) _ (k .known) _ (k .runs)))
     move-place-requires
     put-code-requires
     (λ c. omega (arith, short (c .before .before .before .before .before .before .before)))

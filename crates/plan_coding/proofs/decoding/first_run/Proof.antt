@@ -20,9 +20,6 @@ Inv-loop base n values r₀ r = (r ≤ n) × (leastFrom (runs values base) 0 n �
 abbrev μ-loop : tie.MeasureT-loop
 μ-loop base n values r₀ r = n - r
 
-loop-holds : tie.Need-loop-holds Inv-loop μ-loop
-loop-holds c = let e : c .before .args .n - 0 ≡ c .before .args .n = omega arith in (omega arith, rw e)
-
 returns : tie.Need-returns Inv-loop μ-loop
 returns c =
     let t = c .before .before in
@@ -44,7 +41,7 @@ first-run-spec =
     (tie.spec
     Inv-loop
     μ-loop
-    loop-holds
+    (λ c. let e : c .before .args .n - 0 ≡ c .before .args .n = omega arith in (omega arith, rw e))
     (λ c. omega arith)
     (λ c κs. tt)
     returns

@@ -33,9 +33,6 @@ loop-again c =
     ⊎-elim (λ w. w .1 ∙ ap bit (sym (eq-eqb _ _ (w .0 .taken)))) (λ w. w .1 ∙ ap bit (sym (ne-eqb _ _ (w .0 .left)))) (c .if1 .came) in
     stored-next (t .loop .inv) (c .before .before .loop-test .taken) (sym (zero-add (t .loop .k))) byte
 
-returns : tie.Need-returns Inv-loop μ-loop
-returns c = stored-done (c .before .loop .inv) (c .loop-test .left)
-
 pub write-borders-spec : {M : Type 1} → statement M
 write-borders-spec =
     tie.close
@@ -49,4 +46,4 @@ write-borders-spec =
     (λ c. omega arith)
     loop-again
     (λ c. c .before .loop .inv .size)
-    returns)
+    (λ c. stored-done (c .before .loop .inv) (c .loop-test .left)))

@@ -80,9 +80,6 @@ mark-requires c κs =
     let s = start r in
     fits-here _ (s .pre .0) (s .args .interval) (s .pre .2) (train s) (known s) (stretch-is r)
 
-claims-from-requires : tie.Need-claims-from-requires
-claims-from-requires c κs = let s = start (c .before .before) in omega (arith, room s, s .good)
-
 write-marked-requires : tie.Need-write-marked-requires
 write-marked-requires c κs =
     let f = c .before .before in
@@ -128,7 +125,7 @@ write-interval-spec =
     (λ c κs. omega (arith, room (c .before .before .before .before .before .before)))
     stretch-of-requires
     mark-requires
-    claims-from-requires
+    (λ c κs. let s = start (c .before .before) in omega (arith, room s, s .good))
     write-marked-requires
     (λ c. ap length (written (c .before .before)) ∙ simp length-sets)
     (λ c. written (c .before .before)))

@@ -24,9 +24,6 @@ Inv-loop at n labels marks out₀ s₀ out s = Stored (claim labels marks) n at 
 abbrev μ-loop : tie.MeasureT-loop
 μ-loop at n labels marks out₀ s₀ out s = n - s
 
-element-copy-out-if1 : tie.Need-element-copy-out-if1 Inv-loop μ-loop
-element-copy-out-if1 c = c .before .before .before .pre .1 (c .before .before .loop .s) (c .before .loop-test .taken)
-
 loop-again : tie.Need-loop-again Inv-loop μ-loop
 unfolding bit isMarked
 loop-again c =
@@ -35,9 +32,6 @@ loop-again c =
     let byte : c .if1 .out ≡ claim (now (a .labels)) (now (a .marks)) (t .loop .s) =
     ⊎-elim (λ w. w .1 ∙ ap bit (sym (eq-eqb _ _ (w .0 .taken)))) (λ w. w .1 ∙ ap bit (sym (ne-eqb _ _ (w .0 .left)))) (c .if1 .came) in
     stored-next (t .loop .inv) (c .before .before .before .loop-test .taken) refl byte
-
-returns : tie.Need-returns Inv-loop μ-loop
-returns c = stored-done (c .before .loop .inv) (c .loop-test .left)
 
 pub write-marked-spec : {M : Type 1} → statement M
 write-marked-spec =
@@ -48,11 +42,11 @@ write-marked-spec =
     (λ c. stored-start _ _ _ _)
     (λ c. omega arith)
     (λ c. omega arith)
-    element-copy-out-if1
+    (λ c. c .before .before .before .pre .1 (c .before .before .loop .s) (c .before .loop-test .taken))
     (λ c. omega arith)
     (λ c. omega arith)
     (λ c. omega arith)
     (λ c. omega arith)
     loop-again
     (λ c. c .before .loop .inv .size)
-    returns)
+    (λ c. stored-done (c .before .loop .inv) (c .loop-test .left)))

@@ -38,9 +38,6 @@ loop-again c =
     ⊎-elim (λ w. w .1 ∙ ap bit (sym (w .0 .taken) ∙ h)) (λ w. w .1 ∙ ap bit (sym (w .0 .left) ∙ h)) (c .if1 .came) in
     stored-next (t .loop .inv) (c .before .before .loop-test .taken) refl byte
 
-same-length : tie.Need-same-length Inv-loop μ-loop
-same-length c = simp length-set (c .before .before .before .before .loop .inv .size)
-
 returns : tie.Need-returns Inv-loop μ-loop
 unfolding moveBytes bit
 returns c =
@@ -72,5 +69,5 @@ write-move-spec =
     (λ c κs. omega arith)
     (λ c κs. tt)
     (λ c. omega arith)
-    same-length
+    (λ c. simp length-set (c .before .before .before .before .loop .inv .size))
     returns)

@@ -112,9 +112,6 @@ loop-again c =
           (marked-next _ (s .pre .0) (s .args .interval) (s .pre .1) (train t) (t .loop-test .taken) (k .marks) (k .inv .1)),
     )
 
-returns-2 : tie.Need-returns-2 Inv-loop μ-loop
-returns-2 c = all-done _ (c .before .loop .inv .0) (c .loop-test .left)
-
 pub interval-apart-spec : {M : Type 1} → statement M
 interval-apart-spec =
     tie.close
@@ -130,4 +127,4 @@ interval-apart-spec =
     (λ c. omega (arith, few (loop (c .before .before .before .before .before))))
     (λ c. omega (arith, loop (c .before .before .before .before .before) .loop-test .taken))
     loop-again
-    returns-2)
+    (λ c. all-done _ (c .before .loop .inv .0) (c .loop-test .left)))

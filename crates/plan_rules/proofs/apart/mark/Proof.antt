@@ -25,9 +25,6 @@ Inv-loop runs labels marks₀ end k₀ marks k =
 abbrev μ-loop : tie.MeasureT-loop
 μ-loop runs labels marks₀ end k₀ marks k = end - k
 
-loop-holds : tie.Need-loop-holds Inv-loop μ-loop
-loop-holds c = (omega arith, refl)
-
 -- the label at k is that of a segment of the stretch
 module _ (c : tie.After-wide Inv-loop μ-loop) where
   abbrev start : tie.Start Inv-loop μ-loop
@@ -38,12 +35,6 @@ module _ (c : tie.After-wide Inv-loop μ-loop) where
 
   label : (c .wide .result / 2 < length (now (start .args .labels))) × (getD (now (start .args .labels)) (c .wide .result / 2) 0 < 64)
   label = label-here (start .pre) (c .before .before .before .loop .inv .0) (c .before .before .loop-test .taken) (c .wide .ensures .0)
-
-shared-slice-read-label : tie.Need-shared-slice-read-label Inv-loop μ-loop
-shared-slice-read-label c = label (c .before) .0
-
-element-write-marks : tie.Need-element-write-marks Inv-loop μ-loop
-element-write-marks c = label (c .before) .1
 
 loop-again : tie.Need-loop-again Inv-loop μ-loop
 unfolding segmentOf
@@ -70,12 +61,12 @@ mark-spec =
     Inv-loop
     μ-loop
     (λ c. omega arith)
-    loop-holds
+    (λ c. (omega arith, refl))
     (λ c. omega arith)
     (λ c κs. search needs)
     (λ c. omega (arith, c .wide .ensures .1))
-    shared-slice-read-label
-    element-write-marks
+    (λ c. label (c .before) .0)
+    (λ c. label (c .before) .1)
     (λ c. omega arith)
     (λ c. omega arith)
     loop-again

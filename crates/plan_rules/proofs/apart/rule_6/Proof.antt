@@ -42,9 +42,6 @@ loop-holds c =
     ap (λ (n : ℕ). all (keeps (s .args .b) (now (s .args .plan))) (upTo n)) (intervals-is (s .args .b) (s .pre .0 .counted .passed))
     ∙ all-start _ _
 
-interval-apart-requires : tie.Need-interval-apart-requires Inv-loop μ-loop
-interval-apart-requires c κs = (c .before .before .before .before .before .pre, c .loop-test .taken)
-
 returns : tie.Need-returns Inv-loop μ-loop
 returns c =
     let t = c .before .before in
@@ -57,9 +54,6 @@ loop-again c =
     all-turn _ (t .before .loop .inv) (t .loop-test .taken)
     (apart-iff _ _ _ ∙ sym (c .before .interval-apart .ensures) ∙ not-false _ (c .if1 .left))
 
-returns-2 : tie.Need-returns-2 Inv-loop μ-loop
-returns-2 c = all-done _ (c .before .loop .inv) (c .loop-test .left)
-
 pub rule-6-spec : {M : Type 1} → statement M
 rule-6-spec =
     tie.close
@@ -67,9 +61,9 @@ rule-6-spec =
     Inv-loop
     μ-loop
     loop-holds
-    interval-apart-requires
+    (λ c κs. (c .before .before .before .before .before .pre, c .loop-test .taken))
     returns
     (λ c. omega (arith, c .before .before .loop-test .taken))
     (λ c. omega (arith, c .before .before .loop-test .taken))
     loop-again
-    returns-2)
+    (λ c. all-done _ (c .before .loop .inv) (c .loop-test .left)))

@@ -31,9 +31,6 @@ Inv-loop runs labels marks end k₀ k =
 abbrev μ-loop : tie.MeasureT-loop
 μ-loop runs labels marks end k₀ k = end - k
 
-loop-holds : tie.Need-loop-holds Inv-loop μ-loop
-loop-holds c = (omega arith, refl)
-
 -- the label at k is that of a segment of the stretch
 module _ (c : tie.After-wide Inv-loop μ-loop) where
   abbrev start : tie.Start Inv-loop μ-loop
@@ -59,12 +56,6 @@ module _ (c : tie.After-wide Inv-loop μ-loop) where
       ∙ any-next _ _ _ 0 (c .before .before .loop-test .taken) (start .pre .fits) _
       ∙ ap (λ (d : ℕ). isMarked (now (start .args .marks)) (getD (now (start .args .labels)) (d / 2) 0) || behind (here + 1))
       (sym (c .wide .ensures .0))
-
-shared-slice-read-label : tie.Need-shared-slice-read-label Inv-loop μ-loop
-shared-slice-read-label c = label (c .before) .0
-
-element-copy-out-if1 : tie.Need-element-copy-out-if1 Inv-loop μ-loop
-element-copy-out-if1 c = label (c .before) .1
 
 -- the answer for the stretch
 whole : (c : tie.After-wide Inv-loop μ-loop) → behind c (start c .args .stretch .at)
@@ -95,12 +86,12 @@ touches-spec =
     Inv-loop
     μ-loop
     (λ c. omega arith)
-    loop-holds
+    (λ c. (omega arith, refl))
     (λ c. omega arith)
     (λ c κs. search needs)
     (λ c. omega (arith, c .wide .ensures .1))
-    shared-slice-read-label
-    element-copy-out-if1
+    (λ c. label (c .before) .0)
+    (λ c. label (c .before) .1)
     returns
     (λ c. omega arith)
     (λ c. omega arith)

@@ -16,9 +16,6 @@ use Rattle.plan_rules.proofs.Answers.{answer-unfit, answer-early, answe
 use Rattle.plan_rules.proofs.judging.judge_plan.Statement.{statement}
 use Rattle.plan_rules.proofs.judging.judge_plan.Tie as tie
 
-returns : tie.Need-returns
-returns c = answer-unfit _ _ (sym (c .before .plan-fits .ensures) ∙ not-true _ (c .if1 .taken))
-
 -- the bytes are a plan's
 module _ (c : tie.Else1) where
   abbrev start : tie.Start
@@ -26,12 +23,6 @@ module _ (c : tie.Else1) where
 
   fits : planFits (instanceOf (held (start .args .b))) (now (start .args .plan)) ≡ true
   fits = sym (c .before .plan-fits .ensures) ∙ not-false _ (c .if1 .left)
-
-first-broken-requires : tie.Need-first-broken-requires
-first-broken-requires c κs = (start c .pre .0, from-true (fits c))
-
-returns-2 : tie.Need-returns-2
-returns-2 c = let e = c .before .before in answer-early _ _ (fits e) _ (c .before .first-broken .ensures) (c .if2 .taken)
 
 label-sections-requires : tie.Need-label-sections-requires
 label-sections-requires c κs =
@@ -64,9 +55,9 @@ judge-plan-spec =
     tie.close
     (tie.spec
     (λ c κs. search needs)
-    returns
-    first-broken-requires
-    returns-2
+    (λ c. answer-unfit _ _ (sym (c .before .plan-fits .ensures) ∙ not-true _ (c .if1 .taken)))
+    (λ c κs. (start c .pre .0, from-true (fits c)))
+    (λ c. let e = c .before .before in answer-early _ _ (fits e) _ (c .before .first-broken .ensures) (c .if2 .taken))
     (λ c. search needs)
     label-sections-requires
     (λ c. search needs)

@@ -36,9 +36,6 @@ abbrev μ-loop : tie.MeasureT-loop
 few : (s : tie.Start Inv-loop μ-loop) → s .args .train < 8
 few s = few-trains (s .args .t1) (s .pre .passed) (s .args .train) (s .pre .known)
 
-element-copy-out-d : tie.Need-element-copy-out-d Inv-loop μ-loop
-element-copy-out-d c = few (c .before)
-
 loop-holds : tie.Need-loop-holds Inv-loop μ-loop
 loop-holds c =
     let s = c .before in
@@ -46,9 +43,6 @@ loop-holds c =
     let p = s .pre in
     absent-steps (instanceOf (held b)) _ (s .args .train) (sym (departs-here b (p .passed) (s .args .train) (p .known)))
     (intervals-is b (p .passed)) (omega (arith, departs-asks b (p .passed) (s .args .train) (p .known) .0))
-
-move-at-requires : tie.Need-move-at-requires Inv-loop μ-loop
-move-at-requires c κs = move-asks (c .before .before .before .pre) (c .before .loop .t) (c .loop-test .taken)
 
 -- the answer about this interval
 module _ (c : tie.After-absent-if Inv-loop μ-loop) where
@@ -74,9 +68,6 @@ loop-again c =
     let k = c .before in
     all-turn _ (k .before .before .before .loop .inv) (k .before .before .loop-test .taken) (sym (here k) ∙ not-false _ (c .if1 .left))
 
-returns-2 : tie.Need-returns-2 Inv-loop μ-loop
-returns-2 c = all-done _ (c .before .loop .inv) (c .loop-test .left)
-
 pub absent-before-spec : {M : Type 1} → statement M
 absent-before-spec =
     tie.close
@@ -84,12 +75,12 @@ absent-before-spec =
     Inv-loop
     μ-loop
     (λ c. omega (arith, few (c .before)))
-    element-copy-out-d
+    (λ c. few (c .before))
     loop-holds
-    move-at-requires
+    (λ c κs. move-asks (c .before .before .before .pre) (c .before .loop .t) (c .loop-test .taken))
     (λ c κs. tt)
     returns
     (λ c. omega arith)
     (λ c. omega arith)
     loop-again
-    returns-2)
+    (λ c. all-done _ (c .before .loop .inv) (c .loop-test .left)))

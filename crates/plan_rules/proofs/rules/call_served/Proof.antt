@@ -12,9 +12,6 @@ use Rattle.tables.proofs.Here.{few-trains, size-small, departure-answer}
 use Rattle.plan_rules.proofs.rules.call_served.Statement.{statement}
 use Rattle.plan_rules.proofs.rules.call_served.Tie as tie
 
-call-at-requires : tie.Need-call-at-requires
-call-at-requires c κs = c .before .before .pre .0 .passed .packed .counts
-
 -- the train is one of the book's
 module _ (c : tie.After-call-at) where
   abbrev start : tie.Start
@@ -28,9 +25,6 @@ module _ (c : tie.After-call-at) where
 
   few : i < 8
   few = few-trains b (start .pre .0 .passed) i (start .pre .0 .known)
-
-element-copy-out-served-at-departure : tie.Need-element-copy-out-served-at-departure
-element-copy-out-served-at-departure c = few c
 
 served-at-departure-requires : tie.Need-served-at-departure-requires
 served-at-departure-requires c κs =
@@ -58,25 +52,19 @@ module _ (c : tie.After-served-at-departure) where
       ∙ departure-answer (b k) (i k) number (k .call-at .ensures) (start k .pre .0 .passed) (start k .pre .0 .known)
       (c .served-at-departure .ensures))
 
-returns : tie.Need-returns
-returns c = either (c .before) (c .if1 .taken)
-
 served-after-requires : tie.Need-served-after-requires
 served-after-requires c κs =
     let t = k (c .before) in
     (start t .pre .0, start t .pre .1, t .call-at .ensures)
 
-returns-2 : tie.Need-returns-2
-returns-2 c = let e = c .before in c .served-after .ensures ∙ either (e .before) (e .if1 .left)
-
 pub call-served-spec : {M : Type 1} → statement M
 call-served-spec =
     tie.close
     (tie.spec
-    call-at-requires
+    (λ c κs. c .before .before .pre .0 .passed .packed .counts)
     (λ c. omega (arith, few c))
-    element-copy-out-served-at-departure
+    (λ c. few c)
     served-at-departure-requires
-    returns
+    (λ c. either (c .before) (c .if1 .taken))
     served-after-requires
-    returns-2)
+    (λ c. let e = c .before in c .served-after .ensures ∙ either (e .before) (e .if1 .left)))

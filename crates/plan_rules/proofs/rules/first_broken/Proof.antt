@@ -45,39 +45,21 @@ module _ (c : tie.Else4) where
   kept-4 : rule4 (I (one (two three))) (p (one (two three))) ≡ true
   kept-4 = sym (c .before .rule-4 .ensures) ∙ not-false _ (c .if4 .left)
 
-rule-1-requires : tie.Need-rule-1-requires
-rule-1-requires c κs = let s = c .before .before in (s .pre .0 .counted .passed, s .pre .1)
-
-returns : tie.Need-returns
-returns c = first-1 _ _ (sym (c .before .rule-1 .ensures) ∙ not-true _ (c .if1 .taken))
-
-rule-2-requires : tie.Need-rule-2-requires
-rule-2-requires c κs = start c .pre
-
 returns-2 : tie.Need-returns-2
 returns-2 c =
     let a = c .before .before in
     first-2 _ _ (kept-1 a) (sym (c .before .rule-2 .ensures) ∙ not-true _ (c .if2 .taken))
-
-rule-3-requires : tie.Need-rule-3-requires
-rule-3-requires c κs = start (one c) .pre
 
 returns-3 : tie.Need-returns-3
 returns-3 c =
     let b = c .before .before in
     first-3 _ _ (kept-1 (one b)) (kept-2 b) (sym (c .before .rule-3 .ensures) ∙ not-true _ (c .if3 .taken))
 
-rule-4-requires : tie.Need-rule-4-requires
-rule-4-requires c κs = start (one (two c)) .pre
-
 returns-4 : tie.Need-returns-4
 returns-4 c =
     let d = c .before .before in
     let b = two d in
     first-4 _ _ (kept-1 (one b)) (kept-2 b) (kept-3 d) (sym (c .before .rule-4 .ensures) ∙ not-true _ (c .if4 .taken))
-
-rule-5-requires : tie.Need-rule-5-requires
-rule-5-requires c κs = start (one (two (three c))) .pre
 
 returns-5 : tie.Need-returns-5
 returns-5 c =
@@ -97,14 +79,14 @@ pub first-broken-spec : {M : Type 1} → statement M
 first-broken-spec =
     tie.close
     (tie.spec
-    rule-1-requires
-    returns
-    rule-2-requires
+    (λ c κs. let s = c .before .before in (s .pre .0 .counted .passed, s .pre .1))
+    (λ c. first-1 _ _ (sym (c .before .rule-1 .ensures) ∙ not-true _ (c .if1 .taken)))
+    (λ c κs. start c .pre)
     returns-2
-    rule-3-requires
+    (λ c κs. start (one c) .pre)
     returns-3
-    rule-4-requires
+    (λ c κs. start (one (two c)) .pre)
     returns-4
-    rule-5-requires
+    (λ c κs. start (one (two (three c))) .pre)
     returns-5
     returns-6)

@@ -39,12 +39,6 @@ steps : (I : Instance) (p : Plan) {n : ℕ} → I .nodes ≡ n → rule1 I p ≡
 unfolding rule1
 steps I p {n} e = rw e (all-start (step I p) n)
 
-loop-holds : tie.Need-loop-holds Inv-loop μ-loop
-loop-holds c = let s = c .before in steps (instanceOf (held (s .args .t1))) _ (nodes-is (s .args .t1) (s .pre .0))
-
-element-copy-out-border-fits : tie.Need-element-copy-out-border-fits Inv-loop μ-loop
-element-copy-out-border-fits c = omega (arith, c .loop-test .taken, c .before .before .before .pre .0 .packed .counts .nodes)
-
 shared-slice-read-border-fits : tie.Need-shared-slice-read-border-fits Inv-loop μ-loop
 shared-slice-read-border-fits c =
     let s = c .before .before .before .before .before in
@@ -79,21 +73,18 @@ loop-again c =
     let t = c .before .before .before .before in
     all-turn _ (t .before .loop .inv) (t .loop-test .taken) (sym (here (c .before)) ∙ not-false _ (c .if1 .left))
 
-returns-2 : tie.Need-returns-2 Inv-loop μ-loop
-returns-2 c = all-done _ (c .before .loop .inv) (c .loop-test .left)
-
 pub rule-1-spec : {M : Type 1} → statement M
 rule-1-spec =
     tie.close
     (tie.spec
     Inv-loop
     μ-loop
-    loop-holds
-    element-copy-out-border-fits
+    (λ c. let s = c .before in steps (instanceOf (held (s .args .t1))) _ (nodes-is (s .args .t1) (s .pre .0)))
+    (λ c. omega (arith, c .loop-test .taken, c .before .before .before .pre .0 .packed .counts .nodes))
     shared-slice-read-border-fits
     (λ c κs. tt)
     returns
     (λ c. omega arith)
     (λ c. omega arith)
     loop-again
-    returns-2)
+    (λ c. all-done _ (c .before .loop .inv) (c .loop-test .left)))

@@ -36,9 +36,6 @@ abbrev μ-loop : tie.MeasureT-loop
 few : (s : tie.Start Inv-loop μ-loop) → s .args .train < 8
 few s = few-trains (s .args .t1) (s .pre .0 .passed) (s .args .train) (s .pre .0 .known)
 
-element-copy-out-t : tie.Need-element-copy-out-t Inv-loop μ-loop
-element-copy-out-t c = few (c .before .before)
-
 steps : (I : Instance) (p : Plan) (i c : ℕ) {d n : ℕ} → I .departure i ≡ d → I .intervals ≡ n
     → servedBy I p i c ≡ any (step I p i c) (range d n)
 unfolding servedBy
@@ -122,9 +119,6 @@ loop-again c =
     (λ w. outside v (w .left))
     (c .if1 .came))
 
-returns-2 : tie.Need-returns-2 Inv-loop μ-loop
-returns-2 c = any-done _ (c .before .loop .inv) (c .loop-test .left)
-
 pub served-after-spec : {M : Type 1} → statement M
 served-after-spec =
     tie.close
@@ -132,7 +126,7 @@ served-after-spec =
     Inv-loop
     μ-loop
     (λ c. omega (arith, few (c .before .before)))
-    element-copy-out-t
+    (λ c. few (c .before .before))
     loop-holds
     (λ c. omega (arith, small c))
     (λ c κs. tt)
@@ -142,4 +136,4 @@ served-after-spec =
     (λ c. omega (arith, small (k (c .before))))
     (λ c. omega (arith, k (c .before) .loop-test .taken))
     loop-again
-    returns-2)
+    (λ c. any-done _ (c .before .loop .inv) (c .loop-test .left)))

@@ -24,12 +24,6 @@ module _ (c : tie.After-known-told) where
 mul-is-given : tie.Need-mul-is-given
 mul-is-given c = let s = start c in omega (arith, few-trains (s .args .t1) (s .pre .0 .passed) (s .args .train) (s .pre .0 .known))
 
-element-copy-out-is-given : tie.Need-element-copy-out-is-given
-element-copy-out-is-given c = let s = start c in few-trains (s .args .t1) (s .pre .0 .passed) (s .args .train) (s .pre .0 .known)
-
-start-of-requires : tie.Need-start-of-requires
-start-of-requires c κs = few (start (c .before) .pre .0) _ (below (c .before))
-
 is-given-requires : tie.Need-is-given-requires
 is-given-requires c κs =
     let k = c .before .before in
@@ -65,8 +59,8 @@ starts-given-spec =
     (tie.spec
     (λ c. search needs)
     mul-is-given
-    element-copy-out-is-given
-    start-of-requires
+    (λ c. let s = start c in few-trains (s .args .t1) (s .pre .0 .passed) (s .args .train) (s .pre .0 .known))
+    (λ c κs. few (start (c .before) .pre .0) _ (below (c .before)))
     is-given-requires
     (λ c. search needs)
     (λ c. search needs)

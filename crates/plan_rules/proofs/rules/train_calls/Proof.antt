@@ -28,19 +28,10 @@ Inv-loop b train l runs plan calls number₀ number =
 abbrev μ-loop : tie.MeasureT-loop
 μ-loop b train l runs plan calls number₀ number = calls - number
 
-calls-of-requires : tie.Need-calls-of-requires Inv-loop μ-loop
-calls-of-requires c κs = c .before .before .pre .0 .passed .packed .counts
-
 steps : (b : BookStruct) (p : Plan) (i : ℕ) {n : ℕ} → n ≡ length (callsOf (held b) i)
     → keepsCalls (instanceOf (held b)) p i ≡ all (step (instanceOf (held b)) p i) (range 0 n)
 unfolding keepsCalls instanceOf compile
 steps b p i {n} e = ap (λ (k : ℕ). all (step (instanceOf (held b)) p i) (upTo k)) (sym e) ∙ all-start (step (instanceOf (held b)) p i) n
-
-loop-holds : tie.Need-loop-holds Inv-loop μ-loop
-loop-holds c = let s = c .before .before .before in steps (s .args .b) _ (s .args .train) (c .calls-of .ensures .0)
-
-call-served-requires : tie.Need-call-served-requires Inv-loop μ-loop
-call-served-requires c κs = let s = c .before .before .before .before .before in (s .pre .0, s .pre .1)
 
 returns : tie.Need-returns Inv-loop μ-loop
 returns c =
@@ -58,20 +49,17 @@ loop-again c =
     let t = c .before .before in
     all-turn _ (t .before .loop .inv) (t .loop-test .taken) (sym (c .before .call-served .ensures) ∙ not-false _ (c .if1 .left))
 
-returns-2 : tie.Need-returns-2 Inv-loop μ-loop
-returns-2 c = all-done _ (c .before .loop .inv) (c .loop-test .left)
-
 pub train-calls-spec : {M : Type 1} → statement M
 train-calls-spec =
     tie.close
     (tie.spec
     Inv-loop
     μ-loop
-    calls-of-requires
-    loop-holds
-    call-served-requires
+    (λ c κs. c .before .before .pre .0 .passed .packed .counts)
+    (λ c. let s = c .before .before .before in steps (s .args .b) _ (s .args .train) (c .calls-of .ensures .0))
+    (λ c κs. let s = c .before .before .before .before .before in (s .pre .0, s .pre .1))
     returns
     add-number
     (λ c. omega (arith, c .before .before .loop-test .taken))
     loop-again
-    returns-2)
+    (λ c. all-done _ (c .before .loop .inv) (c .loop-test .left)))

@@ -36,15 +36,6 @@ module _ (c : tie.After-shared-slice-known2) where
   inside : d < b .intervals
   inside = departs-asks b (start .pre .0 .passed) (start .args .train) (start .pre .0 .known) .0
 
-element-copy-out-d : tie.Need-element-copy-out-d
-element-copy-out-d c = few c
-
-move-at-requires : tie.Need-move-at-requires
-move-at-requires c κs = move-asks (ready c) (d c) (inside c)
-
-absent-before-requires : tie.Need-absent-before-requires
-absent-before-requires c κs = ready (c .before)
-
 starts-given-requires : tie.Need-starts-given-requires
 starts-given-requires c κs =
     let k = c .before .before .before in
@@ -72,18 +63,14 @@ returns c =
     (c .starts-given .ensures
     ∙ ap (λ (m : Move). runs m (λ r. instanceOf (held (b k)) .given (s .args .train) r)) (a .before .move-at .ensures))
 
-returns-2 : tie.Need-returns-2
-returns-2 c =
-    c .if1 .left ∙ first-fails _ _ _ (sym (c .before .absent-before .ensures) ∙ c .if1 .left)
-
 pub train-departs-spec : {M : Type 1} → statement M
 train-departs-spec =
     tie.close
     (tie.spec
     (λ c. omega (arith, few c))
-    element-copy-out-d
-    move-at-requires
-    absent-before-requires
+    (λ c. few c)
+    (λ c κs. move-asks (ready c) (d c) (inside c))
+    (λ c κs. ready (c .before))
     starts-given-requires
     returns
-    returns-2)
+    (λ c. c .if1 .left ∙ first-fails _ _ _ (sym (c .before .absent-before .ensures) ∙ c .if1 .left)))

@@ -19,9 +19,6 @@ use Rattle.plan_rules.proofs.rules.train_keeps.Tie as tie
 few : (s : tie.Start) → s .args .train < 8
 few s = few-trains (s .args .t1) (s .pre .0 .passed) (s .args .train) (s .pre .0 .known)
 
-element-copy-out-length-in-segments : tie.Need-element-copy-out-length-in-segments
-element-copy-out-length-in-segments c = few (c .before .before)
-
 length-in-segments-requires : tie.Need-length-in-segments-requires
 length-in-segments-requires c κs =
     let s = c .before .before .before in
@@ -51,18 +48,6 @@ module _ (c : tie.After-length-in-segments) where
   told : {rule : TrainRule} → start .args .rule ≡ rule → answer rule ≡ answer (start .args .rule)
   told e = ap answer (sym e)
 
-train-departs-requires : tie.Need-train-departs-requires
-train-departs-requires c κs = let k = c .before .before in (ready k, start k .pre .0 .fits)
-
-train-leaves-requires : tie.Need-train-leaves-requires
-train-leaves-requires c κs = let k = c .before .before in (ready k, start k .pre .0 .fits)
-
-train-runs-requires : tie.Need-train-runs-requires
-train-runs-requires c κs = let k = c .before .before in (ready k, start k .pre .0 .fits)
-
-train-calls-requires : tie.Need-train-calls-requires
-train-calls-requires c κs = let k = c .before .before in (ready k, start k .pre .0 .fits)
-
 returns : tie.Need-returns
 unfolding trainKeeps
 returns c = c .train-departs .ensures ∙ told (c .before .before .before) (c .before .enum-told .given .1)
@@ -84,16 +69,16 @@ train-keeps-spec =
     tie.close
     (tie.spec
     (λ c. omega (arith, few (c .before .before)))
-    element-copy-out-length-in-segments
+    (λ c. few (c .before .before))
     length-in-segments-requires
     (λ c. search needs)
-    train-departs-requires
+    (λ c κs. let k = c .before .before in (ready k, start k .pre .0 .fits))
     (λ c. search needs)
-    train-leaves-requires
+    (λ c κs. let k = c .before .before in (ready k, start k .pre .0 .fits))
     (λ c. search needs)
-    train-runs-requires
+    (λ c κs. let k = c .before .before in (ready k, start k .pre .0 .fits))
     (λ c. search needs)
-    train-calls-requires
+    (λ c κs. let k = c .before .before in (ready k, start k .pre .0 .fits))
     returns
     returns-2
     returns-3

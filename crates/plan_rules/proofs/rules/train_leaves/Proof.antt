@@ -37,12 +37,6 @@ abbrev μ-loop : tie.MeasureT-loop
 few : (s : tie.Start Inv-loop μ-loop) → s .args .train < 8
 few s = few-trains (s .args .t1) (s .pre .0 .passed) (s .args .train) (s .pre .0 .known)
 
-goal-requires : tie.Need-goal-requires Inv-loop μ-loop
-goal-requires c κs = c .before .before .pre .0 .passed .packed .counts
-
-element-copy-out-d : tie.Need-element-copy-out-d Inv-loop μ-loop
-element-copy-out-d c = few (c .before .before .before)
-
 loop-holds : tie.Need-loop-holds Inv-loop μ-loop
 loop-holds c =
     let s = c .before .before .before in
@@ -57,9 +51,6 @@ loop-holds c =
 module _ (c : tie.In-loop Inv-loop μ-loop) where
   abbrev start : tie.Start Inv-loop μ-loop
   start = c .before .before .before .before .before
-
-move-at-requires : tie.Need-move-at-requires Inv-loop μ-loop
-move-at-requires c κs = move-asks (planned (start c .pre .0) (start c .pre .1)) (c .before .loop .t) (c .loop-test .taken)
 
 gone-fits-requires : tie.Need-gone-fits-requires Inv-loop μ-loop
 gone-fits-requires c κs =
@@ -101,23 +92,20 @@ loop-again c =
       c .before .before .move-at .ensures ∙ sym (prior-next _ (t .before .loop .t)),
     )
 
-returns-2 : tie.Need-returns-2 Inv-loop μ-loop
-returns-2 c = all-done _ (c .before .loop .inv .0) (c .loop-test .left)
-
 pub train-leaves-spec : {M : Type 1} → statement M
 train-leaves-spec =
     tie.close
     (tie.spec
     Inv-loop
     μ-loop
-    goal-requires
+    (λ c κs. c .before .before .pre .0 .passed .packed .counts)
     (λ c. omega (arith, few (c .before .before .before)))
-    element-copy-out-d
+    (λ c. few (c .before .before .before))
     loop-holds
-    move-at-requires
+    (λ c κs. move-asks (planned (start c .pre .0) (start c .pre .1)) (c .before .loop .t) (c .loop-test .taken))
     gone-fits-requires
     returns
     add-t
     (λ c. omega (arith, k (c .before) .loop-test .taken))
     loop-again
-    returns-2)
+    (λ c. all-done _ (c .before .loop .inv .0) (c .loop-test .left)))

@@ -45,9 +45,6 @@ module _ (c : tie.In-loop Inv-loop μ-loop) where
   abbrev start : tie.Start Inv-loop μ-loop
   start = c .before .before .before .before
 
-move-at-requires : tie.Need-move-at-requires Inv-loop μ-loop
-move-at-requires c κs = move-asks (planned (start c .pre .0) (start c .pre .1)) (c .before .loop .t) (c .loop-test .taken)
-
 goes-on-requires : tie.Need-goes-on-requires Inv-loop μ-loop
 goes-on-requires c κs =
     let k = c .before in
@@ -86,9 +83,6 @@ loop-again c =
       c .before .before .move-at .ensures ∙ sym (prior-next _ (t .before .loop .t)),
     )
 
-returns-2 : tie.Need-returns-2 Inv-loop μ-loop
-returns-2 c = all-done _ (c .before .loop .inv .0) (c .loop-test .left)
-
 pub train-runs-spec : {M : Type 1} → statement M
 train-runs-spec =
     tie.close
@@ -96,10 +90,10 @@ train-runs-spec =
     Inv-loop
     μ-loop
     loop-holds
-    move-at-requires
+    (λ c κs. move-asks (planned (start c .pre .0) (start c .pre .1)) (c .before .loop .t) (c .loop-test .taken))
     goes-on-requires
     returns
     add-t
     (λ c. omega (arith, k (c .before) .loop-test .taken))
     loop-again
-    returns-2)
+    (λ c. all-done _ (c .before .loop .inv .0) (c .loop-test .left)))

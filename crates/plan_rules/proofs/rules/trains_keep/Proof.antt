@@ -67,9 +67,6 @@ loop-again c =
     let t = c .before .before .before in
     all-turn _ (t .before .loop .inv) (t .loop-test .taken) (sym (c .before .train-keeps .ensures) ∙ not-false _ (c .if1 .left))
 
-returns-2 : tie.Need-returns-2 Inv-loop μ-loop
-returns-2 c = all-done _ (c .before .loop .inv) (c .loop-test .left)
-
 pub trains-keep-spec : {M : Type 1} → statement M
 trains-keep-spec =
     tie.close
@@ -87,4 +84,4 @@ trains-keep-spec =
     (λ c. omega (arith, few (c .before .before .before)))
     (λ c. omega (arith, c .before .before .before .loop-test .taken))
     loop-again
-    returns-2)
+    (λ c. all-done _ (c .before .loop .inv) (c .loop-test .left)))

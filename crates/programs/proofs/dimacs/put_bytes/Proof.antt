@@ -16,24 +16,6 @@ Inv-loop buf₀ at s i₀ buf i = (i ≤ length s) × Stored buf₀ at (take i s
 abbrev μ-loop : tie.MeasureT-loop
 μ-loop buf₀ at s i₀ buf i = length s - i
 
-loop-holds : tie.Need-loop-holds Inv-loop μ-loop
-loop-holds c = (omega arith, rw add-zero (stored-none _ _))
-
-add-put : tie.Need-add-put Inv-loop μ-loop
-add-put c = omega arith
-
-shared-slice-read-put : tie.Need-shared-slice-read-put Inv-loop μ-loop
-shared-slice-read-put c = omega arith
-
-put-requires : tie.Need-put-requires Inv-loop μ-loop
-put-requires c κs = tt
-
-add-i : tie.Need-add-i Inv-loop μ-loop
-add-i c = omega arith
-
-loop-less : tie.Need-loop-less Inv-loop μ-loop
-loop-less c = omega arith
-
 loop-again : tie.Need-loop-again Inv-loop μ-loop
 loop-again c =
     let k = c .before .before .before .before .before .before in
@@ -41,12 +23,6 @@ loop-again c =
     let i = k .loop .i in
     let s = stored-byte (k .loop .inv .1) (getD (a .s .now) i 0) (c .before .before .put .ensures) in
     (omega arith, rw (sym (add-assoc (a .at) i 1), add-one i, take-suc (a .s .now) i 0 (omega arith)) s)
-
-add-result : tie.Need-add-result Inv-loop μ-loop
-add-result c = omega arith
-
-same-length : tie.Need-same-length Inv-loop μ-loop
-same-length c = stored-length (c .before .loop .inv .1)
 
 returns : tie.Need-returns Inv-loop μ-loop
 returns c =
@@ -60,13 +36,13 @@ put-bytes-spec =
     (tie.spec
     Inv-loop
     μ-loop
-    loop-holds
-    add-put
-    shared-slice-read-put
-    put-requires
-    add-i
-    loop-less
+    (λ c. (omega arith, rw add-zero (stored-none _ _)))
+    (λ c. omega arith)
+    (λ c. omega arith)
+    (λ c κs. tt)
+    (λ c. omega arith)
+    (λ c. omega arith)
     loop-again
-    add-result
-    same-length
+    (λ c. omega arith)
+    (λ c. stored-length (c .before .loop .inv .1))
     returns)

@@ -11,27 +11,6 @@ use Rattle.programs.proofs.Stores.{Stored, stored, stored-behind, store
 use Rattle.programs.proofs.dimacs.put_refusal.Statement.{statement}
 use Rattle.programs.proofs.dimacs.put_refusal.Tie as tie
 
-put-number-requires : tie.Need-put-number-requires
-put-number-requires c κs = search needs
-
-put-requires : tie.Need-put-requires
-put-requires c κs = search needs
-
-add-put-number : tie.Need-add-put-number
-add-put-number c = search needs
-
-put-number-requires-2 : tie.Need-put-number-requires-2
-put-number-requires-2 c κs = search needs
-
-put-requires-2 : tie.Need-put-requires-2
-put-requires-2 c κs = search needs
-
-add-result : tie.Need-add-result
-add-result c = search needs
-
-same-length : tie.Need-same-length
-same-length c = search needs
-
 -- the line: the number, a blank, the detail, the end of the line
 module _ (c : tie.After-slice-known5) where
   abbrev first : tie.After-put
@@ -64,11 +43,11 @@ pub put-refusal-spec : {M : Type 1} → statement M
 put-refusal-spec =
     tie.close
     (tie.spec
-    put-number-requires
-    put-requires
-    add-put-number
-    put-number-requires-2
-    put-requires-2
-    add-result
-    same-length
+    (λ c κs. search needs)
+    (λ c κs. search needs)
+    (λ c. search needs)
+    (λ c κs. search needs)
+    (λ c κs. search needs)
+    (λ c. search needs)
+    (λ c. search needs)
     returns)

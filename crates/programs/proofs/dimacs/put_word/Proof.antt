@@ -17,21 +17,6 @@ use Rattle.programs.proofs.Stores.{Stored, stored, stored-none, stored-
 use Rattle.programs.proofs.dimacs.put_word.Statement.{statement}
 use Rattle.programs.proofs.dimacs.put_word.Tie as tie
 
-put-requires : tie.Need-put-requires
-put-requires c κs = search needs
-
-add-put : tie.Need-add-put
-add-put c = search needs
-
-put-requires-2 : tie.Need-put-requires-2
-put-requires-2 c κs = search needs
-
-add-result : tie.Need-add-result
-add-result c = search needs
-
-same-length : tie.Need-same-length
-same-length c = search needs
-
 -- the end of a clause
 module _ (c : tie.After-slice-known3) where
   abbrev given : tie.Start
@@ -44,18 +29,6 @@ module _ (c : tie.After-slice-known3) where
       let z = bits-zero (a .l) (given .fits .l) (c .before .before .before .before .before .before .before .before .if1 .taken) in
       let s = stored-byte (stored-none (a .buf .now) (a .at)) 48 (c .before .before .before .before .before .before .put .ensures) in
       stored-same (stored-byte s 10 (c .before .before .put2 .ensures)) (word-closing (a .l) z)
-
-returns : tie.Need-returns
-returns c = (rw (add-assoc (given c .args .at) 1 1) at (closing c .ends), omega arith, closing c .bytes)
-
-put-requires-3 : tie.Need-put-requires-3
-put-requires-3 c κs = search needs
-
-add-from : tie.Need-add-from
-add-from c = search needs
-
-magnitude-requires : tie.Need-magnitude-requires
-magnitude-requires c κs = search needs
 
 -- a literal: its sign
 module _ (c : tie.Joined2) where
@@ -75,9 +48,6 @@ module _ (c : tie.Joined2) where
 
 put-number-requires : tie.Need-put-number-requires
 put-number-requires c κs = omega (arith, signed (c .before .before) .ends, sign-most (c .before .before .before .before .before .args .l))
-
-put-requires-4 : tie.Need-put-requires-4
-put-requires-4 c κs = search needs
 
 add-result-2 : tie.Need-add-result-2
 add-result-2 c =
@@ -102,9 +72,6 @@ module _ (c : tie.After-slice-known6) where
       stored-same (stored-byte s 32 (c .before .before .put4 .ensures))
       (word-literal l n (λ e. joined .before .if1 .left (ap (ofZ w32) e)))
 
-same-length-2 : tie.Need-same-length-2
-same-length-2 c = stored-length (literal c)
-
 returns-2 : tie.Need-returns-2
 returns-2 c =
     let j = joined c in
@@ -114,17 +81,17 @@ pub put-word-spec : {M : Type 1} → statement M
 put-word-spec =
     tie.close
     (tie.spec
-    put-requires
-    add-put
-    put-requires-2
-    add-result
-    same-length
-    returns
-    put-requires-3
-    add-from
-    magnitude-requires
+    (λ c κs. search needs)
+    (λ c. search needs)
+    (λ c κs. search needs)
+    (λ c. search needs)
+    (λ c. search needs)
+    (λ c. (rw (add-assoc (given c .args .at) 1 1) at (closing c .ends), omega arith, closing c .bytes))
+    (λ c κs. search needs)
+    (λ c. search needs)
+    (λ c κs. search needs)
     put-number-requires
-    put-requires-4
+    (λ c κs. search needs)
     add-result-2
-    same-length-2
+    (λ c. stored-length (literal c))
     returns-2)

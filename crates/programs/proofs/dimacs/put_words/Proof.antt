@@ -23,27 +23,6 @@ Inv-loop buf₀ words from next₀ len₀ buf next len = Filled buf₀ words fro
 abbrev μ-loop : tie.MeasureT-loop
 μ-loop buf₀ words from next₀ len₀ buf next len = length words - next
 
-loop-holds : tie.Need-loop-holds Inv-loop μ-loop
-loop-holds c = filled-none _ _ _ (c .before .pre .0)
-
-sub-if1 : tie.Need-sub-if1 Inv-loop μ-loop
-sub-if1 c = omega (arith, c .before .loop .inv .room, stored-length (c .before .loop .inv .text))
-
-mul-put-word : tie.Need-mul-put-word Inv-loop μ-loop
-mul-put-word c = omega arith
-
-shared-slice-copy-out-put-word : tie.Need-shared-slice-copy-out-put-word Inv-loop μ-loop
-shared-slice-copy-out-put-word c = omega arith
-
-put-word-requires : tie.Need-put-word-requires Inv-loop μ-loop
-put-word-requires c κs = omega (arith, c .before .before .before .before .loop .inv .room)
-
-add-next : tie.Need-add-next Inv-loop μ-loop
-add-next c = omega arith
-
-loop-less : tie.Need-loop-less Inv-loop μ-loop
-loop-less c = omega arith
-
 loop-again : tie.Need-loop-again Inv-loop μ-loop
 loop-again c =
     let k = c .before .before .before .before .before .before .before in
@@ -55,20 +34,11 @@ loop-again c =
     filled-next (k .loop .inv) (pos 0) (c .before .before .before .before .before .before .loop-test .taken)
     (omega (arith, fits, stored-length (k .loop .inv .text))) s (e .1)
 
-same-length : tie.Need-same-length Inv-loop μ-loop
-same-length c = stored-length (c .before .before .loop .inv .text)
-
 returns : tie.Need-returns Inv-loop μ-loop
 returns c =
     let k = c .before .before .loop in
     let full = leb-false 24 (length (k .buf) - k .len) (c .if1 .left) in
     filled-end (k .inv) (inr (omega (arith, full, stored-length (k .inv .text))))
-
-same-length-2 : tie.Need-same-length-2 Inv-loop μ-loop
-same-length-2 c = stored-length (c .before .loop .inv .text)
-
-returns-2 : tie.Need-returns-2 Inv-loop μ-loop
-returns-2 c = filled-end (c .before .loop .inv) (inl (c .loop-test .left))
 
 pub put-words-spec : {M : Type 1} → statement M
 put-words-spec =
@@ -76,15 +46,15 @@ put-words-spec =
     (tie.spec
     Inv-loop
     μ-loop
-    loop-holds
-    sub-if1
-    mul-put-word
-    shared-slice-copy-out-put-word
-    put-word-requires
-    add-next
-    loop-less
+    (λ c. filled-none _ _ _ (c .before .pre .0))
+    (λ c. omega (arith, c .before .loop .inv .room, stored-length (c .before .loop .inv .text)))
+    (λ c. omega arith)
+    (λ c. omega arith)
+    (λ c κs. omega (arith, c .before .before .before .before .loop .inv .room))
+    (λ c. omega arith)
+    (λ c. omega arith)
     loop-again
-    same-length
+    (λ c. stored-length (c .before .before .loop .inv .text))
     returns
-    same-length-2
-    returns-2)
+    (λ c. stored-length (c .before .loop .inv .text))
+    (λ c. filled-end (c .before .loop .inv) (inl (c .loop-test .left))))

@@ -19,12 +19,6 @@ use Rattle.programs.proofs.Texts.{long-text, long-words, output-words, 
 use Rattle.programs.proofs.printing.open_text.Statement.{statement}
 use Rattle.programs.proofs.printing.open_text.Tie as tie
 
-put-refusal-requires : tie.Need-put-refusal-requires
-put-refusal-requires c κs = search needs
-
-same-length : tie.Need-same-length
-same-length c = search needs
-
 returns : tie.Need-returns
 returns c =
     let then = c .before .before .before .before in
@@ -44,27 +38,6 @@ returns c =
       e .0 ∙ ap (λ (u : Verdict Written). length (firstLine u)) k,
       ap wordsBehind k,
     )
-
-write-formula-requires : tie.Need-write-formula-requires
-write-formula-requires c κs = search needs
-
-enum-known-r : tie.Need-enum-known-r
-enum-known-r c = search needs
-
-put-refusal-requires-2 : tie.Need-put-refusal-requires-2
-put-refusal-requires-2 c κs = search needs
-
-enum-known-r-2 : tie.Need-enum-known-r-2
-enum-known-r-2 c = search needs
-
-put-header-requires : tie.Need-put-header-requires
-put-header-requires c κs = search needs
-
-same-length-2 : tie.Need-same-length-2
-same-length-2 c = search needs
-
-same-length-3 : tie.Need-same-length-3
-same-length-3 c = search needs
 
 returns-2 : tie.Need-returns-2
 returns-2 c =
@@ -91,12 +64,6 @@ returns-2 c =
       e .0 ∙ ap (λ (u : Verdict Written). length (firstLine u)) k,
       ap wordsBehind k,
     )
-
-same-length-4 : tie.Need-same-length-4
-same-length-4 c = search needs
-
-same-length-5 : tie.Need-same-length-5
-same-length-5 c = search needs
 
 returns-3 : tie.Need-returns-3
 returns-3 c =
@@ -131,17 +98,17 @@ pub open-text-spec : {M : Type 1} → statement M
 open-text-spec =
     tie.close
     (tie.spec
-    put-refusal-requires
-    same-length
+    (λ c κs. search needs)
+    (λ c. search needs)
     returns
-    write-formula-requires
-    enum-known-r
-    put-refusal-requires-2
-    enum-known-r-2
-    put-header-requires
-    same-length-2
-    same-length-3
+    (λ c κs. search needs)
+    (λ c. search needs)
+    (λ c κs. search needs)
+    (λ c. search needs)
+    (λ c κs. search needs)
+    (λ c. search needs)
+    (λ c. search needs)
     returns-2
-    same-length-4
-    same-length-5
+    (λ c. search needs)
+    (λ c. search needs)
     returns-3)

@@ -16,15 +16,6 @@ Inv-loop words buf₀ from₀ buf from = (from ≤ length words) × (length buf 
 abbrev μ-loop : tie.MeasureT-loop
 μ-loop words buf₀ from₀ buf from = length words - from
 
-large-buffer-requires : tie.Need-large-buffer-requires Inv-loop μ-loop
-large-buffer-requires c κs = search needs
-
-loop-holds : tie.Need-loop-holds Inv-loop μ-loop
-loop-holds c = (omega arith, sym (c .large-buffer .ensures))
-
-slice-aggregate-put-words : tie.Need-slice-aggregate-put-words Inv-loop μ-loop
-slice-aggregate-put-words c = sym (c .before .before .loop .inv .1)
-
 put-words-requires : tie.Need-put-words-requires Inv-loop μ-loop
 put-words-requires c κs =
     let i = c .before .before .loop .inv in
@@ -37,15 +28,6 @@ filled c =
     let ls = drop (k .loop .from) (k .before .before .args .words .now) in
     let text = wordsText (take (taken (length (k .loop .buf)) ls) ls) in
     ap length {y = sets (k .loop .buf) 0 text} (c .put-words .ensures .3) ∙ length-sets (k .loop .buf) 0 text ∙ k .loop .inv .1
-
-slice-aggregate-print : tie.Need-slice-aggregate-print Inv-loop μ-loop
-slice-aggregate-print c = sym (filled (c .before .before))
-
-print-requires : tie.Need-print-requires Inv-loop μ-loop
-print-requires c κs = search needs
-
-returns : tie.Need-returns Inv-loop μ-loop
-returns c = search needs
 
 loop-less : tie.Need-loop-less Inv-loop μ-loop
 loop-less c =
@@ -63,22 +45,19 @@ loop-again c =
     let e = c .before .before .before .before .put-words .ensures .0 in
     (omega (arith, e, piece-le (length (k .loop .buf)) w (k .loop .from) (k .loop .inv .0)), filled (c .before .before .before .before))
 
-returns-2 : tie.Need-returns-2 Inv-loop μ-loop
-returns-2 c = search needs
-
 pub print-words-spec : {M : Type 1} → statement M
 print-words-spec =
     tie.close
     (tie.spec
     Inv-loop
     μ-loop
-    large-buffer-requires
-    loop-holds
-    slice-aggregate-put-words
+    (λ c κs. search needs)
+    (λ c. (omega arith, sym (c .large-buffer .ensures)))
+    (λ c. sym (c .before .before .loop .inv .1))
     put-words-requires
-    slice-aggregate-print
-    print-requires
-    returns
+    (λ c. sym (filled (c .before .before)))
+    (λ c κs. search needs)
+    (λ c. search needs)
     loop-less
     loop-again
-    returns-2)
+    (λ c. search needs))

@@ -11,24 +11,6 @@ use Rattle.programs.specs.Lines.{answerLine, resultLength}
 use Rattle.programs.proofs.verdicts.say.Statement.{statement}
 use Rattle.programs.proofs.verdicts.say.Tie as tie
 
-enum-known-answer : tie.Need-enum-known-answer
-enum-known-answer c = search needs
-
-slice-aggregate-put-bytes : tie.Need-slice-aggregate-put-bytes
-slice-aggregate-put-bytes c = search needs
-
-put-bytes-requires : tie.Need-put-bytes-requires
-put-bytes-requires c κs = search needs
-
-enum-known-answer-2 : tie.Need-enum-known-answer-2
-enum-known-answer-2 c = search needs
-
-put-refusal-requires : tie.Need-put-refusal-requires
-put-refusal-requires c κs = search needs
-
-same-length : tie.Need-same-length
-same-length c = search needs
-
 -- an answer is the case that it is
 module _ {a a′ : OutputAnswer} (e : a ≡ a′) where
   told : (old : Bytes) → sets old 0 (answerLine a′) ≡ sets old 0 (answerLine a)
@@ -48,9 +30,6 @@ returns c =
     let e = k .put-bytes .ensures in
     (e .1 ∙ told t _, e .0 ∙ measured t, omega (arith, e .0), counted t)
 
-same-length-2 : tie.Need-same-length-2
-same-length-2 c = search needs
-
 returns-2 : tie.Need-returns-2
 returns-2 c =
     let k = c .before .before in
@@ -62,12 +41,12 @@ pub say-spec : {M : Type 1} → statement M
 say-spec =
     tie.close
     (tie.spec
-    enum-known-answer
-    slice-aggregate-put-bytes
-    put-bytes-requires
-    enum-known-answer-2
-    put-refusal-requires
-    same-length
+    (λ c. search needs)
+    (λ c. search needs)
+    (λ c κs. search needs)
+    (λ c. search needs)
+    (λ c κs. search needs)
+    (λ c. search needs)
     returns
-    same-length-2
+    (λ c. search needs)
     returns-2)

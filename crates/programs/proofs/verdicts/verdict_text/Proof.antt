@@ -22,42 +22,12 @@ asked : (book s : Bytes) (room : ℕ) {long : Bool} {check case : Check} → lon
 asked book s room {check = check} h told =
     not-long (verdictOf check book s room) h ∙ ap (λ (k : Check). verdictOf k book s room) told
 
-say-requires : tie.Need-say-requires
-say-requires c κs = search needs
-
-same-length : tie.Need-same-length
-same-length c = search needs
-
 returns : tie.Need-returns
 returns c =
     let then = c .before .before .before .before in
     let out = now (then .before .before .before .before .before .args .out) in
     let q = is-long _ (then .if1 .taken) in
     (tells-same q (tells (refused 12 0) _ _ refl (c .before .before .say .ensures)), output-same q out (refused-output out 12 0))
-
-enum-told : tie.Need-enum-told
-enum-told c = search needs
-
-assignment-text-requires : tie.Need-assignment-text-requires
-assignment-text-requires c κs = search needs
-
-enum-told-2 : tie.Need-enum-told-2
-enum-told-2 c = search needs
-
-plan-text-requires : tie.Need-plan-text-requires
-plan-text-requires c κs = search needs
-
-enum-told-3 : tie.Need-enum-told-3
-enum-told-3 c = search needs
-
-lent-refutation-text-requires : tie.Need-lent-refutation-text-requires
-lent-refutation-text-requires c κs = search needs
-
-same-length-2 : tie.Need-same-length-2
-same-length-2 c = search needs
-
-same-length-3 : tie.Need-same-length-3
-same-length-3 c = search needs
 
 returns-2 : tie.Need-returns-2
 unfolding verdictOf
@@ -68,12 +38,6 @@ returns-2 c =
     let q = asked (now (args .book)) (now (args .second)) (length (now (args .out))) (told .before .before .if1 .left) (told .enum-told .given .1) in
     (tells-same q (call .assignment-text .ensures .0), output-same q _ (call .assignment-text .ensures .1))
 
-same-length-4 : tie.Need-same-length-4
-same-length-4 c = search needs
-
-same-length-5 : tie.Need-same-length-5
-same-length-5 c = search needs
-
 returns-3 : tie.Need-returns-3
 unfolding verdictOf
 returns-3 c =
@@ -82,9 +46,6 @@ returns-3 c =
     let args = told .before .before .before .before .before .before .before .args in
     let q = asked (now (args .book)) (now (args .second)) (length (now (args .out))) (told .before .before .if1 .left) (told .enum-told2 .given .1) in
     (tells-same q (call .plan-text .ensures .0), output-same q _ (call .plan-text .ensures .1))
-
-same-length-6 : tie.Need-same-length-6
-same-length-6 c = search needs
 
 returns-4 : tie.Need-returns-4
 unfolding verdictOf
@@ -102,20 +63,20 @@ pub verdict-text-spec : {M : Type 1} → statement M
 verdict-text-spec =
     tie.close
     (tie.spec
-    say-requires
-    same-length
+    (λ c κs. search needs)
+    (λ c. search needs)
     returns
-    enum-told
-    assignment-text-requires
-    enum-told-2
-    plan-text-requires
-    enum-told-3
-    lent-refutation-text-requires
-    same-length-2
-    same-length-3
+    (λ c. search needs)
+    (λ c κs. search needs)
+    (λ c. search needs)
+    (λ c κs. search needs)
+    (λ c. search needs)
+    (λ c κs. search needs)
+    (λ c. search needs)
+    (λ c. search needs)
     returns-2
-    same-length-4
-    same-length-5
+    (λ c. search needs)
+    (λ c. search needs)
     returns-3
-    same-length-6
+    (λ c. search needs)
     returns-4)

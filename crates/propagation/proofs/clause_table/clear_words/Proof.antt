@@ -14,41 +14,17 @@ Inv-loop words₀ i₀ words i = Cleared (pos 0) words₀ words i
 abbrev μ-loop : tie.MeasureT-loop
 μ-loop words₀ i₀ words i = length words₀ - i
 
-loop-holds : tie.Need-loop-holds Inv-loop μ-loop
-loop-holds c = cleared-start (pos 0) _
-
-mul-words : tie.Need-mul-words Inv-loop μ-loop
-mul-words c = search needs
-
-slice-set-of-words : tie.Need-slice-set-of-words Inv-loop μ-loop
-slice-set-of-words c = search needs
-
-add-i : tie.Need-add-i Inv-loop μ-loop
-add-i c = search needs
-
-loop-less : tie.Need-loop-less Inv-loop μ-loop
-loop-less c = search needs
-
-loop-again : tie.Need-loop-again Inv-loop μ-loop
-loop-again c = cleared-next (pos 0) (c .before .loop .inv) (omega arith)
-
-same-length : tie.Need-same-length Inv-loop μ-loop
-same-length c = c .before .loop .inv .size
-
-returns : tie.Need-returns Inv-loop μ-loop
-returns c = cleared-done (pos 0) (c .before .loop .inv) (omega arith)
-
 pub clear-words-spec : {M : Type 1} → statement M
 clear-words-spec =
     tie.close
     (tie.spec
     Inv-loop
     μ-loop
-    loop-holds
-    mul-words
-    slice-set-of-words
-    add-i
-    loop-less
-    loop-again
-    same-length
-    returns)
+    (λ c. cleared-start (pos 0) _)
+    (λ c. search needs)
+    (λ c. search needs)
+    (λ c. search needs)
+    (λ c. search needs)
+    (λ c. cleared-next (pos 0) (c .before .loop .inv) (omega arith))
+    (λ c. c .before .loop .inv .size)
+    (λ c. cleared-done (pos 0) (c .before .loop .inv) (omega arith)))

@@ -19,33 +19,9 @@ Inv-loop words starts₀ first₀ clause₀ at₀ starts first clause at = Index
 abbrev μ-loop : tie.MeasureT-loop
 μ-loop words starts₀ first₀ clause₀ at₀ starts first clause at = length words - at
 
-loop-holds : tie.Need-loop-holds Inv-loop μ-loop
-loop-holds c = indexing-start _ _ (c .pre .1)
-
-mul-if1 : tie.Need-mul-if1 Inv-loop μ-loop
-mul-if1 c = search needs
-
-shared-slice-copy-out-if1 : tie.Need-shared-slice-copy-out-if1 Inv-loop μ-loop
-shared-slice-copy-out-if1 c = search needs
-
-mul-starts : tie.Need-mul-starts Inv-loop μ-loop
-mul-starts c = search needs
-
 slice-write-starts : tie.Need-slice-write-starts Inv-loop μ-loop
 slice-write-starts c =
     let t = c .before .before .before in place-room (t .before .pre .0) (t .loop .inv) (c .before .before .loop-test .taken)
-
-add-clause : tie.Need-add-clause Inv-loop μ-loop
-add-clause c = search needs
-
-add-first : tie.Need-add-first Inv-loop μ-loop
-add-first c = search needs
-
-add-at : tie.Need-add-at Inv-loop μ-loop
-add-at c = search needs
-
-loop-less : tie.Need-loop-less Inv-loop μ-loop
-loop-less c = search needs
 
 loop-again : tie.Need-loop-again Inv-loop μ-loop
 loop-again c =
@@ -59,27 +35,21 @@ loop-again c =
     (λ w. rw (w .1, w .2, w .3) (indexing-passes closed (t .loop .inv) l (λ e. w .0 .left (ap (ofZ w32) e))))
     (c .if1 .came)
 
-same-length : tie.Need-same-length Inv-loop μ-loop
-same-length c = search needs
-
-returns : tie.Need-returns Inv-loop μ-loop
-returns c = indexing-done (c .before .before .pre .0) (c .before .loop .inv) (c .loop-test .left)
-
 pub index-clauses-spec : {M : Type 1} → statement M
 index-clauses-spec =
     tie.close
     (tie.spec
     Inv-loop
     μ-loop
-    loop-holds
-    mul-if1
-    shared-slice-copy-out-if1
-    mul-starts
+    (λ c. indexing-start _ _ (c .pre .1))
+    (λ c. search needs)
+    (λ c. search needs)
+    (λ c. search needs)
     slice-write-starts
-    add-clause
-    add-first
-    add-at
-    loop-less
+    (λ c. search needs)
+    (λ c. search needs)
+    (λ c. search needs)
+    (λ c. search needs)
     loop-again
-    same-length
-    returns)
+    (λ c. search needs)
+    (λ c. indexing-done (c .before .before .pre .0) (c .before .loop .inv) (c .loop-test .left)))

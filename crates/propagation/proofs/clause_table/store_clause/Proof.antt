@@ -27,27 +27,6 @@ Inv-loop list words₀ at n i₀ words i = (i ≤ n) × Stored words₀ at (lite
 abbrev μ-loop : tie.MeasureT-loop
 μ-loop list words₀ at n i₀ words i = n - i
 
-loop-holds : tie.Need-loop-holds Inv-loop μ-loop
-loop-holds c = (omega arith, stored-start _ _ _ (omega (arith, length-closed (now (c .before .args .list)))))
-
-literal-at-requires : tie.Need-literal-at-requires Inv-loop μ-loop
-literal-at-requires c κs = search needs
-
-add-t9 : tie.Need-add-t9 Inv-loop μ-loop
-add-t9 c = search needs
-
-mul-t10 : tie.Need-mul-t10 Inv-loop μ-loop
-mul-t10 c = search needs
-
-slice-set-from-words : tie.Need-slice-set-from-words Inv-loop μ-loop
-slice-set-from-words c = search needs
-
-add-i : tie.Need-add-i Inv-loop μ-loop
-add-i c = search needs
-
-loop-less : tie.Need-loop-less Inv-loop μ-loop
-loop-less c = search needs
-
 loop-again : tie.Need-loop-again Inv-loop μ-loop
 loop-again c =
     let t = c .before .before in
@@ -59,18 +38,6 @@ loop-again c =
           ∙ c .literal-at .ensures
           ∙ sym (List·getD-append (literalsIn list) (one (pos 0)) (pos 0) (t .loop .i) l)),
     )
-
-add-words : tie.Need-add-words Inv-loop μ-loop
-add-words c = search needs
-
-mul-words : tie.Need-mul-words Inv-loop μ-loop
-mul-words c = search needs
-
-slice-set-of-words : tie.Need-slice-set-of-words Inv-loop μ-loop
-slice-set-of-words c = search needs
-
-same-length : tie.Need-same-length Inv-loop μ-loop
-same-length c = search needs
 
 returns : tie.Need-returns Inv-loop μ-loop
 returns c =
@@ -89,16 +56,16 @@ store-clause-spec =
     (tie.spec
     Inv-loop
     μ-loop
-    loop-holds
-    literal-at-requires
-    add-t9
-    mul-t10
-    slice-set-from-words
-    add-i
-    loop-less
+    (λ c. (omega arith, stored-start _ _ _ (omega (arith, length-closed (now (c .before .args .list))))))
+    (λ c κs. search needs)
+    (λ c. search needs)
+    (λ c. search needs)
+    (λ c. search needs)
+    (λ c. search needs)
+    (λ c. search needs)
     loop-again
-    add-words
-    mul-words
-    slice-set-of-words
-    same-length
+    (λ c. search needs)
+    (λ c. search needs)
+    (λ c. search needs)
+    (λ c. search needs)
     returns)

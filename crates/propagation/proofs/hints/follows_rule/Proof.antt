@@ -16,9 +16,6 @@ use Rattle.propagation.proofs.Trail.{behind-more, left-here}
 use Rattle.propagation.proofs.hints.follows_rule.Statement.{statement}
 use Rattle.propagation.proofs.hints.follows_rule.Tie as tie
 
-take-false-requires : tie.Need-take-false-requires
-take-false-requires c κs = search needs
-
 -- where the literals are false, there are as many values as at first
 module _ (c : tie.After-take-false) where
   abbrev start : tie.Start
@@ -36,15 +33,6 @@ try-hints-requires c κs =
       t .take-false .ensures .1,
       omega (arith, same t, p .5),
     )
-
-undo-requires : tie.Need-undo-requires
-undo-requires c κs = search needs
-
-same-length : tie.Need-same-length
-same-length c = search needs
-
-same-length-2 : tie.Need-same-length-2
-same-length-2 c = search needs
 
 -- the hints, gone through from where the literals are false
 module _ (c : tie.After-try-hints) where
@@ -80,9 +68,9 @@ pub follows-rule-spec : {M : Type 1} → statement M
 follows-rule-spec =
     tie.close
     (tie.spec
-    take-false-requires
+    (λ c κs. search needs)
     try-hints-requires
-    undo-requires
-    same-length
-    same-length-2
+    (λ c κs. search needs)
+    (λ c. search needs)
+    (λ c. search needs)
     returns)

@@ -12,9 +12,6 @@ use Rattle.propagation.proofs.Signs.{sign-of, false-byte}
 use Rattle.propagation.proofs.hints.make_false.Statement.{statement}
 use Rattle.propagation.proofs.hints.make_false.Tie as tie
 
-variable-requires : tie.Need-variable-requires
-variable-requires c κs = search needs
-
 -- the variable that was found is the literal's
 module _ (c : tie.After-variable) where
   abbrev start : tie.Start
@@ -22,24 +19,6 @@ module _ (c : tie.After-variable) where
 
   found : c .variable .result ≡ variableOf (start .args .l)
   found = c .variable .ensures ∙ ap variableOf (toZ-ofZ (start .fits .l))
-
-sub-v : tie.Need-sub-v
-sub-v c = omega (arith, found c, start c .pre)
-
-slice-write-values : tie.Need-slice-write-values
-slice-write-values c = omega (arith, found (c .before), start (c .before) .pre)
-
-mul-trail : tie.Need-mul-trail
-mul-trail c = search needs
-
-slice-write-trail : tie.Need-slice-write-trail
-slice-write-trail c = search needs
-
-same-length : tie.Need-same-length
-same-length c = search needs
-
-same-length-2 : tie.Need-same-length-2
-same-length-2 c = search needs
 
 returns : tie.Need-returns
 returns c =
@@ -56,11 +35,11 @@ pub make-false-spec : {M : Type 1} → statement M
 make-false-spec =
     tie.close
     (tie.spec
-    variable-requires
-    sub-v
-    slice-write-values
-    mul-trail
-    slice-write-trail
-    same-length
-    same-length-2
+    (λ c κs. search needs)
+    (λ c. omega (arith, found c, start c .pre))
+    (λ c. omega (arith, found (c .before), start (c .before) .pre))
+    (λ c. search needs)
+    (λ c. search needs)
+    (λ c. search needs)
+    (λ c. search needs)
     returns)

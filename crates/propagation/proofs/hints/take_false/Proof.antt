@@ -21,18 +21,6 @@ Inv-loop list values₀ trail₀ n i₀ values trail i = Taking (literalsIn list
 abbrev μ-loop : tie.MeasureT-loop
 μ-loop list values₀ trail₀ n i₀ values trail i = n - i
 
-loop-holds : tie.Need-loop-holds Inv-loop μ-loop
-loop-holds c = let p = c .before .before .before .pre in taking-start _ _ _ (p .1) (p .2)
-
-sub-literal-at : tie.Need-sub-literal-at Inv-loop μ-loop
-sub-literal-at c = omega arith
-
-sub-literal-at-2 : tie.Need-sub-literal-at-2 Inv-loop μ-loop
-sub-literal-at-2 c = omega arith
-
-literal-at-requires : tie.Need-literal-at-requires Inv-loop μ-loop
-literal-at-requires c κs = omega arith
-
 -- the literal that was found is the next one
 module _ (c : tie.After-literal-at Inv-loop μ-loop) where
   abbrev start : tie.Start Inv-loop μ-loop
@@ -56,23 +44,11 @@ make-false-requires c κs =
     let h = taking-here (head c .loop .inv) (start c .pre .0) (less c) in
     rw (found c) (h .0, h .1, omega (arith, h .1, head c .loop .inv .size, start c .pre), h .2)
 
-add-i : tie.Need-add-i Inv-loop μ-loop
-add-i c = omega arith
-
-loop-less : tie.Need-loop-less Inv-loop μ-loop
-loop-less c = omega arith
-
 loop-again : tie.Need-loop-again Inv-loop μ-loop
 loop-again c =
     let l = c .before .before .before .before .before in
     let m = c .before .before .before .before .make-false .ensures in
     taking-next (head l .loop .inv) (start l .pre .0) (less l) (rw (found l) at (m .0)) (rw (found l) at (m .1))
-
-same-length : tie.Need-same-length Inv-loop μ-loop
-same-length c = c .before .loop .inv .size
-
-same-length-2 : tie.Need-same-length-2 Inv-loop μ-loop
-same-length-2 c = c .before .loop .inv .space
 
 returns : tie.Need-returns Inv-loop μ-loop
 returns c =
@@ -86,14 +62,14 @@ take-false-spec =
     (tie.spec
     Inv-loop
     μ-loop
-    loop-holds
-    sub-literal-at
-    sub-literal-at-2
-    literal-at-requires
+    (λ c. let p = c .before .before .before .pre in taking-start _ _ _ (p .1) (p .2))
+    (λ c. omega arith)
+    (λ c. omega arith)
+    (λ c κs. omega arith)
     make-false-requires
-    add-i
-    loop-less
+    (λ c. omega arith)
+    (λ c. omega arith)
     loop-again
-    same-length
-    same-length-2
+    (λ c. c .before .loop .inv .size)
+    (λ c. c .before .loop .inv .space)
     returns)

@@ -17,9 +17,6 @@ use Rattle.propagation.proofs.Signs.{sign-of, truth-by, byte-false}
 use Rattle.propagation.proofs.hints.truth.Statement.{statement}
 use Rattle.propagation.proofs.hints.truth.Tie as tie
 
-variable-requires : tie.Need-variable-requires
-variable-requires c κs = search needs
-
 -- the variable that was found is the literal's
 module _ (c : tie.After-variable) where
   abbrev start : tie.Start
@@ -36,12 +33,6 @@ module _ (c : tie.After-variable) where
   answer b x e h =
       let here : valueIn (getD (start .args .values .now) (variableOf (start .args .l) - 1) 0) ≡ x = rw (← found) h in
       ap answered (sym (truth-by _ _ b x (start .pre .0) e here))
-
-sub-value : tie.Need-sub-value
-sub-value c = omega (arith, found c, start c .pre)
-
-shared-slice-read-value : tie.Need-shared-slice-read-value
-shared-slice-read-value c = omega (arith, found (c .before), start (c .before) .pre)
 
 returns : tie.Need-returns
 unfolding valueIn deny
@@ -80,9 +71,9 @@ pub truth-spec : {M : Type 1} → statement M
 truth-spec =
     tie.close
     (tie.spec
-    variable-requires
-    sub-value
-    shared-slice-read-value
+    (λ c κs. search needs)
+    (λ c. omega (arith, found c, start c .pre))
+    (λ c. omega (arith, found (c .before), start (c .before) .pre))
     returns
     returns-2
     returns-3

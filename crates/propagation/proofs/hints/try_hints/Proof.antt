@@ -44,12 +44,6 @@ entry c = c .before .before .before .before .before
 few : (c : tie.At-hints Inv-loop μ-loop Inv-hints μ-hints) → length (c .hints .values) < 2147483648
 few c = omega (arith, c .hints .inv .sameValues, entry c .pre .3)
 
-hints-holds : tie.Need-hints-holds Inv-loop μ-loop Inv-hints μ-hints
-hints-holds c = sets-out _ _ (c .before .before .before .before .pre .2)
-
-number-at-requires : tie.Need-number-at-requires Inv-loop μ-loop Inv-hints μ-hints
-number-at-requires c κs = search needs
-
 -- the hint names a clause
 names : (c : tie.After-number-at Inv-loop μ-loop Inv-hints μ-hints)
     → (1 ≤ c .number-at .result) × (c .number-at .result ≤ length (entry (c .before .before) .args .starts .now))
@@ -57,15 +51,6 @@ names c =
     let f = hint-fits _ _ _ (entry (c .before .before) .pre .1) (c .before .hints-test .taken) in
     let e = c .number-at .ensures .0 in
     omega arith
-
-sub-at : tie.Need-sub-at Inv-loop μ-loop Inv-hints μ-hints
-sub-at c = names c .0
-
-mul-at : tie.Need-mul-at Inv-loop μ-loop Inv-hints μ-hints
-mul-at c = search needs
-
-shared-slice-read-at : tie.Need-shared-slice-read-at Inv-loop μ-loop Inv-hints μ-hints
-shared-slice-read-at c = omega (arith, names (c .before))
 
 loop-holds : tie.Need-loop-holds Inv-loop μ-loop Inv-hints μ-hints
 loop-holds c =
@@ -101,19 +86,7 @@ turn c = c .before .before .before .hints-test .taken
 reads : (c : tie.At-loop Inv-loop μ-loop Inv-hints μ-hints) → c .loop .at < length (entry (outer c) .args .words .now)
 reads c = in-words (c .loop .inv)
 
-mul-if1 : tie.Need-mul-if1 Inv-loop μ-loop Inv-hints μ-hints
-mul-if1 c = let h = reads c in search needs
-
-shared-slice-copy-out-if1 : tie.Need-shared-slice-copy-out-if1 Inv-loop μ-loop Inv-hints μ-hints
-shared-slice-copy-out-if1 c = reads c
-
 -- ---- where a literal was read
-
-mul-l : tie.Need-mul-l Inv-loop μ-loop Inv-hints μ-hints
-mul-l c = let h = reads (c .before .before) in search needs
-
-shared-slice-copy-out-l : tie.Need-shared-slice-copy-out-l Inv-loop μ-loop Inv-hints μ-hints
-shared-slice-copy-out-l c = reads (c .before .before)
 
 -- the head of the loop, from where the answer is known
 abbrev inner : tie.After-truth Inv-loop μ-loop Inv-hints μ-hints → tie.At-loop Inv-loop μ-loop Inv-hints μ-hints
@@ -135,27 +108,12 @@ truth-requires c κs =
     let f = few (outer (t .before .before)) in
     rw (read-back a f) (a .low, a .high, omega (arith, a .high))
 
-enum-told : tie.Need-enum-told Inv-loop μ-loop Inv-hints μ-hints
-enum-told c = search needs
-
-enum-told-2 : tie.Need-enum-told-2 Inv-loop μ-loop Inv-hints μ-hints
-enum-told-2 c = search needs
-
-enum-told-3 : tie.Need-enum-told-3 Inv-loop μ-loop Inv-hints μ-hints
-enum-told-3 c = search needs
-
 -- the literal is what the answer says
 told : (c : tie.After-truth Inv-loop μ-loop Inv-hints μ-hints) {r : Answer} → c .truth .result ≡ r
     → truth (known (inner c)) (word (inner c)) ≡ meant r
 told c e =
     let b = read-back (stands (c .before .before .before)) (few (outer (inner c))) in
     value-told (truth (known (inner c)) (word (inner c))) (rw (← b) (c .truth .ensures)) e
-
-add-at : tie.Need-add-at Inv-loop μ-loop Inv-hints μ-hints
-add-at c = let h = reads (inner (c .before)) in search needs
-
-loop-less : tie.Need-loop-less Inv-loop μ-loop Inv-hints μ-hints
-loop-less c = let h = reads (inner (c .before)) in omega arith
 
 loop-again : tie.Need-loop-again Inv-loop μ-loop Inv-hints μ-hints
 loop-again c =
@@ -166,9 +124,6 @@ loop-again c =
     (λ w. rw (w .3) (notes s f (told t (w .1 .given .1)) (w .2 .left))) (c .match .came)
 
 -- ---- where the clause ends
-
-add-k : tie.Need-add-k Inv-loop μ-loop Inv-hints μ-hints
-add-k c = search needs
 
 -- an open literal was found
 abbrev Found : tie.At-loop Inv-loop μ-loop Inv-hints μ-hints → Type 0
@@ -192,9 +147,6 @@ add-set c =
     let s = t .hints .inv .sameTrail in
     search needs
 
-hints-less : tie.Need-hints-less Inv-loop μ-loop Inv-hints μ-hints
-hints-less c = search needs
-
 hints-again : tie.Need-hints-again Inv-loop μ-loop Inv-hints μ-hints
 hints-again c =
     let e = c .before .before .before .before .before .before .before in
@@ -206,22 +158,10 @@ hints-again c =
 
 -- ---- the four ways out: no hint is left, a true literal, a second open one, and all literals false
 
-same-length : tie.Need-same-length Inv-loop μ-loop Inv-hints μ-hints
-same-length c = search needs
-
-same-length-2 : tie.Need-same-length-2 Inv-loop μ-loop Inv-hints μ-hints
-same-length-2 c = search needs
-
 returns : tie.Need-returns Inv-loop μ-loop Inv-hints μ-hints
 returns c =
     let g = c .before .hints .inv in
     (runs-out g (c .hints-test .left), g .trailed, g .grown, g .behind)
-
-same-length-3 : tie.Need-same-length-3 Inv-loop μ-loop Inv-hints μ-hints
-same-length-3 c = search needs
-
-same-length-4 : tie.Need-same-length-4 Inv-loop μ-loop Inv-hints μ-hints
-same-length-4 c = search needs
 
 returns-2 : tie.Need-returns-2 Inv-loop μ-loop Inv-hints μ-hints
 returns-2 c =
@@ -230,24 +170,12 @@ returns-2 c =
     let e = ends-true (stands (a .before .before .before)) (told a (c .enum-told2 .given .1)) in
     (refuses g (turn (inner a)) e, g .trailed, g .grown, g .behind)
 
-same-length-5 : tie.Need-same-length-5 Inv-loop μ-loop Inv-hints μ-hints
-same-length-5 c = search needs
-
-same-length-6 : tie.Need-same-length-6 Inv-loop μ-loop Inv-hints μ-hints
-same-length-6 c = search needs
-
 returns-3 : tie.Need-returns-3 Inv-loop μ-loop Inv-hints μ-hints
 returns-3 c =
     let a = c .before .before .before in
     let g = outer (inner a) .hints .inv in
     let e = ends-second (stands (a .before .before .before)) (told a (c .before .enum-told3 .given .1)) (c .if2 .taken) in
     (refuses g (turn (inner a)) e, g .trailed, g .grown, g .behind)
-
-same-length-7 : tie.Need-same-length-7 Inv-loop μ-loop Inv-hints μ-hints
-same-length-7 c = search needs
-
-same-length-8 : tie.Need-same-length-8 Inv-loop μ-loop Inv-hints μ-hints
-same-length-8 c = search needs
 
 returns-4 : tie.Need-returns-4 Inv-loop μ-loop Inv-hints μ-hints
 returns-4 c =
@@ -264,37 +192,37 @@ try-hints-spec =
     μ-loop
     Inv-hints
     μ-hints
-    hints-holds
-    number-at-requires
-    sub-at
-    mul-at
-    shared-slice-read-at
+    (λ c. sets-out _ _ (c .before .before .before .before .pre .2))
+    (λ c κs. search needs)
+    (λ c. names c .0)
+    (λ c. search needs)
+    (λ c. omega (arith, names (c .before)))
     loop-holds
-    mul-if1
-    shared-slice-copy-out-if1
-    mul-l
-    shared-slice-copy-out-l
+    (λ c. let h = reads c in search needs)
+    (λ c. reads c)
+    (λ c. let h = reads (c .before .before) in search needs)
+    (λ c. reads (c .before .before))
     truth-requires
-    enum-told
-    enum-told-2
-    enum-told-3
-    add-at
-    loop-less
+    (λ c. search needs)
+    (λ c. search needs)
+    (λ c. search needs)
+    (λ c. let h = reads (inner (c .before)) in search needs)
+    (λ c. let h = reads (inner (c .before)) in omega arith)
     loop-again
-    add-k
+    (λ c. search needs)
     make-true-requires
     add-set
-    hints-less
+    (λ c. search needs)
     hints-again
-    same-length
-    same-length-2
+    (λ c. search needs)
+    (λ c. search needs)
     returns
-    same-length-3
-    same-length-4
+    (λ c. search needs)
+    (λ c. search needs)
     returns-2
-    same-length-5
-    same-length-6
+    (λ c. search needs)
+    (λ c. search needs)
     returns-3
-    same-length-7
-    same-length-8
+    (λ c. search needs)
+    (λ c. search needs)
     returns-4)

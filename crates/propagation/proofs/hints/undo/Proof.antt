@@ -13,34 +13,10 @@ Inv-loop values₀ trail set j₀ values j = Opening values₀ trail set values 
 abbrev μ-loop : tie.MeasureT-loop
 μ-loop values₀ trail set j₀ values j = set - j
 
-loop-holds : tie.Need-loop-holds Inv-loop μ-loop
-loop-holds c = opening-start (c .pre)
-
-mul-values : tie.Need-mul-values Inv-loop μ-loop
-mul-values c = omega (arith, trail-bound (c .before .before .pre))
-
-shared-slice-read-values : tie.Need-shared-slice-read-values Inv-loop μ-loop
-shared-slice-read-values c = omega (arith, trail-bound (c .before .before .before .pre))
-
 slice-write-values : tie.Need-slice-write-values Inv-loop μ-loop
 slice-write-values c =
     let t = c .before .before in
     omega (arith, t .before .pre .below (t .loop .j) (c .before .loop-test .taken), t .loop .inv .size)
-
-add-j : tie.Need-add-j Inv-loop μ-loop
-add-j c = omega arith
-
-loop-less : tie.Need-loop-less Inv-loop μ-loop
-loop-less c = omega arith
-
-loop-again : tie.Need-loop-again Inv-loop μ-loop
-loop-again c = opening-next (c .before .before .before .pre) (c .before .before .loop .inv) (c .before .loop-test .taken)
-
-same-length : tie.Need-same-length Inv-loop μ-loop
-same-length c = c .before .loop .inv .size
-
-returns : tie.Need-returns Inv-loop μ-loop
-returns c = opening-done (c .before .loop .inv) (c .loop-test .left)
 
 pub undo-spec : {M : Type 1} → statement M
 undo-spec =
@@ -48,12 +24,12 @@ undo-spec =
     (tie.spec
     Inv-loop
     μ-loop
-    loop-holds
-    mul-values
-    shared-slice-read-values
+    (λ c. opening-start (c .pre))
+    (λ c. omega (arith, trail-bound (c .before .before .pre)))
+    (λ c. omega (arith, trail-bound (c .before .before .before .pre)))
     slice-write-values
-    add-j
-    loop-less
-    loop-again
-    same-length
-    returns)
+    (λ c. omega arith)
+    (λ c. omega arith)
+    (λ c. opening-next (c .before .before .before .pre) (c .before .before .loop .inv) (c .before .loop-test .taken))
+    (λ c. c .before .loop .inv .size)
+    (λ c. opening-done (c .before .loop .inv) (c .loop-test .left)))

@@ -43,15 +43,6 @@ opened c =
     let e : length (b .segments) ≡ 64 = search (needs, length-of-map) in
     simp (nodes-held b (s .pre) (search needs), segments-held b (s .pre) e, c .before .before .wide .ensures .0, c .before .wide2 .ensures .0, c .wide3 .ensures .0)
 
-wide-requires : tie.Need-wide-requires
-wide-requires c κs = search needs
-
-wide-requires-2 : tie.Need-wide-requires-2
-wide-requires-2 c κs = search needs
-
-wide-requires-3 : tie.Need-wide-requires-3
-wide-requires-3 c κs = search needs
-
 returns : tie.Need-returns
 returns c =
     let a = c .before in
@@ -68,24 +59,6 @@ inside : (c : tie.Else3)
     let b = a .before .before .before .args .t1 in
     (node a < b .«node_count») × (left a < b .«segment_count») × (right a < b .«segment_count»)
 inside c = (c .before .before .if1 .left, leb-false _ _ (c .before .if2 .left), leb-false _ _ (c .if3 .left))
-
-mul-touches : tie.Need-mul-touches
-mul-touches c = search needs
-
-element-copy-out-touches : tie.Need-element-copy-out-touches
-element-copy-out-touches c = let l = inside (c .before) in omega arith
-
-touches-requires : tie.Need-touches-requires
-touches-requires c κs = search needs
-
-mul-touches-2 : tie.Need-mul-touches-2
-mul-touches-2 c = search needs
-
-element-copy-out-touches-2 : tie.Need-element-copy-out-touches-2
-element-copy-out-touches-2 c = let l = inside (c .before .before) in omega arith
-
-touches-requires-2 : tie.Need-touches-requires-2
-touches-requires-2 c κs = search needs
 
 -- two segments, and the first touches the node
 abbrev firstFits : tie.After-wide3 → Bool
@@ -122,15 +95,15 @@ pub join-fits-spec : {M : Type 1} → statement M
 join-fits-spec =
     tie.close
     (tie.spec
-    wide-requires
-    wide-requires-2
-    wide-requires-3
+    (λ c κs. search needs)
+    (λ c κs. search needs)
+    (λ c κs. search needs)
     returns
-    mul-touches
-    element-copy-out-touches
-    touches-requires
-    mul-touches-2
-    element-copy-out-touches-2
-    touches-requires-2
+    (λ c. search needs)
+    (λ c. let l = inside (c .before) in omega arith)
+    (λ c κs. search needs)
+    (λ c. search needs)
+    (λ c. let l = inside (c .before .before) in omega arith)
+    (λ c κs. search needs)
     returns-2
     returns-3)

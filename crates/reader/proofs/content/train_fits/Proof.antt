@@ -18,18 +18,6 @@ use Rattle.reader.proofs.Packing.{segments-held}
 use Rattle.reader.proofs.content.train_fits.Statement.{statement}
 use Rattle.reader.proofs.content.train_fits.Tie as tie
 
-pair-requires : tie.Need-pair-requires
-pair-requires c κs = search needs
-
-time-requires : tie.Need-time-requires
-time-requires c κs = search needs
-
-mul-all-below : tie.Need-mul-all-below
-mul-all-below c = search needs
-
-all-below-requires : tie.Need-all-below-requires
-all-below-requires c κs = search needs
-
 -- a metre at least, and a departure below T
 abbrev early : tie.Start → Bool
 early c = leb 1 (field (c .args .p .now) 0 2) && ltb (field (c .args .p .now) 4 (bookFormat .timeWidth)) (c .args .b .intervals)
@@ -65,9 +53,9 @@ pub train-fits-spec : {M : Type 1} → statement M
 train-fits-spec =
     tie.close
     (tie.spec
-    pair-requires
-    time-requires
-    mul-all-below
-    all-below-requires
+    (λ c κs. search needs)
+    (λ c κs. search needs)
+    (λ c. search needs)
+    (λ c κs. search needs)
     returns
     returns-2)

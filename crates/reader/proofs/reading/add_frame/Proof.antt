@@ -2,17 +2,14 @@
 -- answers. What the functions ask of the book holds of every book as far as it was read. Assumes nothing.
 use borrow.Author.Needs.{needs}
 use borrow.Author.Tests.{eqb-true, eqb-false, not-true, not-false}
-use mathlib.Core.Path.{_≡_, refl, sym, _∙_}
-use mathlib.Core.Logic.{_≢_, ⊎-elim}
-use mathlib.Core.Option.{none, some}
-use Prim.Native.Nat.{_+_}
+use mathlib.Core.Path.{_≡_, refl}
+use mathlib.Core.Logic.{⊎-elim}
+use mathlib.Core.Option.{none}
 use native.Mathlib.Omega.{arith}
-use lib.ListN.{length, drop}
 use Rattle.spec.specs.Lists.{firstFault}
 use Rattle.spec.specs.Frames.{bookFormat, headKind, nodeKind, segmentKind, joinKind, trainKind, callKind, unbreakableKind, endKind, lengthFits}
-use Rattle.spec.specs.Read.{add, addFound, kindFaults, contentFaults}
+use Rattle.spec.specs.Read.{addFound, kindFaults}
 use Rattle.spec.specs.Held.{held}
-use Rattle.frames.specs.declared.Kind.{Kind}
 use Rattle.frames.specs.declared.Kind.the-variants.{Head, Node, Segment, Join, Train, Call, Unbreakable, End}
 use Rattle.reader.proofs.ByKind.{by-kind, wrong-length, right-length, elsewhere, there, sized, train-long, train-short, train-wrong, train-right, adds-nothing, none-left, ends-right, no-head, growing-metres, growing-calls, growing-segments}
 use Rattle.reader.proofs.reading.add_frame.Statement.{statement}

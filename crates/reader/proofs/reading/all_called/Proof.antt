@@ -61,23 +61,8 @@ module _ (c : tie.After-calls-of Inv-loop μ-loop) where
   turn-some : (c .calls-of .result ≡ 0 → ⊥) → whole start ≡ behind start (i + 1)
   turn-some h = let e = here ∙ ne-eqb _ _ h in turn ∙ simp e
 
-loop-holds : tie.Need-loop-holds Inv-loop μ-loop
-loop-holds c = (omega arith, rw (counted c) (any-range-all (lacking c) (c .args .b .«train_count»)))
-
-calls-of-requires : tie.Need-calls-of-requires Inv-loop μ-loop
-calls-of-requires c κs = c .before .before .pre
-
 returns : tie.Need-returns Inv-loop μ-loop
 returns c = sym (ap not (or-second (empty (held (start (c .before) .args .b) .trains)) (turn-none (c .before) (c .if1 .taken))))
-
-add-i : tie.Need-add-i Inv-loop μ-loop
-add-i c = omega arith
-
-loop-less : tie.Need-loop-less Inv-loop μ-loop
-loop-less c = omega arith
-
-loop-again : tie.Need-loop-again Inv-loop μ-loop
-loop-again c = (omega arith, turn-some (c .before) (c .if1 .left))
 
 returns-2 : tie.Need-returns-2 Inv-loop μ-loop
 returns-2 c =
@@ -92,10 +77,10 @@ all-called-spec =
     (tie.spec
     Inv-loop
     μ-loop
-    loop-holds
-    calls-of-requires
+    (λ c. (omega arith, rw (counted c) (any-range-all (lacking c) (c .args .b .«train_count»))))
+    (λ c κs. c .before .before .pre)
     returns
-    add-i
-    loop-less
-    loop-again
+    (λ c. omega arith)
+    (λ c. omega arith)
+    (λ c. (omega arith, turn-some (c .before) (c .if1 .left)))
     returns-2)

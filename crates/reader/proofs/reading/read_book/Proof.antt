@@ -1,5 +1,4 @@
 -- `reading::read_book` meets its contract: the runs that are counted stand in a table of its own. Assumes nothing.
-use borrow.Author.Needs.{needs}
 use mathlib.Core.Path.{sym}
 use Prim.Native.Nat.{ℕ}
 use lib.ListN.{length-replicate}

@@ -2,9 +2,9 @@
 -- of runs is as it was. The measure is what is left of the file. Assumes nothing.
 use borrow.Author.Needs.{needs}
 use mathlib.Core.Path.{_≡_, refl, sym, ap, _∙_}
-use Prim.Native.Nat.{ℕ, _+_, _-_, _<_, _≤_}
+use Prim.Native.Nat.{_-_, _<_}
 use native.Mathlib.Omega.{arith}
-use lib.ListN.{length, getD}
+use lib.ListN.{length}
 use Rattle.spec.specs.Frames.{bookFormat}
 use Rattle.spec.specs.Read.{readBook}
 use Rattle.spec.specs.Held.{held}

@@ -1,6 +1,6 @@
 -- `reading::step` meets its contract: a frame that is cut is refused by 1, and a whole one is `step_whole`'s. Assumes nothing.
 use borrow.Author.Needs.{needs}
-use mathlib.Core.Path.{_≡_, sym, _∙_}
+use mathlib.Core.Path.{sym, _∙_}
 use Rattle.reader.proofs.Whole.{whole-room, cut-here}
 use Rattle.reader.proofs.reading.step.Statement.{statement}
 use Rattle.reader.proofs.reading.step.Tie as tie

@@ -30,12 +30,6 @@ loop-holds : tie.Need-loop-holds Inv-loop μ-loop
 unfolding literalsFit
 loop-holds c = refl
 
-literal-at-requires : tie.Need-literal-at-requires Inv-loop μ-loop
-literal-at-requires c κs = omega arith
-
-literal-fits-requires : tie.Need-literal-fits-requires Inv-loop μ-loop
-literal-fits-requires c κs = omega arith
-
 module _ (c : tie.After-literal-fits Inv-loop μ-loop) where
   abbrev at-loop : tie.At-loop Inv-loop μ-loop
   at-loop = c .before .before .before
@@ -67,19 +61,10 @@ module _ (c : tie.After-literal-fits Inv-loop μ-loop) where
       let h = and-iff (ltb (at-loop .loop .low) v) (leb v (given .args .variables)) .0 (from-true (sym (c .literal-fits .ensures) ∙ e)) in
       leb→le v (given .args .variables) (h .1)
 
-returns : tie.Need-returns Inv-loop μ-loop
-returns c = let h = not-true (c .before .literal-fits .result) (c .if1 .taken) in sym (turn (c .before) ∙ simp h)
-
 variable-requires : tie.Need-variable-requires Inv-loop μ-loop
 variable-requires c κs =
     let h = in-range (c .before) (not-false (c .before .literal-fits .result) (c .if1 .left)) in
     omega (arith, h, given (c .before) .pre)
-
-add-i : tie.Need-add-i Inv-loop μ-loop
-add-i c = omega arith
-
-loop-less : tie.Need-loop-less Inv-loop μ-loop
-loop-less c = omega arith
 
 loop-again : tie.Need-loop-again Inv-loop μ-loop
 loop-again c =
@@ -101,11 +86,11 @@ literals-fit-spec =
     Inv-loop
     μ-loop
     loop-holds
-    literal-at-requires
-    literal-fits-requires
-    returns
+    (λ c κs. omega arith)
+    (λ c κs. omega arith)
+    (λ c. let h = not-true (c .before .literal-fits .result) (c .if1 .taken) in sym (turn (c .before) ∙ simp h))
     variable-requires
-    add-i
-    loop-less
+    (λ c. omega arith)
+    (λ c. omega arith)
     loop-again
     returns-2)

@@ -9,12 +9,6 @@ use Rattle.refutation_file.proofs.Places.{step-room, hints-here}
 use Rattle.refutation_file.proofs.steps.hints_at.Statement.{statement}
 use Rattle.refutation_file.proofs.steps.hints_at.Tie as tie
 
-add-cursor : tie.Need-add-cursor
-add-cursor c = search needs
-
-cursor-requires : tie.Need-cursor-requires
-cursor-requires c κs = search needs
-
 mul-first : tie.Need-mul-first
 mul-first c =
     let st = c .before .before in
@@ -35,12 +29,6 @@ add-result c =
     let st = c .before .before .before in
     omega (arith, step-room (st .args .s .now) (st .args .at) (st .pre .0) (st .pre .1))
 
-sub-result : tie.Need-sub-result
-sub-result c = search needs
-
-part-result-start : tie.Need-part-result-start
-part-result-start c = search needs
-
 part-result-end : tie.Need-part-result-end
 part-result-end c =
     let st = c .before .before .before in
@@ -56,13 +44,13 @@ pub hints-at-spec : {M : Type 1} → statement M
 hints-at-spec =
     tie.close
     (tie.spec
-    add-cursor
-    cursor-requires
+    (λ c. search needs)
+    (λ c κs. search needs)
     mul-first
     add-first
     mul-result
     add-result
-    sub-result
-    part-result-start
+    (λ c. search needs)
+    (λ c. search needs)
     part-result-end
     returns)

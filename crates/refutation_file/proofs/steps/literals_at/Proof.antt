@@ -9,12 +9,6 @@ use Rattle.refutation_file.proofs.Places.{step-room, literals-here}
 use Rattle.refutation_file.proofs.steps.literals_at.Statement.{statement}
 use Rattle.refutation_file.proofs.steps.literals_at.Tie as tie
 
-add-cursor : tie.Need-add-cursor
-add-cursor c = search needs
-
-cursor-requires : tie.Need-cursor-requires
-cursor-requires c κs = search needs
-
 mul-result : tie.Need-mul-result
 mul-result c =
     let st = c .before .before in
@@ -24,12 +18,6 @@ add-result : tie.Need-add-result
 add-result c =
     let st = c .before .before in
     omega (arith, step-room (st .args .s .now) (st .args .at) (st .pre .0) (st .pre .1))
-
-sub-result : tie.Need-sub-result
-sub-result c = search needs
-
-part-result-start : tie.Need-part-result-start
-part-result-start c = search needs
 
 part-result-end : tie.Need-part-result-end
 part-result-end c =
@@ -46,11 +34,11 @@ pub literals-at-spec : {M : Type 1} → statement M
 literals-at-spec =
     tie.close
     (tie.spec
-    add-cursor
-    cursor-requires
+    (λ c. search needs)
+    (λ c κs. search needs)
     mul-result
     add-result
-    sub-result
-    part-result-start
+    (λ c. search needs)
+    (λ c. search needs)
     part-result-end
     returns)

@@ -9,15 +9,6 @@ use Rattle.refutation_file.proofs.Places.{cut-here, frame-room, bad-her
 use Rattle.refutation_file.proofs.steps.step_at.Statement.{statement}
 use Rattle.refutation_file.proofs.steps.step_at.Tie as tie
 
-frame-at-requires : tie.Need-frame-at-requires
-frame-at-requires c κs = search needs
-
-enum-told : tie.Need-enum-told
-enum-told c = search needs
-
-enum-known-kind : tie.Need-enum-known-kind
-enum-known-kind c = search needs
-
 returns : tie.Need-returns
 returns c =
     let st = c .before .before .before .before .before .before in
@@ -29,9 +20,6 @@ returns c =
     bad-here (st .args .s .now) (st .args .at) (st .pre) framed (λ g. omega arith))
     (c .if1 .came)
 
-add-pair : tie.Need-add-pair
-add-pair c = search needs
-
 pair-requires : tie.Need-pair-requires
 pair-requires c κs =
     let st = c .before .before .before .before .before .before .before in
@@ -39,27 +27,12 @@ pair-requires c κs =
     let framed = sym (k .before .before .frame-at .ensures .0) ∙ k .kind .given .1 in
     omega (arith, frame-room (st .args .s .now) (st .args .at) (st .pre) framed, ltb-false (k .kind .given .0 .1 .0) 2 (c .if2 .left))
 
-sub-if3 : tie.Need-sub-if3
-sub-if3 c = search needs
-
-mul-if3 : tie.Need-mul-if3
-mul-if3 c = search needs
-
 returns-2 : tie.Need-returns-2
 returns-2 c =
     let st = c .before .before .before .before .before .before .before .before .before in
     let k = c .before .before .before .before .before in
     let framed = sym (k .before .before .frame-at .ensures .0) ∙ k .kind .given .1 in
     bad-here (st .args .s .now) (st .args .at) (st .pre) framed (λ g. omega (arith, c .before .pair .ensures))
-
-sub-rest : tie.Need-sub-rest
-sub-rest c = search needs
-
-mul-rest : tie.Need-mul-rest
-mul-rest c = search needs
-
-sub-rest-2 : tie.Need-sub-rest-2
-sub-rest-2 c = search needs
 
 returns-3 : tie.Need-returns-3
 returns-3 c =
@@ -88,18 +61,18 @@ pub step-at-spec : {M : Type 1} → statement M
 step-at-spec =
     tie.close
     (tie.spec
-    frame-at-requires
-    enum-told
-    enum-known-kind
+    (λ c κs. search needs)
+    (λ c. search needs)
+    (λ c. search needs)
     returns
-    add-pair
+    (λ c. search needs)
     pair-requires
-    sub-if3
-    mul-if3
+    (λ c. search needs)
+    (λ c. search needs)
     returns-2
-    sub-rest
-    mul-rest
-    sub-rest-2
+    (λ c. search needs)
+    (λ c. search needs)
+    (λ c. search needs)
     returns-3
     returns-4
     returns-5)

@@ -41,12 +41,6 @@ module _ (c : tie.After-literals) where
   whole : stepFound (drop (start .args .at) (now (start .args .r))) ≡ Whole literals hints
   whole = sym (c .before .before .step-at .ensures .0) ∙ c .literals .given .1
 
-literals-at-requires : tie.Need-literals-at-requires
-literals-at-requires c κs = (start (c .before) .pre .0, whole (c .before))
-
-hints-at-requires : tie.Need-hints-at-requires
-hints-at-requires c κs = (start (c .before .before) .pre .0, whole (c .before .before))
-
 -- its lists are at hand
 module _ (c : tie.After-hints-at) where
   abbrev step : tie.After-literals
@@ -161,9 +155,6 @@ mul-starts c =
     let x = roomy (ruled c .before) in
     scaled-fits _ _ 8 (entry x) (first x .good .1 .1 .1 .1 .0 .1)
 
-slice-write-starts : tie.Need-slice-write-starts
-slice-write-starts c = entry (roomy (ruled c .before))
-
 says-proved : tie.Need-returns-6
 says-proved c =
     let x = roomy (ruled c .before) in
@@ -179,8 +170,8 @@ check-step-spec =
     (λ c κs. search needs)
     (λ c. search needs)
     (λ c. search needs)
-    literals-at-requires
-    hints-at-requires
+    (λ c κs. (start (c .before) .pre .0, whole (c .before)))
+    (λ c κs. (start (c .before .before) .pre .0, whole (c .before .before)))
     (λ c κs. search needs)
     says-18
     (λ c. search needs)
@@ -200,7 +191,7 @@ check-step-spec =
     says-20
     store-clause-requires
     mul-starts
-    slice-write-starts
+    (λ c. entry (roomy (ruled c .before)))
     says-17
     (λ c. search needs)
     (λ c. search needs)

@@ -21,12 +21,6 @@ Inv-loop r words₀ starts₀ values₀ trail₀ filled₀ at₀ step₀ words s
 abbrev μ-loop : tie.MeasureT-loop
 μ-loop r words₀ starts₀ values₀ trail₀ filled₀ at₀ step₀ words starts values trail filled at step = length r - at
 
-loop-holds : tie.Need-loop-holds Inv-loop μ-loop
-loop-holds c = sets-out _ (c .before .before .before .before .pre)
-
-check-step-requires : tie.Need-check-step-requires Inv-loop μ-loop
-check-step-requires c κs = let known = c .before .before .before .before .before .loop .inv in (known .within, known .ready)
-
 -- behind the check of a step, with the slices at hand again
 module _ (c : tie.After-slice-known6 Inv-loop μ-loop) where
   -- the check, the head of the loop, and the function's entry
@@ -92,9 +86,6 @@ module _ (c : tie.After-literals Inv-loop μ-loop) where
       let e : length (check here .check-step .last .1 .1 .1 .1 .0) ≡ length (head here .loop .starts) = search needs in
       omega (arith, said .1 .0 .startsRoom, e, head here .loop .inv .startsLength)
 
-step-end-requires : tie.Need-step-end-requires Inv-loop μ-loop
-step-end-requires c κs = omega (arith, end (c .before))
-
 -- the empty step
 returns-2 : tie.Need-returns-2 Inv-loop μ-loop
 returns-2 c =
@@ -113,12 +104,6 @@ returns-3 c =
 -- a step with literals
 abbrev proved : tie.Else1 Inv-loop μ-loop → tie.After-literals Inv-loop μ-loop
 proved c = c .before .before .before
-
-add-filled : tie.Need-add-filled Inv-loop μ-loop
-add-filled c = omega (arith, words-room (proved c))
-
-add-filled-2 : tie.Need-add-filled-2 Inv-loop μ-loop
-add-filled-2 c = omega (arith, words-room (proved (c .before)))
 
 add-filled-3 : tie.Need-add-filled-3 Inv-loop μ-loop
 add-filled-3 c =
@@ -153,8 +138,8 @@ check-steps-spec =
     (tie.spec
     Inv-loop
     μ-loop
-    loop-holds
-    check-step-requires
+    (λ c. sets-out _ (c .before .before .before .before .pre))
+    (λ c κs. let known = c .before .before .before .before .before .loop .inv in (known .within, known .ready))
     (λ c. search needs)
     (λ c κs. search needs)
     (λ c. search needs)
@@ -163,7 +148,7 @@ check-steps-spec =
     (λ c. search needs)
     returns
     (λ c. search needs)
-    step-end-requires
+    (λ c κs. omega (arith, end (c .before)))
     (λ c. search needs)
     (λ c. search needs)
     (λ c. search needs)
@@ -174,8 +159,8 @@ check-steps-spec =
     (λ c. search needs)
     (λ c. search needs)
     returns-3
-    add-filled
-    add-filled-2
+    (λ c. omega (arith, words-room (proved c)))
+    (λ c. omega (arith, words-room (proved (c .before))))
     add-filled-3
     add-step
     loop-less

@@ -12,27 +12,6 @@ use Rattle.sections.proofs.Stored.{sets-of}
 use Rattle.sections.proofs.labels.join.Statement.{statement}
 use Rattle.sections.proofs.labels.join.Tie as tie
 
-mul-one : tie.Need-mul-one
-mul-one c = search needs
-
-slice-read-one : tie.Need-slice-read-one
-slice-read-one c = search needs
-
-mul-other : tie.Need-mul-other
-mul-other c = search needs
-
-slice-read-other : tie.Need-slice-read-other
-slice-read-other c = search needs
-
-merge-requires : tie.Need-merge-requires
-merge-requires c κs = search needs
-
-merge-requires-2 : tie.Need-merge-requires-2
-merge-requires-2 c κs = search needs
-
-same-length : tie.Need-same-length
-same-length c = search needs
-
 -- the two labels
 module _ (c : tie.Start) where
   abbrev labels : List ℕ
@@ -51,9 +30,6 @@ returns c =
     let l : one g < other g = a .if1 .taken in
     c .before .before .merge .ensures
     ∙ ap (sets (labels g) 0) (merged-joined (one g) (other g) _ _ (omega arith) (omega arith) (labels g) _)
-
-same-length-2 : tie.Need-same-length-2
-same-length-2 c = search needs
 
 returns-2 : tie.Need-returns-2
 returns-2 c =
@@ -74,14 +50,14 @@ pub join-spec : {M : Type 1} → statement M
 join-spec =
     tie.close
     (tie.spec
-    mul-one
-    slice-read-one
-    mul-other
-    slice-read-other
-    merge-requires
-    merge-requires-2
-    same-length
+    (λ c. search needs)
+    (λ c. search needs)
+    (λ c. search needs)
+    (λ c. search needs)
+    (λ c κs. search needs)
+    (λ c κs. search needs)
+    (λ c. search needs)
     returns
-    same-length-2
+    (λ c. search needs)
     returns-2
     returns-3)

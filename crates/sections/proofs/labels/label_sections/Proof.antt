@@ -34,9 +34,6 @@ loop-holds c =
     let g = d .before .before .before .before .before in
     (omega arith, labelled-start (g .args .b) (g .pre .0) _ _ (g .pre .1) _ _ (g .pre .3) (d .number-labels .ensures))
 
-add-loop : tie.Need-add-loop Inv-loop μ-loop
-add-loop c = omega arith
-
 -- a turn
 module _ (c : tie.In-loop Inv-loop μ-loop) where
   abbrev given : tie.Start Inv-loop μ-loop
@@ -57,34 +54,10 @@ module _ (c : tie.In-loop Inv-loop μ-loop) where
       labelled-meets (given .args .b) (given .pre .0) _ meets (given .pre .1) at _ _ (c .before .loop .inv .1)
       (c .loop-test .taken)
 
-shared-slice-read-wide : tie.Need-shared-slice-read-wide Inv-loop μ-loop
-shared-slice-read-wide c = omega (arith, room (c .before))
-
-wide-requires : tie.Need-wide-requires Inv-loop μ-loop
-wide-requires c κs = search needs
-
 shared-slice-read-if1 : tie.Need-shared-slice-read-if1 Inv-loop μ-loop
 shared-slice-read-if1 c =
     let d = c .before .before .before in
     omega (arith, met d .0, given d .pre .2, c .before .wide .ensures .0)
-
-add-wide : tie.Need-add-wide Inv-loop μ-loop
-add-wide c = omega arith
-
-shared-slice-read-wide-2 : tie.Need-shared-slice-read-wide-2 Inv-loop μ-loop
-shared-slice-read-wide-2 c = omega (arith, room (c .before .before .before .before .before .before))
-
-wide-requires-2 : tie.Need-wide-requires-2 Inv-loop μ-loop
-wide-requires-2 c κs = search needs
-
-add-wide-2 : tie.Need-add-wide-2 Inv-loop μ-loop
-add-wide-2 c = omega arith
-
-shared-slice-read-wide-3 : tie.Need-shared-slice-read-wide-3 Inv-loop μ-loop
-shared-slice-read-wide-3 c = omega (arith, room (c .before .before .before .before .before .before .before .before))
-
-wide-requires-3 : tie.Need-wide-requires-3 Inv-loop μ-loop
-wide-requires-3 c κs = search needs
 
 join-requires : tie.Need-join-requires Inv-loop μ-loop
 join-requires c κs =
@@ -93,12 +66,6 @@ join-requires c κs =
       omega (arith, met d .1, c .before .before .wide2 .ensures .0),
       omega (arith, met d .2, c .wide3 .ensures .0),
     )
-
-add-at : tie.Need-add-at Inv-loop μ-loop
-add-at c = omega arith
-
-loop-less : tie.Need-loop-less Inv-loop μ-loop
-loop-less c = omega arith
 
 -- a turn joins two sections where the node is no border
 module _ (c : tie.Joined1 Inv-loop μ-loop) where
@@ -127,9 +94,6 @@ module _ (c : tie.Joined1 Inv-loop μ-loop) where
       (from-true (node-is _ (eq-eqb _ _ (w .0 .left)))) _ (w .1))
       (c .if1 .came)
 
-loop-again : tie.Need-loop-again Inv-loop μ-loop
-loop-again c = (omega arith, turn c)
-
 same-length : tie.Need-same-length Inv-loop μ-loop
 same-length c =
     c .before .loop .inv .1 .size ∙ sym (c .before .before .before .before .before .before .before .before .before .pre .3)
@@ -149,19 +113,19 @@ label-sections-spec =
     μ-loop
     number-labels-requires
     loop-holds
-    add-loop
-    shared-slice-read-wide
-    wide-requires
+    (λ c. omega arith)
+    (λ c. omega (arith, room (c .before)))
+    (λ c κs. search needs)
     shared-slice-read-if1
-    add-wide
-    shared-slice-read-wide-2
-    wide-requires-2
-    add-wide-2
-    shared-slice-read-wide-3
-    wide-requires-3
+    (λ c. omega arith)
+    (λ c. omega (arith, room (c .before .before .before .before .before .before)))
+    (λ c κs. search needs)
+    (λ c. omega arith)
+    (λ c. omega (arith, room (c .before .before .before .before .before .before .before .before)))
+    (λ c κs. search needs)
     join-requires
-    add-at
-    loop-less
-    loop-again
+    (λ c. omega arith)
+    (λ c. omega arith)
+    (λ c. (omega arith, turn c))
     same-length
     returns)

@@ -26,27 +26,6 @@ loop-holds : tie.Need-loop-holds Inv-loop μ-loop
 unfolding upTo count
 loop-holds c = (omega arith, refl, refl)
 
-mul-merged-label : tie.Need-mul-merged-label Inv-loop μ-loop
-mul-merged-label c = omega arith
-
-slice-read-merged-label : tie.Need-slice-read-merged-label Inv-loop μ-loop
-slice-read-merged-label c = omega arith
-
-merged-label-requires : tie.Need-merged-label-requires Inv-loop μ-loop
-merged-label-requires c κs = search needs
-
-mul-labels : tie.Need-mul-labels Inv-loop μ-loop
-mul-labels c = omega arith
-
-slice-write-labels : tie.Need-slice-write-labels Inv-loop μ-loop
-slice-write-labels c = omega arith
-
-add-s : tie.Need-add-s Inv-loop μ-loop
-add-s c = omega arith
-
-loop-less : tie.Need-loop-less Inv-loop μ-loop
-loop-less c = omega arith
-
 loop-again : tie.Need-loop-again Inv-loop μ-loop
 loop-again c =
     let k = c .before .before .before in
@@ -55,9 +34,6 @@ loop-again c =
     let same = read-behind (k .loop .s) (now (a .labels)) _ (stored _ (k .loop .s) _ (omega arith) _ (i .2) .behind) in
     let label = c .merged-label .ensures ∙ ap (mergedLabel (a .from) (a .to)) same in
     (omega arith, simp length-set (i .1), stored-next _ (k .loop .s) _ _ _ (i .2) label)
-
-same-length : tie.Need-same-length Inv-loop μ-loop
-same-length c = c .before .loop .inv .1
 
 returns : tie.Need-returns Inv-loop μ-loop
 returns c =
@@ -71,13 +47,13 @@ merge-spec =
     Inv-loop
     μ-loop
     loop-holds
-    mul-merged-label
-    slice-read-merged-label
-    merged-label-requires
-    mul-labels
-    slice-write-labels
-    add-s
-    loop-less
+    (λ c. omega arith)
+    (λ c. omega arith)
+    (λ c κs. search needs)
+    (λ c. omega arith)
+    (λ c. omega arith)
+    (λ c. omega arith)
+    (λ c. omega arith)
     loop-again
-    same-length
+    (λ c. c .before .loop .inv .1)
     returns)

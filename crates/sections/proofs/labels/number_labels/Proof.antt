@@ -22,25 +22,10 @@ loop-holds : tie.Need-loop-holds Inv-loop μ-loop
 unfolding upTo count
 loop-holds c = (omega arith, refl, refl)
 
-mul-labels : tie.Need-mul-labels Inv-loop μ-loop
-mul-labels c = omega arith
-
-slice-write-labels : tie.Need-slice-write-labels Inv-loop μ-loop
-slice-write-labels c = omega arith
-
-add-s : tie.Need-add-s Inv-loop μ-loop
-add-s c = omega arith
-
-loop-less : tie.Need-loop-less Inv-loop μ-loop
-loop-less c = omega arith
-
 loop-again : tie.Need-loop-again Inv-loop μ-loop
 loop-again c =
     let i = c .before .loop .inv in
     (omega arith, simp length-set (i .1), stored-next _ _ _ _ _ (i .2) refl)
-
-same-length : tie.Need-same-length Inv-loop μ-loop
-same-length c = c .before .loop .inv .1
 
 returns : tie.Need-returns Inv-loop μ-loop
 returns c =
@@ -54,10 +39,10 @@ number-labels-spec =
     Inv-loop
     μ-loop
     loop-holds
-    mul-labels
-    slice-write-labels
-    add-s
-    loop-less
+    (λ c. omega arith)
+    (λ c. omega arith)
+    (λ c. omega arith)
+    (λ c. omega arith)
     loop-again
-    same-length
+    (λ c. c .before .loop .inv .1)
     returns)

@@ -15,9 +15,6 @@ Inv-loop runs r l n q₀ q = (q ≤ n) × (firstAt runs l n r ≡ leastFrom (fol
 abbrev μ-loop : tie.MeasureT-loop
 μ-loop runs r l n q₀ q = n - q
 
-loop-holds : tie.Need-loop-holds Inv-loop μ-loop
-loop-holds c = let e : c .before .args .n - 0 ≡ c .before .args .n = omega arith in (omega arith, rw e)
-
 follows-requires : tie.Need-follows-requires Inv-loop μ-loop
 follows-requires c κs =
     let p = c .before .before .before .pre in
@@ -28,12 +25,6 @@ returns c =
     let s = c .before in
     let t = s .before in
     sym (t .before .loop .inv .1 ∙ least-here _ _ _ (t .loop-test .taken) (sym (s .follows .ensures) ∙ c .if1 .taken))
-
-add-q : tie.Need-add-q Inv-loop μ-loop
-add-q c = omega arith
-
-loop-less : tie.Need-loop-less Inv-loop μ-loop
-loop-less c = omega arith
 
 loop-again : tie.Need-loop-again Inv-loop μ-loop
 loop-again c =
@@ -52,10 +43,10 @@ first-follower-spec =
     (tie.spec
     Inv-loop
     μ-loop
-    loop-holds
+    (λ c. let e : c .before .args .n - 0 ≡ c .before .args .n = omega arith in (omega arith, rw e))
     follows-requires
     returns
-    add-q
-    loop-less
+    (λ c. omega arith)
+    (λ c. omega arith)
     loop-again
     returns-2)

@@ -16,21 +16,6 @@ Inv-loop runs q l n p₀ p = (p ≤ n) × (nextAt runs l n q ≡ leastFrom (alik
 abbrev μ-loop : tie.MeasureT-loop
 μ-loop runs q l n p₀ p = n - p
 
-add-p : tie.Need-add-p Inv-loop μ-loop
-add-p c = omega arith
-
-loop-holds : tie.Need-loop-holds Inv-loop μ-loop
-loop-holds c = (omega arith, refl)
-
-start-of-requires : tie.Need-start-of-requires Inv-loop μ-loop
-start-of-requires c κs = omega arith
-
-start-of-requires-2 : tie.Need-start-of-requires-2 Inv-loop μ-loop
-start-of-requires-2 c κs = omega arith
-
-same-places-requires : tie.Need-same-places-requires Inv-loop μ-loop
-same-places-requires c κs = (omega arith, omega arith)
-
 -- the test is whether run p starts where q does
 module _ (c : tie.After-same-places Inv-loop μ-loop) where
   abbrev inside : tie.In-loop Inv-loop μ-loop
@@ -50,12 +35,6 @@ returns c =
     let s = c .before in
     sym (inside s .before .loop .inv .1 ∙ least-here _ _ _ (inside s .loop-test .taken) (sym (tested s) ∙ c .if1 .taken))
 
-add-p-2 : tie.Need-add-p-2 Inv-loop μ-loop
-add-p-2 c = omega arith
-
-loop-less : tie.Need-loop-less Inv-loop μ-loop
-loop-less c = omega arith
-
 loop-again : tie.Need-loop-again Inv-loop μ-loop
 loop-again c =
     let s = c .before in (
@@ -74,13 +53,13 @@ next-alike-spec =
     (tie.spec
     Inv-loop
     μ-loop
-    add-p
-    loop-holds
-    start-of-requires
-    start-of-requires-2
-    same-places-requires
+    (λ c. omega arith)
+    (λ c. (omega arith, refl))
+    (λ c κs. omega arith)
+    (λ c κs. omega arith)
+    (λ c κs. (omega arith, omega arith))
     returns
-    add-p-2
-    loop-less
+    (λ c. omega arith)
+    (λ c. omega arith)
     loop-again
     returns-2)

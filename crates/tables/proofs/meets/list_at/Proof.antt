@@ -25,29 +25,8 @@ Inv-loop node table₀ at b n end₀ s₀ table end s =
 abbrev μ-loop : tie.MeasureT-loop
 μ-loop node table₀ at b n end₀ s₀ table end s = n - s
 
-loop-holds : tie.Need-loop-holds Inv-loop μ-loop
-loop-holds c = (omega arith, omega arith, listed-none _ _ _)
-
 full : (c : tie.Start Inv-loop μ-loop) → length (c .args .t1 .segments) ≡ 64
 full c = search (needs, length-of-map)
-
-mul-touches : tie.Need-mul-touches Inv-loop μ-loop
-mul-touches c = omega arith
-
-element-copy-out-touches : tie.Need-element-copy-out-touches Inv-loop μ-loop
-element-copy-out-touches c = omega arith
-
-touches-requires : tie.Need-touches-requires Inv-loop μ-loop
-touches-requires c κs = search needs
-
-list-of-requires : tie.Need-list-of-requires Inv-loop μ-loop
-list-of-requires c κs = search needs
-
-add-s : tie.Need-add-s Inv-loop μ-loop
-add-s c = omega arith
-
-loop-less : tie.Need-loop-less Inv-loop μ-loop
-loop-less c = omega arith
 
 -- a turn lists what meets one segment
 module _ (c : tie.Joined1 Inv-loop μ-loop) where
@@ -76,9 +55,6 @@ loop-again c =
     let l = turn c in
     (omega arith, omega (arith, l .ends, firsts-most (g .args .t1) (g .pre .0) (full g) (g .args .node) (s c + 1)), l)
 
-same-length : tie.Need-same-length Inv-loop μ-loop
-same-length c = listed-length _ _ _ (c .before .loop .inv .2)
-
 returns : tie.Need-returns Inv-loop μ-loop
 returns c =
     let k = c .before in
@@ -92,13 +68,13 @@ list-at-spec =
     (tie.spec
     Inv-loop
     μ-loop
-    loop-holds
-    mul-touches
-    element-copy-out-touches
-    touches-requires
-    list-of-requires
-    add-s
-    loop-less
+    (λ c. (omega arith, omega arith, listed-none _ _ _))
+    (λ c. omega arith)
+    (λ c. omega arith)
+    (λ c κs. search needs)
+    (λ c κs. search needs)
+    (λ c. omega arith)
+    (λ c. omega arith)
     loop-again
-    same-length
+    (λ c. listed-length _ _ _ (c .before .loop .inv .2))
     returns)

@@ -21,23 +21,11 @@ Inv-loop b table₀ n end₀ node₀ table end node =
 abbrev μ-loop : tie.MeasureT-loop
 μ-loop b table₀ n end₀ node₀ table end node = n - node
 
-loop-holds : tie.Need-loop-holds Inv-loop μ-loop
-loop-holds c = (omega arith, omega arith, listed-none _ _ _)
-
 full : (c : tie.Start Inv-loop μ-loop) → length (c .args .b .segments) ≡ 64
 full c = search (needs, length-of-map)
 
 nodes-full : (c : tie.Start Inv-loop μ-loop) → length (c .args .b .nodes) ≡ 96
 nodes-full c = search needs
-
-list-at-requires : tie.Need-list-at-requires Inv-loop μ-loop
-list-at-requires c κs = search needs
-
-add-node : tie.Need-add-node Inv-loop μ-loop
-add-node c = omega arith
-
-loop-less : tie.Need-loop-less Inv-loop μ-loop
-loop-less c = omega arith
 
 loop-again : tie.Need-loop-again Inv-loop μ-loop
 loop-again c =
@@ -46,9 +34,6 @@ loop-again c =
     let call = c .before .before .list-at .ensures in
     let l = listed-next _ _ _ (k .loop .inv .2) (call .0) (call .1) in
     (omega arith, omega (arith, l .ends, nodes-most (g .args .b) (g .pre) (full g) (k .loop .node + 1)), l)
-
-same-length : tie.Need-same-length Inv-loop μ-loop
-same-length c = listed-length _ _ _ (c .before .loop .inv .2)
 
 returns : tie.Need-returns Inv-loop μ-loop
 returns c =
@@ -64,10 +49,10 @@ list-meets-spec =
     (tie.spec
     Inv-loop
     μ-loop
-    loop-holds
-    list-at-requires
-    add-node
-    loop-less
+    (λ c. (omega arith, omega arith, listed-none _ _ _))
+    (λ c κs. search needs)
+    (λ c. omega arith)
+    (λ c. omega arith)
     loop-again
-    same-length
+    (λ c. listed-length _ _ _ (c .before .loop .inv .2))
     returns)

@@ -22,50 +22,8 @@ Inv-loop node s table₀ at b n first end₀ u₀ table end u = (u ≤ n) × (en
 abbrev μ-loop : tie.MeasureT-loop
 μ-loop node s table₀ at b n first end₀ u₀ table end u = n - u
 
-mul-first : tie.Need-mul-first Inv-loop μ-loop
-mul-first c = omega arith
-
-element-copy-out-first : tie.Need-element-copy-out-first Inv-loop μ-loop
-element-copy-out-first c = omega arith
-
-loop-holds : tie.Need-loop-holds Inv-loop μ-loop
-loop-holds c = (omega arith, omega arith, listed-none _ _ _)
-
 full : (c : tie.Start Inv-loop μ-loop) → length (c .args .t1 .segments) ≡ 64
 full c = search (needs, length-of-map)
-
-mul-meet : tie.Need-mul-meet Inv-loop μ-loop
-mul-meet c = omega arith
-
-element-copy-out-meet : tie.Need-element-copy-out-meet Inv-loop μ-loop
-element-copy-out-meet c = omega arith
-
-meet-requires : tie.Need-meet-requires Inv-loop μ-loop
-meet-requires c κs = search needs
-
-store-byte-requires : tie.Need-store-byte-requires Inv-loop μ-loop
-store-byte-requires c κs = search needs
-
-add-store-byte : tie.Need-add-store-byte Inv-loop μ-loop
-add-store-byte c = omega arith
-
-store-byte-requires-2 : tie.Need-store-byte-requires-2 Inv-loop μ-loop
-store-byte-requires-2 c κs = search needs
-
-add-store-byte-2 : tie.Need-add-store-byte-2 Inv-loop μ-loop
-add-store-byte-2 c = omega arith
-
-store-byte-requires-3 : tie.Need-store-byte-requires-3 Inv-loop μ-loop
-store-byte-requires-3 c κs = search needs
-
-add-end : tie.Need-add-end Inv-loop μ-loop
-add-end c = omega arith
-
-add-u : tie.Need-add-u Inv-loop μ-loop
-add-u c = omega arith
-
-loop-less : tie.Need-loop-less Inv-loop μ-loop
-loop-less c = omega arith
 
 -- a turn lists the pair where it meets
 module _ (c : tie.Joined1 Inv-loop μ-loop) where
@@ -99,9 +57,6 @@ loop-again c =
     let l = turn c in
     (omega arith, omega (arith, l .ends, pairs-most (held (a .t1)) (a .node) (a .s) (u c + 1)), l)
 
-same-length : tie.Need-same-length Inv-loop μ-loop
-same-length c = listed-length _ _ _ (c .before .loop .inv .2)
-
 returns : tie.Need-returns Inv-loop μ-loop
 returns c =
     let k = c .before in
@@ -116,20 +71,20 @@ list-of-spec =
     (tie.spec
     Inv-loop
     μ-loop
-    mul-first
-    element-copy-out-first
-    loop-holds
-    mul-meet
-    element-copy-out-meet
-    meet-requires
-    store-byte-requires
-    add-store-byte
-    store-byte-requires-2
-    add-store-byte-2
-    store-byte-requires-3
-    add-end
-    add-u
-    loop-less
+    (λ c. omega arith)
+    (λ c. omega arith)
+    (λ c. (omega arith, omega arith, listed-none _ _ _))
+    (λ c. omega arith)
+    (λ c. omega arith)
+    (λ c κs. search needs)
+    (λ c κs. search needs)
+    (λ c. omega arith)
+    (λ c κs. search needs)
+    (λ c. omega arith)
+    (λ c κs. search needs)
+    (λ c. omega arith)
+    (λ c. omega arith)
+    (λ c. omega arith)
     loop-again
-    same-length
+    (λ c. listed-length _ _ _ (c .before .loop .inv .2))
     returns)

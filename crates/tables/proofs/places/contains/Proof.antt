@@ -25,18 +25,9 @@ Inv-loop table at l segment end i₀ i =
 abbrev μ-loop : tie.MeasureT-loop
 μ-loop table at l segment end i₀ i = end - i
 
-add-end : tie.Need-add-end Inv-loop μ-loop
-add-end c = omega arith
-
 loop-holds : tie.Need-loop-holds Inv-loop μ-loop
 unfolding paths.contains has placeAt
 loop-holds c = any-map _ _ _
-
-shared-slice-read-wide : tie.Need-shared-slice-read-wide Inv-loop μ-loop
-shared-slice-read-wide c = omega arith
-
-wide-requires : tie.Need-wide-requires Inv-loop μ-loop
-wide-requires c κs = search needs
 
 -- a turn: the segment of this element, or those behind it
 module _ (c : tie.After-wide Inv-loop μ-loop) where
@@ -55,33 +46,18 @@ module _ (c : tie.After-wide Inv-loop μ-loop) where
       ∙ any-next _ _ _ 0 (c .before .before .loop-test .taken) (omega arith) _
       ∙ simp (c .wide .ensures .0)
 
-returns : tie.Need-returns Inv-loop μ-loop
-returns c = let h = eq-eqb _ _ (c .if1 .taken) in sym (turn (c .before) ∙ simp h)
-
-add-i : tie.Need-add-i Inv-loop μ-loop
-add-i c = omega arith
-
-loop-less : tie.Need-loop-less Inv-loop μ-loop
-loop-less c = omega arith
-
-loop-again : tie.Need-loop-again Inv-loop μ-loop
-loop-again c = let h = ne-eqb _ _ (c .if1 .left) in turn (c .before) ∙ simp h
-
-returns-2 : tie.Need-returns-2 Inv-loop μ-loop
-returns-2 c = sym (c .before .loop .inv ∙ any-end _ _ _ (c .loop-test .left) _)
-
 pub contains-spec : {M : Type 1} → statement M
 contains-spec =
     tie.close
     (tie.spec
     Inv-loop
     μ-loop
-    add-end
+    (λ c. omega arith)
     loop-holds
-    shared-slice-read-wide
-    wide-requires
-    returns
-    add-i
-    loop-less
-    loop-again
-    returns-2)
+    (λ c. omega arith)
+    (λ c κs. search needs)
+    (λ c. let h = eq-eqb _ _ (c .if1 .taken) in sym (turn (c .before) ∙ simp h))
+    (λ c. omega arith)
+    (λ c. omega arith)
+    (λ c. let h = ne-eqb _ _ (c .if1 .left) in turn (c .before) ∙ simp h)
+    (λ c. sym (c .before .loop .inv ∙ any-end _ _ _ (c .loop-test .left) _)))

@@ -28,18 +28,6 @@ loop-holds : tie.Need-loop-holds Inv-loop μ-loop
 unfolding placeAt
 loop-holds c = (omega arith, simp add-zero)
 
-add-if1 : tie.Need-add-if1 Inv-loop μ-loop
-add-if1 c = omega arith
-
-shared-slice-read-if1 : tie.Need-shared-slice-read-if1 Inv-loop μ-loop
-shared-slice-read-if1 c = omega arith
-
-add-if1-2 : tie.Need-add-if1-2 Inv-loop μ-loop
-add-if1-2 c = omega arith
-
-shared-slice-read-if1-2 : tie.Need-shared-slice-read-if1-2 Inv-loop μ-loop
-shared-slice-read-if1-2 c = omega arith
-
 -- a turn: this pair of elements, and those behind it
 module _ (c : tie.In-loop Inv-loop μ-loop) where
   abbrev given : tie.Start Inv-loop μ-loop
@@ -59,21 +47,6 @@ module _ (c : tie.In-loop Inv-loop μ-loop) where
       && same (behind table (given .args .at) (given .args .l) (i + 1)) (behind others (given .args .from) (given .args .l) (i + 1)))
   turn = c .before .loop .inv .1 ∙ same-next _ _ _ _ _ _ (c .loop-test .taken) (given .pre .0) (given .pre .1)
 
-returns : tie.Need-returns Inv-loop μ-loop
-returns c = let h = ne-eqb _ _ (c .if1 .taken) in sym (turn (c .before .before .before) ∙ simp h)
-
-add-i : tie.Need-add-i Inv-loop μ-loop
-add-i c = omega arith
-
-loop-less : tie.Need-loop-less Inv-loop μ-loop
-loop-less c = omega arith
-
-loop-again : tie.Need-loop-again Inv-loop μ-loop
-loop-again c = let h = eq-eqb _ _ (c .if1 .left) in (omega arith, turn (c .before .before .before) ∙ simp h)
-
-returns-2 : tie.Need-returns-2 Inv-loop μ-loop
-returns-2 c = sym (c .before .loop .inv .1 ∙ same-end _ _ _ _ _ _ (c .loop-test .left))
-
 pub same-places-spec : {M : Type 1} → statement M
 same-places-spec =
     tie.close
@@ -81,12 +54,12 @@ same-places-spec =
     Inv-loop
     μ-loop
     loop-holds
-    add-if1
-    shared-slice-read-if1
-    add-if1-2
-    shared-slice-read-if1-2
-    returns
-    add-i
-    loop-less
-    loop-again
-    returns-2)
+    (λ c. omega arith)
+    (λ c. omega arith)
+    (λ c. omega arith)
+    (λ c. omega arith)
+    (λ c. let h = ne-eqb _ _ (c .if1 .taken) in sym (turn (c .before .before .before) ∙ simp h))
+    (λ c. omega arith)
+    (λ c. omega arith)
+    (λ c. let h = eq-eqb _ _ (c .if1 .left) in (omega arith, turn (c .before .before .before) ∙ simp h))
+    (λ c. sym (c .before .loop .inv .1 ∙ same-end _ _ _ _ _ _ (c .loop-test .left))))

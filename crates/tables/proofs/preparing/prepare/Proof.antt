@@ -1,7 +1,7 @@
 -- `preparing::prepare` meets its contract: of a book that passed, what meets is listed. Assumes nothing.
 use borrow.Author.Needs.{needs}
 use native.Mathlib.Omega.{arith}
-use mathlib.Core.Path.{_≡_, refl, sym, _∙_}
+use mathlib.Core.Path.{refl}
 use Rattle.reader.specs.declared.reading.BookRead.{BookRead}
 use Rattle.reader.proofs.Accepted.{never-accepted}
 use Rattle.reader.proofs.Packing.{segments-counted}

@@ -1,6 +1,6 @@
 -- `preparing::prepare_chains` meets its contract: the chains are those of the runs that were prepared. Assumes nothing.
 use borrow.Author.Needs.{needs}
-use mathlib.Core.Path.{_≡_, refl, ap, _∙_}
+use mathlib.Core.Path.{refl}
 use denote.Ref.{now}
 use Rattle.tables.specs.Ready.{RunsReady}
 use Rattle.tables.specs.declared.preparing.Prepared.{Prepared}
