@@ -1,18 +1,27 @@
 // Times the proved entry points, through the static library that `rt staticlib gentupag` writes, against the plain Rust of plain.rs and
-// checks.rs, on the books that make_books.py wrote. The two answers and outputs are compared first. Of interleaved runs the smallest
-// time of each is kept; slices are allocated and touched before.
+// checks.rs and the tuned Rust of tuned.rs, tuned_formula.rs and tuned_checks.rs, on the books that make_books.py wrote. The answers and
+// outputs are compared first, damaged inputs among them. Of interleaved runs the smallest time of each is kept; slices are allocated and
+// touched before.
 //
 //   python3 make_books.py && ./build.sh && ./bench
 //
-// RUNS=n sets the number of runs (7). A time is no test: nothing here fails for being slow.
+// RUNS=n sets the number of runs (7), ONLY=word leaves out files whose name has it not, DAMAGES=n sets how many damaged inputs of each
+// kind and file are compared (300). `./bench same FILE..` only compares, on other books. `./bench call WHAT WHO FILE N` makes N calls of
+// one function, for a profiler. A time is no test: nothing here fails for being slow.
 
 mod checks;
 mod plain;
 mod refutation;
+mod same;
+mod tuned;
+mod tuned_checks;
+mod tuned_formula;
 
 use checks::Lent;
+use same::Slices;
 use std::hint::black_box;
 use std::time::Instant;
+use tuned::Space;
 
 // The structs of include/gentupag.h, as far as they are looked at.
 #[repr(C)]
@@ -101,89 +110,143 @@ fn shown(s: f64) -> String {
     if s > 1e-3 { format!("{:.3} ms", s * 1e3) } else { format!("{:.3} us", s * 1e6) }
 }
 
-// Runs both in turns and prints the smallest time of each, and their ratio.
-fn compare(what: &str, calls: usize, rattle: &mut dyn FnMut(), rust: &mut dyn FnMut()) {
+// Runs the proved function and the others in turns, and prints the smallest time of the first and its ratio to each of the others.
+fn compare(what: &str, calls: usize, rattle: &mut dyn FnMut(), others: &mut [(&str, &mut dyn FnMut())]) {
     let runs = std::env::var("RUNS").ok().and_then(|s| s.parse().ok()).unwrap_or(7);
-    let mut best = [f64::INFINITY; 2];
+    let (mut ours, mut theirs) = (f64::INFINITY, vec![f64::INFINITY; others.len()]);
     for _ in 0..runs {
-        best[0] = best[0].min(seconds(calls, rattle));
-        best[1] = best[1].min(seconds(calls, rust));
+        ours = ours.min(seconds(calls, rattle));
+        for ((_, work), best) in others.iter_mut().zip(&mut theirs) {
+            *best = best.min(seconds(calls, work));
+        }
     }
-    println!("  {what:<34} Rattle {:>12}   Rust {:>12}   ratio {:.2}", shown(best[0]), shown(best[1]), best[0] / best[1]);
+    print!("  {what:<22} Rattle {:>11}", shown(ours));
+    for ((name, _), best) in others.iter().zip(&theirs) {
+        print!("   {name} {:>11} ratio {:>6.2}", shown(*best), ours / best);
+    }
+    println!();
 }
 
 fn load(name: &str) -> Vec<u8> {
     std::fs::read(name).unwrap_or_else(|e| panic!("{name}: {e}; make_books.py makes it"))
 }
 
+// Whether the files of this name are wanted.
+fn wanted(name: &str) -> bool {
+    std::env::var("ONLY").map_or(true, |word| name.contains(&word))
+}
+
 // Reading, and writing the formula.
-fn formulas(name: &str) {
+fn formulas(name: &str, space: &mut Space) {
     let book = load(name);
-    let (mut count, parts) = (plain::Count::default(), plain::read_book(&book).expect("a good book"));
-    plain::walk(&parts, &plain::tables(&parts), &mut count);
-    let (mut ours, mut theirs) = (vec![1i32; count.words], vec![1i32; count.words]);
-    plain::write_formula(&book, &mut ours).expect("room enough");
-    assert_eq!(proved::write_formula(&book, &mut theirs).map(|(_, clauses, words)| (clauses, words)), Ok((count.clauses, count.words)));
-    assert!(ours == theirs, "the outputs differ");
-    println!("{name}: {} clauses, {} words; outputs are equal", count.clauses, count.words);
-    let calls = (20_000_000 / count.words).clamp(1, 10_000);
-    compare("read", 1000, &mut || { black_box(proved::read_book(black_box(&book))).unwrap(); },
-        &mut || { let _ = black_box(plain::read_book(black_box(&book))); });
-    compare("write the formula", calls, &mut || { black_box(proved::write_formula(black_box(&book), &mut theirs)).unwrap(); },
-        &mut || { black_box(plain::write_formula(black_box(&book), &mut ours)).unwrap(); });
+    same::formulas(name, &book, space);
+    let totals = tuned_formula::prepare(&book, space).expect("a good book").totals;
+    let [mut one, mut two, mut three, mut four] = [(); 4].map(|_| vec![1i32; totals.words]);
+    println!("{name}: {} bytes, {} clauses, {} words; outputs are equal", book.len(), totals.clauses, totals.words);
+    let (mut other, calls) = (Space::new(), (20_000_000 / totals.words).clamp(1, 10_000));
+    compare("read", 1000, &mut || { black_box(proved::read_book(black_box(&book))).unwrap(); }, &mut [
+        ("plain", &mut || { let _ = black_box(plain::read_book(black_box(&book))); }),
+        ("tuned", &mut || { black_box(tuned::read_book::<true>(black_box(&book), space)).unwrap(); }),
+        ("lists anew", &mut || { black_box(tuned::read_book::<false>(black_box(&book), &mut other)).unwrap(); })]);
+    compare("write the formula", calls, &mut || { black_box(proved::write_formula(black_box(&book), &mut one)).unwrap(); }, &mut [
+        ("plain", &mut || { black_box(plain::write_formula(black_box(&book), &mut two)).unwrap(); }),
+        ("tuned", &mut || { black_box(tuned_formula::write_formula(black_box(&book), &mut three, space)).unwrap(); }),
+        ("fill", &mut || { black_box(&mut four[..]).fill(black_box(1)); })]);
 }
 
 // Checking a plan and its assignment.
-fn judgements(name: &str, plan_name: &str) {
+fn judgements(name: &str, plan_name: &str, space: &mut Space) {
     let (book, plan) = (load(name), load(plan_name));
-    let mut ours = vec![9u8; 1 << 20];
-    let n = checks::check_plan(&book, &plan, &mut ours).expect("a good plan");
-    ours.truncate(n);
-    let mut theirs = vec![9u8; n];
-    assert_eq!(proved::check_plan(&book, &plan, &mut theirs), Ok(n));
-    assert!(ours == theirs, "the assignments differ");
-    let assignment = ours.clone();
-    let (mut decoded, mut back) = (vec![9u8; plan.len()], vec![9u8; plan.len()]);
-    assert_eq!(checks::check_assignment(&book, &assignment, &mut decoded), Ok(plan.len()));
-    assert_eq!(proved::check_assignment(&book, &assignment, &mut back), Ok(plan.len()));
-    assert!(decoded == plan && back == plan, "the plans differ");
-    println!("{name} with its plan: {n} variables; outputs are equal");
-    compare("check the plan", 10, &mut || { black_box(proved::check_plan(black_box(&book), &plan, &mut theirs)).unwrap(); },
-        &mut || { black_box(checks::check_plan(black_box(&book), &plan, &mut ours)).unwrap(); });
-    compare("check the assignment", 1, &mut || { black_box(proved::check_assignment(black_box(&book), &assignment, &mut back)).unwrap(); },
-        &mut || { black_box(checks::check_assignment(black_box(&book), &assignment, &mut decoded)).unwrap(); });
+    let assignment = same::judgements(name, &book, &plan, space);
+    let [mut one, mut two, mut three] = [(); 3].map(|_| vec![9u8; assignment.len()]);
+    println!("{name} with its plan: {} variables; outputs are equal", assignment.len());
+    compare("check the plan", 20, &mut || { black_box(proved::check_plan(black_box(&book), &plan, &mut one)).unwrap(); }, &mut [
+        ("plain", &mut || { black_box(checks::check_plan(black_box(&book), &plan, &mut two)).unwrap(); }),
+        ("tuned", &mut || { black_box(tuned_checks::check_plan(black_box(&book), &plan, &mut three, space)).unwrap(); })]);
+    compare("check the assignment", 10, &mut || { black_box(proved::check_assignment(black_box(&book), &assignment, &mut one)).unwrap(); }, &mut [
+        ("plain", &mut || { black_box(checks::check_assignment(black_box(&book), &assignment, &mut two)).unwrap(); }),
+        ("tuned", &mut || { black_box(tuned_checks::check_assignment(black_box(&book), &assignment, &mut three, space)).unwrap(); })]);
+}
+
+// The formula's words and a refutation of so many steps, with its hints and the words that it adds.
+fn refutation_of(book: &[u8], steps: usize, space: &mut Space) -> (tuned_formula::Totals, Vec<u8>, usize, usize) {
+    let totals = tuned_formula::prepare(book, space).expect("a good book").totals;
+    let mut formula = vec![0i32; totals.words];
+    tuned_formula::write_formula(book, &mut formula, space).expect("room enough");
+    let (r, hints, added) = refutation::make(&formula, totals.variables, steps);
+    (totals, r, hints, added)
 }
 
 // Checking refutations of growing length.
-fn refutations(name: &str) {
+fn refutations(name: &str, space: &mut Space) {
     let book = load(name);
-    let parts = plain::read_book(&book).expect("a good book");
-    let tables = plain::tables(&parts);
-    let mut count = plain::Count::default();
-    plain::walk(&parts, &tables, &mut count);
-    let mut formula = vec![0i32; count.words];
-    plain::write_formula(&book, &mut formula).expect("room enough");
     for steps in [1_000, 10_000, 100_000] {
-        let (r, hints, added) = refutation::make(&formula, tables.variables, steps);
-        let (mut words, mut clauses) = (vec![1i32; count.words + added], vec![1usize; count.clauses + steps]);
-        let (mut values, mut trail) = (vec![1u8; tables.variables], vec![1usize; tables.variables]);
-        let mut lent = Lent { words: &mut words, clauses: &mut clauses, values: &mut values, trail: &mut trail };
-        assert_eq!(checks::check_refutation(&book, &r, &mut lent), Ok(()));
-        assert_eq!(proved::check_refutation(&book, &r, &mut lent), Ok(()));
-        println!("{name}: {steps} steps, {hints} hints, {} bytes, {} clauses and {} words in all; both accept", r.len(), lent.clauses.len(), lent.words.len());
-        let (mut w2, mut c2) = (lent.words.to_vec(), lent.clauses.to_vec());
-        let (mut v2, mut t2) = (lent.values.to_vec(), lent.trail.to_vec());
-        let mut other = Lent { words: &mut w2, clauses: &mut c2, values: &mut v2, trail: &mut t2 };
-        compare("check the refutation", 1, &mut || { black_box(proved::check_refutation(black_box(&book), &r, &mut lent)).unwrap(); },
-            &mut || { black_box(checks::check_refutation(black_box(&book), &r, &mut other)).unwrap(); });
+        let (totals, r, hints, added) = refutation_of(&book, steps, space);
+        let mut all = [(); 3].map(|_| Slices::new(totals.words + added, totals.clauses + steps, totals.variables));
+        same::refutations(name, &book, &r, &mut all, space);
+        let [mut one, mut two, mut three] = all.each_mut().map(|slices| slices.lent());
+        println!("{name}: {steps} steps, {hints} hints, {} bytes, {} clauses and {} words in all; all accept", r.len(), one.clauses.len(), one.words.len());
+        compare("check the refutation", 1, &mut || { black_box(proved::check_refutation(black_box(&book), &r, &mut one)).unwrap(); }, &mut [
+            ("plain", &mut || { black_box(checks::check_refutation(black_box(&book), &r, &mut two)).unwrap(); }),
+            ("tuned", &mut || { black_box(tuned_checks::check_refutation(black_box(&book), &r, &mut three, space)).unwrap(); })]);
     }
 }
 
+// Calls of one function, for a profiler: what is done, who does it (proved or tuned), a book, and how often.
+fn call(what: &str, who: &str, name: &str, times: usize, space: &mut Space) {
+    let book = load(name);
+    let totals = tuned_formula::prepare(&book, space).expect("a good book").totals;
+    let (mut words, mut bytes) = (vec![1i32; totals.words], vec![1u8; totals.variables]);
+    let mut work: Box<dyn FnMut()> = match (what, who) {
+        ("read", "proved") => Box::new(|| { black_box(proved::read_book(black_box(&book))).unwrap(); }),
+        ("read", _) => Box::new(|| { black_box(tuned::read_book::<true>(black_box(&book), space)).unwrap(); }),
+        ("write", "proved") => Box::new(|| { black_box(proved::write_formula(black_box(&book), &mut words)).unwrap(); }),
+        ("write", _) => Box::new(|| { black_box(tuned_formula::write_formula(black_box(&book), &mut words, space)).unwrap(); }),
+        ("plan" | "assignment", _) => {
+            let plan = load(&name.replace(".book", ".plan"));
+            tuned_checks::check_plan(&book, &plan, &mut bytes, space).expect("a good plan");
+            let (values, book) = (bytes.clone(), &book);
+            match (what, who) {
+                ("plan", "proved") => Box::new(move || { black_box(proved::check_plan(black_box(book), &plan, &mut bytes)).unwrap(); }),
+                ("plan", _) => Box::new(move || { black_box(tuned_checks::check_plan(black_box(book), &plan, &mut bytes, space)).unwrap(); }),
+                (_, "proved") => Box::new(move || { black_box(proved::check_assignment(black_box(book), &values, &mut bytes)).unwrap(); }),
+                _ => Box::new(move || { black_box(tuned_checks::check_assignment(black_box(book), &values, &mut bytes, space)).unwrap(); }),
+            }
+        }
+        _ => {
+            let steps = what.parse().expect("read, write, plan, assignment or a number of steps");
+            let (_, r, _, added) = refutation_of(&book, steps, space);
+            let mut slices = Slices::new(totals.words + added, totals.clauses + steps, totals.variables);
+            let (book, proved) = (&book, who == "proved");
+            Box::new(move || {
+                let mut lent = slices.lent();
+                black_box(if proved { proved::check_refutation(book, &r, &mut lent) } else { tuned_checks::check_refutation(book, &r, &mut lent, space) }).unwrap();
+            })
+        }
+    };
+    println!("{} a call", shown(seconds(times, &mut *work)));
+}
+
 fn main() {
-    for name in ["small_l.book", "ring_8.book", "ring_16.book", "ring_32.book", "big_ring.book", "big_star.book", "big_lanes.book"] {
-        formulas(name);
+    let mut space = Space::new();
+    let arguments: Vec<String> = std::env::args().skip(1).collect();
+    match arguments.iter().map(|s| &s[..]).collect::<Vec<_>>()[..] {
+        ["same", ref files @ ..] => files.iter().for_each(|name| same::all(name, &load(name), &mut space)),
+        ["call", what, who, name, times] => call(what, who, name, times.parse().expect("a number of calls"), &mut space),
+        _ => {
+            let rings = ["small_l.book", "ring_8.book", "ring_16.book", "ring_32.book", "big_ring.book"];
+            for name in rings.into_iter().chain(["big_star.book", "big_lanes.book"]).filter(|name| wanted(name)) {
+                formulas(name, &mut space);
+            }
+            for name in ["stand_16", "stand_64"].into_iter().filter(|name| wanted(name)) {
+                judgements(&format!("{name}.book"), &format!("{name}.plan"), &mut space);
+            }
+            if wanted("shut.book") {
+                refutations("shut.book", &mut space);
+            }
+        }
     }
-    judgements("stand_16.book", "stand_16.plan");
-    judgements("stand_64.book", "stand_64.plan");
-    refutations("shut.book");
+    if arguments.first().is_none_or(|word| word != "call") {
+        println!("equal answers and outputs, by the refusal's number: {}", same::tallied());
+    }
 }

@@ -1,6 +1,7 @@
 #!/usr/bin/env python3
 """Makes the books that bench.rs runs on. It takes how a book is written, document 01's book L and the reference from the package tools.
 
+  make_books.py random SEED DIR  writes random books, refused ones among them, for `./bench same`
   make_books.py [DIR]  writes big_star.book, big_ring.book, big_lanes.book, small_l.book, the smaller rings ring_8.book, ring_16.book and
                        ring_32.book, stand_16.book and stand_64.book with their plans, and shut.book into DIR, by default beside itself
 
@@ -10,6 +11,7 @@ reference must accept each (read_book raises otherwise).
 """
 
 import os
+import random
 import struct
 import sys
 
@@ -17,6 +19,8 @@ HERE = os.path.dirname(os.path.abspath(__file__))
 sys.path.insert(0, os.path.dirname(HERE))
 from tools.books import Spec, spec_bytes    # noqa: E402 (the path has to be right first)
 from tools.known import BOOK_L              # noqa: E402
+from tools.passing_books import make_book   # noqa: E402
+from tools.random_books import refused_books    # noqa: E402
 from tools.reference import read_book       # noqa: E402
 
 
@@ -103,6 +107,15 @@ def all_files():
     return files
 
 
+def write_random(seed, folder):
+    """700 random books, and 12 for each refusal of a book."""
+    rng = random.Random(seed)
+    books = [make_book(rng) for _ in range(700)] + [data for _, data in refused_books(rng, 12)]
+    for number, data in enumerate(filter(None, books)):
+        with open(os.path.join(folder, "random_%03d.book" % number), "wb") as f:
+            f.write(data)
+
+
 def main(folder):
     for name, data in all_files().items():
         with open(os.path.join(folder, name), "wb") as f:
@@ -115,4 +128,7 @@ def main(folder):
 
 
 if __name__ == "__main__":
-    main(sys.argv[1] if len(sys.argv) > 1 else HERE)
+    if sys.argv[1:2] == ["random"]:
+        write_random(int(sys.argv[2]), sys.argv[3])
+    else:
+        main(sys.argv[1] if len(sys.argv) > 1 else HERE)

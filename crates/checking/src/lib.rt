@@ -89,7 +89,8 @@ pub fn check_assignment(book: &[u8], values: &[u8], out: &mut [u8]) -> OutputAns
 fn write_plan(b: Book, counts: Counts, runs: &[u8], meets: &[u8], plan: &[u8], out: &mut [u8])
     requires { ⌜ RunsReady b counts (now runs) × MeetsReady b (now meets) × T (planFits (instanceOf (held b)) (now plan))
         × (variables (instanceOf (held b)) ≤ length (now out)) ⌝ }
-    ensures { λ _. ⌜ now (out .exit) ≡ overwrite (now (out .entry)) (assignment.encode (instanceOf (held b)) (planOf (instanceOf (held b)) (now (plan .entry)))) ⌝ }
+    ensures { λ _. ⌜ now (out .exit) ≡ overwrite (now (out .entry))
+        (assignment.encode (instanceOf (held b)) (planOf (instanceOf (held b)) (now (plan .entry)))) ⌝ }
 {
     let mut labels = [0usize; MAX_SEGMENTS];
     label_sections(b, meets, plan, &mut labels);

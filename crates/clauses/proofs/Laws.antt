@@ -9,13 +9,15 @@ use lib.IntN.{ℤ, pos, negsuc}
 use mir.Syntax.{w32}
 use mir.Val.{toZ, ofZ}
 use mir.Facts.{toZ-pos, toZ-neg}
+use lib.Dec.{eqb}
 use Rattle.laws.proofs.Tests.{nil-of-length}
 use Rattle.spec.specs.Lists.{Bytes, only, one}
 use Rattle.spec.specs.Formula.{is, not′}
+use Rattle.spec.specs.Plan.{bit}
 use Rattle.spec.specs.Assignment.{isTrue, assigned}
 use Rattle.demands.proofs.Meaning.{affirmed, denied′}
 use Rattle.clauses.specs.declared.Walk.{Walk}
-use Rattle.clauses.specs.Walked.{more, literal, closedBy, closed, word, walked, stored, Walks, literalRoom, most}
+use Rattle.clauses.specs.Walked.{more, holding, literal, closedBy, closed, word, walked, stored, Walks, literalRoom, most}
 
 -- ---- one word
 
@@ -35,8 +37,8 @@ not-said v l h e = ap (λ (z : ℤ). toZ w32 (ofZ w32 z)) e ∙ not-read v h
 
 module _ (values : Bytes) (w : Walk) (out : List ℤ) where
   -- a literal that affirms, from what its parts became; what is stored is read back from the bits of l
-  pub affirms : (v words : ℕ) (holds : Bool) (l : ℤ) (out′ : List ℤ) → v < literalRoom → words ≡ more (w .words) 1
-      → holds ≡ (w .holds || assigned values v) → l ≡ is v → out′ ≡ set out (w .words) (toZ w32 (ofZ w32 l))
+  pub affirms : (v words holds : ℕ) (l : ℤ) (out′ : List ℤ) → v < literalRoom → words ≡ more (w .words) 1
+      → holds ≡ bit (holding w || assigned values v) → l ≡ is v → out′ ≡ set out (w .words) (toZ w32 (ofZ w32 l))
       → Walks values (one (is v)) w out (record { words = words; clauses = w .clauses; holds = holds; wrong = w .wrong }) out′
   unfolding walked stored word literal
   affirms v words holds l out′ small e h i o = record {
@@ -45,8 +47,8 @@ module _ (values : Bytes) (w : Walk) (out : List ℤ) where
   }
 
   -- one that denies
-  pub denies : (v words : ℕ) (holds : Bool) (l : ℤ) (out′ : List ℤ) → v < literalRoom → words ≡ more (w .words) 1
-      → holds ≡ (w .holds || not (assigned values v)) → l ≡ not′ v → out′ ≡ set out (w .words) (toZ w32 (ofZ w32 l))
+  pub denies : (v words holds : ℕ) (l : ℤ) (out′ : List ℤ) → v < literalRoom → words ≡ more (w .words) 1
+      → holds ≡ bit (holding w || not (assigned values v)) → l ≡ not′ v → out′ ≡ set out (w .words) (toZ w32 (ofZ w32 l))
       → Walks values (one (not′ v)) w out (record { words = words; clauses = w .clauses; holds = holds; wrong = w .wrong }) out′
   unfolding walked stored word literal
   denies v words holds l out′ small e h i o = record {
@@ -55,7 +57,7 @@ module _ (values : Bytes) (w : Walk) (out : List ℤ) where
   }
 
   -- the end of a clause
-  pub closes : (w′ : Walk) (out′ : List ℤ) → w′ ≡ closedBy 1 (w .holds) w → out′ ≡ set out (w .words) (pos 0)
+  pub closes : (w′ : Walk) (out′ : List ℤ) → w′ ≡ closedBy 1 (holding w) w → out′ ≡ set out (w .words) (pos 0)
       → Walks values (one (pos 0)) w out w′ out′
   unfolding walked stored word closed
   closes w′ out′ e o = record { walk = e; output = o }
@@ -141,6 +143,12 @@ stored-four at a b c d rest out h =
     let e : min most (at + 3 + 1) ≡ at + 4 = omega arith in
     stored-three at a b c (d ∷ rest) out (omega arith) ∙ simp e
 
+-- a test, read back from its number
+pub flag-back : (t : Bool) → eqb (bit t) 1 ≡ t
+unfolding bit
+flag-back true = refl
+flag-back false = refl
+
 -- a literal, and not the 0 behind a clause
 abbrev pub IsLiteral : ℤ → Type 0
 IsLiteral l = (values : Bytes) (w : Walk) → word values l w ≡ literal values l w
@@ -156,15 +164,15 @@ denying v values w = refl
 -- the walk over a clause of two literals, which holds or not, and of three
 module _ (values : Bytes) (w : Walk) where
   pub two-walked : (l m : ℤ) (h : Bool) → IsLiteral l → IsLiteral m
-      → h ≡ (w .holds || isTrue (assigned values) l || isTrue (assigned values) m) → closedBy 3 h w ≡ walked values (l ∷ m ∷ one (pos 0)) w
+      → h ≡ (holding w || isTrue (assigned values) l || isTrue (assigned values) m) → closedBy 3 h w ≡ walked values (l ∷ m ∷ one (pos 0)) w
   unfolding walked word closed closedBy literal
   two-walked l m h i j e =
       let n : more (more (more (w .words) 1) 1) 1 ≡ more (w .words) 3 =
       ap (λ (k : ℕ). more k 1) (more-more (w .words) 1 1 2 refl) ∙ more-more (w .words) 2 1 3 refl in
-      rw (e, i values w, j values (literal values l w)) (simp n)
+      rw (e, i values w, j values (literal values l w)) (simp (flag-back, n))
 
   pub three-walked : (l m o : ℤ) (h : Bool) → IsLiteral l → IsLiteral m → IsLiteral o
-      → h ≡ (w .holds || isTrue (assigned values) l || isTrue (assigned values) m || isTrue (assigned values) o)
+      → h ≡ (holding w || isTrue (assigned values) l || isTrue (assigned values) m || isTrue (assigned values) o)
       → closedBy 4 h w ≡ walked values (l ∷ m ∷ o ∷ one (pos 0)) w
   unfolding walked word closed closedBy literal
   three-walked l m o h i j k e =
@@ -172,12 +180,12 @@ module _ (values : Bytes) (w : Walk) where
       ap (λ (k : ℕ). more (more k 1) 1) (more-more (w .words) 1 1 2 refl)
       ∙ ap (λ (k : ℕ). more k 1) (more-more (w .words) 2 1 3 refl)
       ∙ more-more (w .words) 3 1 4 refl in
-      rw (e, i values w, j values (literal values l w), k values (literal values m (literal values l w))) (simp n)
+      rw (e, i values w, j values (literal values l w), k values (literal values m (literal values l w))) (simp (flag-back, n))
 
 -- A clause of two literals that was stored as its bits, and of three.
 module _ (values : Bytes) (w : Walk) (out : List ℤ) where
   pub passes-two : (l m l′ m′ : ℤ) (h : Bool) (w′ : Walk) (out′ : List ℤ) → IsLiteral l → IsLiteral m
-      → h ≡ (w .holds || isTrue (assigned values) l || isTrue (assigned values) m) → w′ ≡ closedBy 3 h w
+      → h ≡ (holding w || isTrue (assigned values) l || isTrue (assigned values) m) → w′ ≡ closedBy 3 h w
       → l′ ≡ l → m′ ≡ m → out′ ≡ stored (w .words) (l′ ∷ m′ ∷ one (pos 0)) out → Walks values (l ∷ m ∷ one (pos 0)) w out w′ out′
   passes-two l m l′ m′ h w′ out′ i j e f a b o = record {
     walk = f ∙ two-walked values w l m h i j e;
@@ -185,7 +193,7 @@ module _ (values : Bytes) (w : Walk) (out : List ℤ) where
   }
 
   pub passes-three : (l m n l′ m′ n′ : ℤ) (h : Bool) (w′ : Walk) (out′ : List ℤ) → IsLiteral l → IsLiteral m → IsLiteral n
-      → h ≡ (w .holds || isTrue (assigned values) l || isTrue (assigned values) m || isTrue (assigned values) n) → w′ ≡ closedBy 4 h w
+      → h ≡ (holding w || isTrue (assigned values) l || isTrue (assigned values) m || isTrue (assigned values) n) → w′ ≡ closedBy 4 h w
       → l′ ≡ l → m′ ≡ m → n′ ≡ n → out′ ≡ stored (w .words) (l′ ∷ m′ ∷ n′ ∷ one (pos 0)) out
       → Walks values (l ∷ m ∷ n ∷ one (pos 0)) w out w′ out′
   passes-three l m n l′ m′ n′ h w′ out′ i j k e f a b c o = record {

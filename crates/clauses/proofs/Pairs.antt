@@ -14,8 +14,8 @@ use Rattle.spec.specs.Formula.{not′, wordsOf}
 use Rattle.spec.specs.Assignment.{assigned}
 use Rattle.demands.proofs.Meaning.{denied′}
 use Rattle.clauses.specs.declared.Walk.{Walk}
-use Rattle.clauses.specs.Walked.{more, literal, closedBy, closed, word, walked, stored, skipped, most, Walks}
-use Rattle.clauses.proofs.Laws.{walked-append, more-more, empty-stored, stored-three}
+use Rattle.clauses.specs.Walked.{more, holding, literal, closedBy, closed, word, walked, stored, skipped, most, Walks}
+use Rattle.clauses.proofs.Laws.{walked-append, flag-back, more-more, empty-stored, stored-three}
 use Rattle.clauses.proofs.Turns.{range-next, range-end}
 
 -- some true literal
@@ -27,18 +27,18 @@ any-true true = refl
 any-true false = refl
 
 -- a clause that holds leaves the first wrong one as it is
-closed-held : (w : Walk) → w .holds ≡ true
-    → closed w ≡ record { words = more (w .words) 1; clauses = more (w .clauses) 1; holds = false; wrong = w .wrong }
+closed-held : (w : Walk) → holding w ≡ true
+    → closed w ≡ record { words = more (w .words) 1; clauses = more (w .clauses) 1; holds = 0; wrong = w .wrong }
 unfolding closed closedBy
 closed-held w e =
-    let h : (eqb (w .wrong) 0 && not (w .holds)) ≡ false =
+    let h : (eqb (w .wrong) 0 && not (holding w)) ≡ false =
     ap (λ (t : Bool). eqb (w .wrong) 0 && not t) e ∙ and-false (eqb (w .wrong) 0) in
     simp h
 
 three : (words clauses wrong : ℕ)
     → _≡_ {A = Walk}
-    (record { words = more (more (more words 1) 1) 1; clauses = more clauses 1; holds = false; wrong = wrong })
-    (record { words = more words 3; clauses = more clauses 1; holds = false; wrong = wrong })
+    (record { words = more (more (more words 1) 1) 1; clauses = more clauses 1; holds = 0; wrong = wrong })
+    (record { words = more words 3; clauses = more clauses 1; holds = 0; wrong = wrong })
 three words clauses wrong =
     let e : more (more (more words 1) 1) 1 ≡ more words 3 =
     ap (λ (n : ℕ). more n 1) (more-more words 1 1 2 refl) ∙ more-more words 2 1 3 refl in
@@ -49,9 +49,9 @@ module _ (values : Bytes) (u : ℕ) (no : assigned values u ≡ false) where
   one-pair : (v : ℕ) (w : Walk) → walked values (wordsOf (one (not′ u ∷ one (not′ v)))) w ≡ skipped 1 w
   unfolding wordsOf each walked word literal skipped
   one-pair v w =
-      let h : literal values (not′ u) w .holds ≡ true =
-      ap (λ (t : Bool). w .holds || t) (denied′ (assigned values) u ∙ ap not no) ∙ any-true (w .holds) in
-      closed-held (literal values (not′ v) (literal values (not′ u) w)) (or-true _ _ h)
+      let h : holding (literal values (not′ u) w) ≡ true =
+      flag-back _ ∙ ap (λ (t : Bool). holding w || t) (denied′ (assigned values) u ∙ ap not no) ∙ any-true (holding w) in
+      closed-held (literal values (not′ v) (literal values (not′ u) w)) (flag-back _ ∙ or-true _ _ h)
       ∙ three (w .words) (w .clauses) (w .wrong)
 
   -- and more of them

@@ -17,17 +17,18 @@ use Rattle.laws.proofs.Tests.{and-iff}
 use Rattle.laws.proofs.Rows.{all-cons}
 use Rattle.spec.specs.Lists.{Bytes, all, any, each, one, orZero}
 use Rattle.spec.specs.Formula.{Clause, wordsOf}
+use Rattle.spec.specs.Plan.{bit}
 use Rattle.spec.specs.Assignment.{isTrue, holds, assigned, firstFalse}
 use Rattle.spec.specs.Refutation.{variableOf}
 use Rattle.spec.specs.Entry.{overwrite}
 use Rattle.demands.proofs.Words.{proper}
 use Rattle.clauses.specs.declared.Walk.{Walk}
 use Rattle.clauses.specs.Walked.{most, more, start, literal, closedBy, closed, word, walked, stored, totals}
-use Rattle.clauses.proofs.Laws.{walked-append}
+use Rattle.clauses.proofs.Laws.{walked-append, flag-back}
 
 -- a walk, by its four parts
 abbrev walk : ℕ → ℕ → Bool → ℕ → Walk
-walk words clauses h wrong = record { words = words; clauses = clauses; holds = h; wrong = wrong }
+walk words clauses h wrong = record { words = words; clauses = clauses; holds = bit h; wrong = wrong }
 
 -- a count that does not reach its end
 more-plain : (n k : ℕ) → n + k ≤ most → more n k ≡ n + k
@@ -50,10 +51,11 @@ three e f g = simp (e, f, g)
 -- a clause is closed
 close-plain : (words n wrong : ℕ) (h : Bool) → words + 1 ≤ most → n + 1 ≤ most
     → closed (walk words n h wrong) ≡ walk (words + 1) (suc n) false (cond (eqb wrong 0 && not h) (suc n) wrong)
-unfolding closed closedBy
+unfolding closed closedBy bit
 close-plain words n wrong h room few =
     let e = more-plain n 1 few ∙ add-one n in
-    three (more-plain words 1 room) e (ap (λ (k : ℕ). cond (eqb wrong 0 && not h) k wrong) e)
+    rw (flag-back h)
+    (three (more-plain words 1 room) e (ap (λ (k : ℕ). cond (eqb wrong 0 && not h) k wrong) e))
 
 module _ (values : Bytes) where
   abbrev α : ℕ → Bool
@@ -76,6 +78,7 @@ module _ (values : Bytes) where
       let e : more words 1 ≡ words + 1 = more-plain words 1 (omega arith) in
       let n : words + 1 + length c ≡ words + suc (length c) = omega arith in
       ap (walked values c) (word-literal l (walk words clauses h wrong) (q .0))
+      ∙ ap (λ (t : Bool). walked values c (walk (more words 1) clauses (t || isTrue α l) wrong)) (flag-back h)
       ∙ ap (λ (k : ℕ). walked values c (walk k clauses (h || isTrue α l) wrong)) e
       ∙ literals c (q .1) (words + 1) clauses wrong (h || isTrue α l) (omega arith)
       ∙ ap₂ (λ (k : ℕ) (t : Bool). walk k clauses t wrong) n (or-assoc h (isTrue α l) (any (isTrue α) c))
@@ -124,7 +127,7 @@ module _ (values : Bytes) where
 
   -- from the start
   pub totals-walked : (cs : List Clause) → T (proper cs) → length (wordsOf cs) ≤ most → walked values (wordsOf cs) start ≡ totals values cs
-  unfolding start totals
+  unfolding start totals bit
   totals-walked cs p room = clauses-walked cs p 0 0 0 (omega arith) (omega arith) ∙ three (omega arith) (omega arith) refl
 
 -- ---- the output

@@ -12,6 +12,7 @@ ghost use lib.IntN.{pos};
 ghost use lib.Dec.{eqb};
 ghost use Rattle.spec.specs.Lists.{upTo, range, each, only, one};
 ghost use Rattle.spec.specs.Formula.{is, not′, wordsOf};
+ghost use Rattle.spec.specs.Plan.{bit};
 ghost use Rattle.spec.specs.Assignment.{assigned};
 ghost use Rattle.clauses.specs.Walked as walked;
 ghost use Rattle.clauses.specs.Walked.{Walks, literalRoom, pairedMost, most};
@@ -19,12 +20,13 @@ ghost use Rattle.clauses.specs.Walked.{Walks, literalRoom, pairedMost, m
 // Where the counters stop; no formula is as long.
 pub const MOST: usize = 1152921504606846976;
 
-// A walk: how many words and clauses it has passed, whether the clause that it is in holds so far,
-// and the number of the first clause that did not, or 0.
+// A walk: how many words and clauses it has passed, 1 where the clause that it is in holds so far and
+// else 0, and the number of the first clause that did not hold, or 0. Fields of one width, since a walk
+// is handed on at every word.
 pub struct Walk {
     pub words: usize,
     pub clauses: usize,
-    pub holds: bool,
+    pub holds: usize,
     pub wrong: usize,
 }
 
@@ -35,7 +37,7 @@ pub fn begin() -> Walk
     Walk {
         words: 0,
         clauses: 0,
-        holds: false,
+        holds: 0,
         wrong: 0,
     }
 }
@@ -53,6 +55,13 @@ pub fn value(values: &[u8], v: usize) -> bool
     ensures { λ r. ⌜ r ≡ assigned (now (values .entry)) v ⌝ }
 {
     v < values.len() && values[v] == 1
+}
+
+// A test as a number.
+fn flag(test: bool) -> usize
+    ensures { λ r. ⌜ r ≡ bit test ⌝ }
+{
+    if test { 1 } else { 0 }
 }
 
 // Whether a clause holds, so far or by the variable's value.
@@ -102,7 +111,7 @@ pub fn affirm(w: Walk, v: usize, values: &[u8], out: &mut [i32]) -> Walk
     store(out, w.words, positive(v));
     let mut next = w;
     next.words = more(w.words, 1);
-    next.holds = holds_by(w.holds, values, v);
+    next.holds = flag(holds_by(w.holds == 1, values, v));
     next
 }
 
@@ -114,7 +123,7 @@ pub fn deny(w: Walk, v: usize, values: &[u8], out: &mut [i32]) -> Walk
     store(out, w.words, negative(v));
     let mut next = w;
     next.words = more(w.words, 1);
-    next.holds = holds_without(w.holds, values, v);
+    next.holds = flag(holds_without(w.holds == 1, values, v));
     next
 }
 
@@ -141,7 +150,7 @@ fn closed_by(w: Walk, n: usize, holds: bool) -> Walk
     Walk {
         words: more(w.words, n),
         clauses: clauses,
-        holds: false,
+        holds: 0,
         wrong: first_wrong(w.wrong, holds, clauses),
     }
 }
@@ -151,7 +160,7 @@ pub fn close(w: Walk, values: &[u8], out: &mut [i32]) -> Walk
     ensures { λ r. ⌜ Walks (now (values .entry)) (one (pos 0)) w (now (out .entry)) r (now (out .exit)) ⌝ }
 {
     store(out, w.words, 0);
-    closed_by(w, 1, w.holds)
+    closed_by(w, 1, w.holds == 1)
 }
 
 // Stores the words of a clause of two literals: with one test, where the output has room for all.
@@ -214,7 +223,7 @@ pub fn implies(w: Walk, u: usize, v: usize, values: &[u8], out: &mut [i32]) -> W
     requires { ⌜ (u < literalRoom) × (v < literalRoom) ⌝ }
     ensures { λ r. ⌜ Walks (now (values .entry)) (wordsOf (one (not′ u ∷ one (is v)))) w (now (out .entry)) r (now (out .exit)) ⌝ }
 {
-    let first = holds_without(w.holds, values, u);
+    let first = holds_without(w.holds == 1, values, u);
     store_two(out, w.words, negative(u), positive(v));
     closed_by(w, 3, holds_by(first, values, v))
 }
@@ -224,7 +233,7 @@ pub fn not_both(w: Walk, u: usize, v: usize, values: &[u8], out: &mut [i32]) -> 
     requires { ⌜ (u < literalRoom) × (v < literalRoom) ⌝ }
     ensures { λ r. ⌜ Walks (now (values .entry)) (wordsOf (one (not′ u ∷ one (not′ v)))) w (now (out .entry)) r (now (out .exit)) ⌝ }
 {
-    let first = holds_without(w.holds, values, u);
+    let first = holds_without(w.holds == 1, values, u);
     store_two(out, w.words, negative(u), negative(v));
     closed_by(w, 3, holds_without(first, values, v))
 }
@@ -234,7 +243,7 @@ pub fn implies_either(w: Walk, u: usize, v: usize, x: usize, values: &[u8], out:
     requires { ⌜ (u < literalRoom) × (v < literalRoom) × (x < literalRoom) ⌝ }
     ensures { λ r. ⌜ Walks (now (values .entry)) (wordsOf (one (not′ u ∷ is v ∷ one (is x)))) w (now (out .entry)) r (now (out .exit)) ⌝ }
 {
-    let first = holds_without(w.holds, values, u);
+    let first = holds_without(w.holds == 1, values, u);
     let second = holds_by(first, values, v);
     store_three(out, w.words, negative(u), positive(v), positive(x));
     closed_by(w, 4, holds_by(second, values, x))
@@ -273,7 +282,7 @@ pub fn unit_is_if(w: Walk, test: bool, v: usize, values: &[u8], out: &mut [i32])
     w
 }
 
-// The clauses that deny n variables in a row.
+// The clauses that deny n variables, one behind the other.
 pub fn deny_all(w: Walk, from: usize, n: usize, values: &[u8], out: &mut [i32]) -> Walk
     requires { ⌜ from + n < literalRoom ⌝ }
     ensures { λ r. ⌜ Walks (now (values .entry)) (wordsOf (map (λ k. one (not′ (from + k))) (upTo n))) w (now (out .entry)) r (now (out .exit)) ⌝ }
@@ -287,7 +296,7 @@ pub fn deny_all(w: Walk, from: usize, n: usize, values: &[u8], out: &mut [i32]) 
     next
 }
 
-// The clause that affirms one of n variables in a row.
+// The clause that affirms one of n variables, one behind the other.
 pub fn some_of(w: Walk, from: usize, n: usize, values: &[u8], out: &mut [i32]) -> Walk
     requires { ⌜ from + n < literalRoom ⌝ }
     ensures { λ r. ⌜ Walks (now (values .entry)) (wordsOf (one (map (λ k. is (from + k)) (upTo n)))) w (now (out .entry)) r (now (out .exit)) ⌝ }
@@ -312,15 +321,17 @@ fn skip_pairs(w: Walk, k: usize) -> Walk
     Walk {
         words: more(w.words, 3 * k),
         clauses: more(w.clauses, k),
-        holds: false,
+        holds: 0,
         wrong: w.wrong,
     }
 }
 
-// The clauses "not both" of the variable at m in a row and each behind it up to n.
+// The clauses "not both" of the variable at m, of n one behind the other, and each behind it.
 fn each_pair(w: Walk, from: usize, m: usize, n: usize, values: &[u8], out: &mut [i32]) -> Walk
     requires { ⌜ (from + n < literalRoom) × (m < n) ⌝ }
-    ensures { λ r. ⌜ Walks (now (values .entry)) (wordsOf (map (λ k. not′ (from + m) ∷ one (not′ (from + k))) (range (m + 1) n))) w (now (out .entry)) r (now (out .exit)) ⌝ }
+    ensures { λ r. ⌜ Walks (now (values .entry))
+        (wordsOf (map (λ k. not′ (from + m) ∷ one (not′ (from + k))) (range (m + 1) n)))
+        w (now (out .entry)) r (now (out .exit)) ⌝ }
 {
     let mut next = w;
     let mut k = m + 1;
@@ -353,7 +364,9 @@ fn store_pairs(out: &mut [i32], at: usize, from: usize, m: usize, n: usize)
 // stored, if at all, without a test of each.
 fn pairs_of(w: Walk, from: usize, m: usize, n: usize, values: &[u8], out: &mut [i32]) -> Walk
     requires { ⌜ (from + n < literalRoom) × (m < n) × (n ≤ pairedMost) ⌝ }
-    ensures { λ r. ⌜ Walks (now (values .entry)) (wordsOf (map (λ k. not′ (from + m) ∷ one (not′ (from + k))) (range (m + 1) n))) w (now (out .entry)) r (now (out .exit)) ⌝ }
+    ensures { λ r. ⌜ Walks (now (values .entry))
+        (wordsOf (map (λ k. not′ (from + m) ∷ one (not′ (from + k))) (range (m + 1) n)))
+        w (now (out .entry)) r (now (out .exit)) ⌝ }
 {
     if value(values, from + m) {
         return each_pair(w, from, m, n, values, out);
@@ -370,10 +383,12 @@ fn pairs_of(w: Walk, from: usize, m: usize, n: usize, values: &[u8], out: &mut [
     each_pair(w, from, m, n, values, out)
 }
 
-// The clauses "not both" of each two of n variables in a row.
+// The clauses "not both" of each two of n variables, one behind the other.
 pub fn no_two(w: Walk, from: usize, n: usize, values: &[u8], out: &mut [i32]) -> Walk
     requires { ⌜ (from + n < literalRoom) × (n ≤ pairedMost) ⌝ }
-    ensures { λ r. ⌜ Walks (now (values .entry)) (wordsOf (each (upTo n) λ m. map (λ k. not′ (from + m) ∷ one (not′ (from + k))) (range (m + 1) n))) w (now (out .entry)) r (now (out .exit)) ⌝ }
+    ensures { λ r. ⌜ Walks (now (values .entry))
+        (wordsOf (each (upTo n) λ m. map (λ k. not′ (from + m) ∷ one (not′ (from + k))) (range (m + 1) n)))
+        w (now (out .entry)) r (now (out .exit)) ⌝ }
 {
     let mut next = w;
     let mut m = 0;

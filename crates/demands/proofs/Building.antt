@@ -18,7 +18,8 @@ use Rattle.spec.specs.Frames.{Format, bookFormat, trainCountAt, trainFixed, isK
 use Rattle.spec.specs.Book.{Book, Segment, Join, Train, Call, noBook, callsOf, segmentAt, greatestNodeKind, joined, startNode, endNode, lengthInSegments, speedInSegments}
 use Rattle.spec.specs.BookFile.{headPayload, nodePayload, segmentPayload, joinPayload, trainPayload, callPayload, unbreakablePayload, framesOf, framesThen, bookFile, FitsFields}
 use Rattle.spec.specs.Runs.{leadsTo, linked, isPath, runsOf}
-use Rattle.spec.specs.Read.{grown, segmentIn, joinIn, trainIn, callIn, headFits, segmentFits, joinFits, joinRepeats, trainFits, reachFits, placeFits, callFits, someHas, mayDivide, contentFaults, add, Reading, readingStart, isHead, isEnd, unknownKind, outOfOrder, kindFaults, frameFaults, addFound, pastFrame, bookFaults, readFrame, frameReadAt, more, joinsOnce, readAs, readBook, wellFormed, between, maxIntervals}
+use Rattle.spec.specs.Read.{grown, segmentIn, joinIn, trainIn, callIn, headFits, segmentFits, joinFits, joinRepeats, trainFits, reachFits, placeFits, callFits, someHas, contentFaults, add, Reading, readingStart, isHead, isEnd, unknownKind, outOfOrder, kindFaults, frameFaults, addFound, pastFrame, bookFaults, readFrame, frameReadAt, more, joinsOnce, readAs, readBook, wellFormed, between}
+pub use Rattle.demands.specs.BookFiles.{Apt, Allowed}
 use Rattle.demands.proofs.Wellformed.{Parts, parts}
 use Rattle.demands.proofs.Faults.{passes, clear-first}
 use Rattle.demands.proofs.Growing.{none-iff, all-weaken, pick-append}
@@ -306,17 +307,11 @@ fewer-before cs ys c zs e h =
     let m = rw (true-of (eqb (c .train) (c .train)) (eqb-refl (c .train)), only) at k in
     lt→nleb 4 (length (pick (λ d. eqb (d .train) (c .train)) ys)) (omega arith)
 
--- A format that a well-formed book can be written in: its times fit their fields, and the payloads are not too long.
-pub record Apt (f : Format) : Type 0 where
-  pub within : f .maxIntervals ≤ maxIntervals
-  pub fits : f .maxIntervals < 256 ^ f .timeWidth
-  pub narrow : f .timeWidth ≤ 8
-
 -- the format in force is one
 pub book-apt : Apt bookFormat
 book-apt = record { within = omega arith; fits = omega arith; narrow = omega arith }
 
-module _ (F : Format) (a : Apt F) (b : Book) (w : Parts b) (u : b .intervals ≤ F .maxIntervals) where
+module _ (F : Format) (a : Apt F) (b : Book) (w : Parts b) (u : b .intervals ≤ F .greatestT) where
   -- each part of the book, in its frame, is without a fault and is added behind those before it
   node-adds : (ys : List ℕ) (x : ℕ) (zs : List ℕ) → b .nodes ≡ ys ++ x ∷ zs
       → Adds F nodeKind nodePayload (λ ns. with-rows b ns [] [] [] []) ys x
@@ -443,7 +438,7 @@ module _ (F : Format) (a : Apt F) (b : Book) (w : Parts b) (u : b .intervals ≤
       omega arith
 
   -- the frame of an unbreakable TTD that never divides is without a fault, and adds nothing
-  ttd-adds : (us : List ℕ) → T (all (λ u. someHas b u && not (mayDivide b u)) us)
+  ttd-adds : (us : List ℕ) → Allowed b us
       → (ys : List ℕ) (x : ℕ) (zs : List ℕ) → us ≡ ys ++ x ∷ zs → Adds F unbreakableKind unbreakablePayload (λ _. b) ys x
   unfolding unbreakablePayload littleEndian field number lengthFits contentFaults add isKind kindNumber grown all passes
   ttd-adds us g ys x zs e =
@@ -473,7 +468,7 @@ book-clear b w =
     (all-weaken _ _ (b .trains) (λ t h. le→nltb 256 (length (runsOf b t)) ((simp (and-iff, leb-iff) at h) .1)) (w .trains)) in
     simp (and-iff, neither-iff) ((w .someTrain, some), (few, tt))
 
-module _ (F : Format) (a : Apt F) (b : Book) (w : Parts b) (u : b .intervals ≤ F .maxIntervals) (f : FitsFields b) where
+module _ (F : Format) (a : Apt F) (b : Book) (w : Parts b) (u : b .intervals ≤ F .greatestT) (f : FitsFields b) where
   -- the Head's numbers, as they are read
   head-said : add F noBook headKind (headPayload F b) ≡ with-rows b [] [] [] [] []
   head-said = head-back F b (f .metres) (f .seconds) (omega (arith, a .fits))
@@ -504,8 +499,8 @@ end-read F s b w c =
 
 -- A well-formed book whose numbers fit their fields is read back from its file, with a frame for each of some unbreakable TTDs
 -- that segments of the book have and that never divide: in every apt format whose greatest T it keeps to,
-pub as-built : (F : Format) (b : Book) (ttds : List ℕ) → Apt F → T (wellFormed b) → FitsFields b → b .intervals ≤ F .maxIntervals
-    → T (all (λ u. someHas b u && not (mayDivide b u)) ttds) → readAs F (bookFile F b ttds) ≡ accepted b
+pub as-built : (F : Format) (b : Book) (ttds : List ℕ) → Apt F → T (wellFormed b) → FitsFields b → b .intervals ≤ F .greatestT
+    → Allowed b ttds → readAs F (bookFile F b ttds) ≡ accepted b
 unfolding bookFile framesThen with-rows book-of rank rankIn kindOrder kindNumber middle isHead isEnd
 as-built F b ttds a h f u v =
     let w = parts b h in
@@ -525,7 +520,7 @@ as-built F b ttds a h f u v =
 
 -- and so in the format in force.
 pub read-built : (b : Book) (ttds : List ℕ) → T (wellFormed b) → FitsFields b
-    → T (all (λ u. someHas b u && not (mayDivide b u)) ttds) → readBook (bookFile bookFormat b ttds) ≡ accepted b
+    → Allowed b ttds → readBook (bookFile bookFormat b ttds) ≡ accepted b
 unfolding readBook headFits between
 read-built b ttds h f v =
     let k = simp (and-iff, leb-iff) at (parts b h .head) in as-built bookFormat b ttds book-apt h f (k .1 .1) v

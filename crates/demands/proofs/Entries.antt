@@ -56,10 +56,6 @@ unfolding demand
 demand-iff true n = (λ _. tt, λ _. refl)
 demand-iff false n = (λ e. accepted≢refused (sym e), λ h. absurd h)
 
--- what was accepted of a Unit is its one element
-pub is-tt : {v : Verdict (Unit {0})} {u : Unit {0}} → v ≡ accepted u → v ≡ accepted tt
-is-tt e = e
-
 pub find-iff : (o : Option ℕ) (n : ℕ) → (findNone o n ≡ accepted tt) ↔ (o ≡ none)
 unfolding findNone
 find-iff none n = (λ _. refl, λ _. refl)

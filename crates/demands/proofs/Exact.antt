@@ -16,10 +16,10 @@ use Rattle.spec.specs.Numbers.{littleEndian, field}
 use Rattle.spec.specs.Frames.{Format, bookFormat, trainCountAt, trainFixed, isKind, frame, kindField, payloadOf, behind, Kind, headKind, nodeKind, segmentKind, joinKind, trainKind, callKind, unbreakableKind, endKind, kindNumber, kindOrder, findKind, rankIn, rank, lengthFits}
 use Rattle.spec.specs.Book.{Book, noBook}
 use Rattle.spec.specs.BookFile.{headPayload, nodePayload, segmentPayload, joinPayload, trainPayload, callPayload, unbreakablePayload, framesOf, framesThen, bookFile, FitsFields}
-use Rattle.spec.specs.Read.{grown, segmentIn, joinIn, trainIn, callIn, someHas, mayDivide, contentFaults, add, Reading, readingStart, isHead, isEnd, unknownKind, outOfOrder, kindFaults, addFound, pastFrame, readAs, readBook, wellFormed, headFits, between}
+use Rattle.spec.specs.Read.{grown, segmentIn, joinIn, trainIn, callIn, contentFaults, add, Reading, readingStart, isHead, isEnd, unknownKind, outOfOrder, kindFaults, addFound, pastFrame, readAs, readBook, wellFormed, headFits, between}
 use Rattle.demands.proofs.Faults.{passes, first-none}
 use Rattle.demands.proofs.Reading.{ReadsTo, start, next, goes-iff, Fine, fine, rank-not-zero, Found, finds-kind, head-first, head-once, head-number, as-accepted, as-formed, read-well-formed}
-use Rattle.demands.proofs.Building.{row-back, middle, Apt, as-built, read-built}
+use Rattle.demands.proofs.Building.{row-back, middle, Apt, Allowed, as-built, read-built}
 use Rattle.laws.proofs.Tests.{and-iff, denied-of, eqb-iff, ltb-iff, leb-iff, all-iff, not-iff, neither-iff}
 use Rattle.laws.proofs.Frames.{frame-read, bytes-payloadOf, bytes-behind}
 use Rattle.laws.proofs.Rows.{all-append}
@@ -97,10 +97,6 @@ frames-more : {A : Type 0} (k : Kind) (payload : A → Bytes) (xs : List A) (x :
     → framesOf k payload xs ++ (frame (kindNumber k) p ++ rest) ≡ framesOf k payload (xs ++ one x) ++ rest
 unfolding framesOf each
 frames-more k payload xs x p rest e = rw (← e) (simp (each-append, append-assoc))
-
--- what may stand in frames for unbreakable TTDs
-abbrev pub Allowed : Book → List ℕ → Type 0
-Allowed b ttds = T (all (λ u. someHas b u && not (mayDivide b u)) ttds)
 
 -- a higher rank leaves fewer rows to be empty
 blank-later : {m n : ℕ} {b : Book} {ttds : List ℕ} → m ≤ n → Blank m b ttds → Blank n b ttds
@@ -227,7 +223,7 @@ module _ (F : Format) where
     blank : Blank (r .last) (r .book) ttds
     fits : FitsFields (r .book)
     allowed : Allowed (r .book) ttds
-    times : r .book .intervals ≤ F .maxIntervals
+    times : r .book .intervals ≤ F .greatestT
 
   -- Nothing was taken yet, or that.
   data Came (s : Bytes) (r : Reading) (rest : Bytes) : Type 0 where
@@ -348,7 +344,7 @@ module _ (F : Format) where
   -- A file of bytes that is read as a book is that book's file, with a frame for each of some unbreakable TTDs that segments of
   -- the book have and that never divide; the book's numbers fit their fields, and its T is not above the format's.
   pub as-file : (s : Bytes) (b : Book) → T (bytes s) → readAs F s ≡ accepted b
-      → (ttds : List ℕ) × (s ≡ bookFile F b ttds) × Allowed b ttds × FitsFields b × (b .intervals ≤ F .maxIntervals)
+      → (ttds : List ℕ) × (s ≡ bookFile F b ttds) × Allowed b ttds × FitsFields b × (b .intervals ≤ F .greatestT)
   unfolding bookFile isEnd kindNumber
   as-file s b y e =
       let h = as-accepted F s b e in
@@ -357,7 +353,7 @@ module _ (F : Format) where
     where
       go : (r : Reading) (s′ : Bytes) → T (bytes s′) → Fine F r s′ → T (isEnd (kindField s′)) → Came s r s′
           → (ttds : List ℕ) × (s ≡ bookFile F (r .book) ttds) × Allowed (r .book) ttds × FitsFields (r .book)
-          × (r .book .intervals ≤ F .maxIntervals)
+          × (r .book .intervals ≤ F .greatestT)
       go r s′ z f t (nothing l e u) =
           let first = head-first r s′ (f .inOrder) l in
           let last = eqb→eq (kindField s′) 8 t in
@@ -371,7 +367,7 @@ module _ (F : Format) where
   -- have and that never divide.
   pub as-exact : (s : Bytes) (b : Book) → Apt F → T (bytes s)
       → (readAs F s ≡ accepted b)
-      ↔ ((ttds : List ℕ) × (s ≡ bookFile F b ttds) × T (wellFormed b) × FitsFields b × Allowed b ttds × (b .intervals ≤ F .maxIntervals))
+      ↔ ((ttds : List ℕ) × (s ≡ bookFile F b ttds) × T (wellFormed b) × FitsFields b × Allowed b ttds × (b .intervals ≤ F .greatestT))
   as-exact s b a y = (
     λ e. let h = as-file s b y e in (h .0, h .1, as-formed F s b (a .within) e, h .3, h .2, h .4),
     λ h. ap (readAs F) (h .1) ∙ as-built F b (h .0) a (h .2) (h .3) (h .5) (h .4),

@@ -279,7 +279,7 @@ growing-of b w =
     )
 
 -- a Head alone, in a format whose greatest T is not above the one in force
-pub growing-head : (f : Format) (p : Bytes) → f .maxIntervals ≤ maxIntervals → T (headFits f (add f noBook headKind p))
+pub growing-head : (f : Format) (p : Bytes) → f .greatestT ≤ maxIntervals → T (headFits f (add f noBook headKind p))
     → Growing (add f noBook headKind p)
 unfolding headFits between add isKind kindNumber grown noBook Few all joinsOnce upTo count callsOf pick
 growing-head f p m h = record {

@@ -251,14 +251,14 @@ module _ (F : Format) where
   -- ---- a book that is read is well formed
 
   -- a Head without a fault, at the start
-  reads-head : (b : Book) (k : Kind) (p : Bytes) → F .maxIntervals ≤ maxIntervals → b ≡ noBook → k ≡ headKind → T (all passes (contentFaults F b k p)) → Growing (add F b k p)
+  reads-head : (b : Book) (k : Kind) (p : Bytes) → F .greatestT ≤ maxIntervals → b ≡ noBook → k ≡ headKind → T (all passes (contentFaults F b k p)) → Growing (add F b k p)
   unfolding add contentFaults all passes
   reads-head b k p m e q c =
       let d : T (all passes (contentFaults F noBook headKind p)) = rw (e, q) at c in
       rw (e, q) (growing-head F p m ((simp (and-iff, Bool·not-not) at d) .0))
 
   -- a frame without a fault leads on in a growing book
-  pub reached-on : (r : Reading) (s : Bytes) → F .maxIntervals ≤ maxIntervals → Fine r s → Reached r → Reached (pastFrame F r s)
+  pub reached-on : (r : Reading) (s : Bytes) → F .greatestT ≤ maxIntervals → Fine r s → Reached r → Reached (pastFrame F r s)
   unfolding pastFrame rank addFound kindFaults all unknownKind Found kindNumber
   reached-on r s m f w =
       behindHead (rank-not-zero (kindField s) kindOrder)
@@ -273,14 +273,14 @@ module _ (F : Format) where
           growing-add F (r .book) k (payloadOf s) (λ q. head-once r s (f .inOrder) l (h ∙ ap kindNumber q)) ((simp and-iff at c) .1) (growing-parts _ w)
 
   -- so wherever the reader comes, it is at the start or in a growing book
-  pub reached : {s s′ : Bytes} {r : Reading} → F .maxIntervals ≤ maxIntervals → ReadsTo F s r s′ → Reached r
+  pub reached : {s s′ : Bytes} {r : Reading} → F .greatestT ≤ maxIntervals → ReadsTo F s r s′ → Reached r
   unfolding readingStart
   reached m start = atStart refl refl
   reached m (next {r = r} {r″ = r″} {s′ = s′} {s″ = s″} c e) =
       let g = goes-on r s′ r″ s″ e in rw (g .reading) (reached-on r s′ m (fine r s′ (g .clear)) (reached m c))
 
   -- A book that is read is well formed.
-  pub as-formed : (s : Bytes) (b : Book) → F .maxIntervals ≤ maxIntervals → readAs F s ≡ accepted b → T (wellFormed b)
+  pub as-formed : (s : Bytes) (b : Book) → F .greatestT ≤ maxIntervals → readAs F s ≡ accepted b → T (wellFormed b)
   unfolding isEnd kindNumber
   as-formed s b m e = let h = as-accepted s b e in rw (h .6) (go (h .0) (h .1) (h .3) (h .4) (h .5) (reached m (h .2)))
     where

@@ -2,3 +2,5 @@
 pub mod Reasons
 -- what the other demands claim
 pub mod Claims
+-- what is claimed of a book's file
+pub mod BookFiles

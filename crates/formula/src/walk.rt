@@ -92,7 +92,9 @@ fn interval_clauses(
     out: &mut [i32],
 ) -> Walk
     requires { ⌜ BlockHeld b t × RunsHeld (held b) (t .train) (now runs) × ChainsHeld (held b) (t .train) (now chains) × MeetsReady b (now meets) ⌝ }
-    ensures { λ r. ⌜ Walks (now (values .entry)) (wordsOf (blockClauses (instanceOf (held b)) family (t .train) (t .base))) w (now (out .entry)) r (now (out .exit)) ⌝ }
+    ensures { λ r. ⌜ Walks (now (values .entry))
+        (wordsOf (blockClauses (instanceOf (held b)) family (t .train) (t .base)))
+        w (now (out .entry)) r (now (out .exit)) ⌝ }
 {
     match family {
         Family::B => clauses_b(w, t.base, t.runs, values, out),
@@ -117,7 +119,9 @@ fn train_clauses(
     out: &mut [i32],
 ) -> Walk
     requires { ⌜ TrainReady b first (now runs) × ChainsHeld (held b) (first .train) (now chains) × MeetsReady b (now meets) ⌝ }
-    ensures { λ r. ⌜ Walks (now (values .entry)) (wordsOf (trainClauses (instanceOf (held b)) family (first .train))) w (now (out .entry)) r (now (out .exit)) ⌝ }
+    ensures { λ r. ⌜ Walks (now (values .entry))
+        (wordsOf (trainClauses (instanceOf (held b)) family (first .train)))
+        w (now (out .entry)) r (now (out .exit)) ⌝ }
 {
     let train = first.train;
     let d = b.trains[train].departure;
@@ -208,7 +212,9 @@ fn call_clause(
     out: &mut [i32],
 ) -> Walk
     requires { ⌜ TrainReady b first (now runs) ⌝ }
-    ensures { λ r. ⌜ Walks (now (values .entry)) (wordsOf (callClauses (instanceOf (held b)) (first .train) number)) w (now (out .entry)) r (now (out .exit)) ⌝ }
+    ensures { λ r. ⌜ Walks (now (values .entry))
+        (wordsOf (callClauses (instanceOf (held b)) (first .train) number))
+        w (now (out .entry)) r (now (out .exit)) ⌝ }
 {
     let train = first.train;
     let c = call_at(b, train, number);
@@ -222,7 +228,9 @@ fn call_clause(
 // F: the calls of a train, in file order.
 fn train_calls(b: Book, first: Block, w: Walk, runs: &[u8], values: &[u8], out: &mut [i32]) -> Walk
     requires { ⌜ TrainReady b first (now runs) ⌝ }
-    ensures { λ r. ⌜ Walks (now (values .entry)) (wordsOf (each (upTo (instanceOf (held b) .calls (first .train))) λ c. callClauses (instanceOf (held b)) (first .train) c)) w (now (out .entry)) r (now (out .exit)) ⌝ }
+    ensures { λ r. ⌜ Walks (now (values .entry))
+        (wordsOf (each (upTo (instanceOf (held b) .calls (first .train))) λ c. callClauses (instanceOf (held b)) (first .train) c))
+        w (now (out .entry)) r (now (out .exit)) ⌝ }
 {
     let calls = calls_of(b, first.train);
     let mut next = w;
@@ -298,7 +306,9 @@ fn interval_pairs(
     out: &mut [i32],
 ) -> Walk
     requires { ⌜ Counted b counts × (interval < b .intervals) ⌝ }
-    ensures { λ r. ⌜ Walks (now (values .entry)) (wordsOf (each (upTo (instanceOf (held b) .trains)) λ i. pairsBehind (instanceOf (held b)) interval i)) w (now (out .entry)) r (now (out .exit)) ⌝ }
+    ensures { λ r. ⌜ Walks (now (values .entry))
+        (wordsOf (each (upTo (instanceOf (held b) .trains)) λ i. pairsBehind (instanceOf (held b)) interval i))
+        w (now (out .entry)) r (now (out .exit)) ⌝ }
 {
     let trains = b.train_count;
     let mut next = w;
@@ -337,7 +347,9 @@ fn families_b_to_d(
     out: &mut [i32],
 ) -> Walk
     requires { ⌜ RunsReady b counts (now runs) × ChainsReady b (now chains) × MeetsReady b (now meets) ⌝ }
-    ensures { λ r. ⌜ Walks (now (values .entry)) (wordsOf (familyB (instanceOf (held b)) ++ (familyC (instanceOf (held b)) ++ familyD (instanceOf (held b))))) w (now (out .entry)) r (now (out .exit)) ⌝ }
+    ensures { λ r. ⌜ Walks (now (values .entry))
+        (wordsOf (familyB (instanceOf (held b)) ++ (familyC (instanceOf (held b)) ++ familyD (instanceOf (held b)))))
+        w (now (out .entry)) r (now (out .exit)) ⌝ }
 {
     let wb = by_train(Family::B, b, counts, w, runs, chains, meets, values, out);
     let wc = by_train(Family::C, b, counts, wb, runs, chains, meets, values, out);
@@ -356,7 +368,9 @@ fn families_e_and_f(
     out: &mut [i32],
 ) -> Walk
     requires { ⌜ RunsReady b counts (now runs) × ChainsReady b (now chains) × MeetsReady b (now meets) ⌝ }
-    ensures { λ r. ⌜ Walks (now (values .entry)) (wordsOf (familyE (instanceOf (held b)) ++ familyF (instanceOf (held b)))) w (now (out .entry)) r (now (out .exit)) ⌝ }
+    ensures { λ r. ⌜ Walks (now (values .entry))
+        (wordsOf (familyE (instanceOf (held b)) ++ familyF (instanceOf (held b))))
+        w (now (out .entry)) r (now (out .exit)) ⌝ }
 {
     let we = by_train(Family::E, b, counts, w, runs, chains, meets, values, out);
     family_f(b, counts, we, runs, values, out)
@@ -374,7 +388,9 @@ fn families_g_to_i(
     out: &mut [i32],
 ) -> Walk
     requires { ⌜ RunsReady b counts (now runs) × ChainsReady b (now chains) × MeetsReady b (now meets) ⌝ }
-    ensures { λ r. ⌜ Walks (now (values .entry)) (wordsOf (familyG (instanceOf (held b)) ++ (familyH (instanceOf (held b)) ++ familyI (instanceOf (held b))))) w (now (out .entry)) r (now (out .exit)) ⌝ }
+    ensures { λ r. ⌜ Walks (now (values .entry))
+        (wordsOf (familyG (instanceOf (held b)) ++ (familyH (instanceOf (held b)) ++ familyI (instanceOf (held b)))))
+        w (now (out .entry)) r (now (out .exit)) ⌝ }
 {
     let wg = by_train(Family::G, b, counts, w, runs, chains, meets, values, out);
     let wh = by_train(Family::H, b, counts, wg, runs, chains, meets, values, out);

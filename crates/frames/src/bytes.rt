@@ -1,4 +1,4 @@
-// Bytes: one as a number, and scans of a row of them. Assumes nothing.
+// Bytes: one as a number, and scans of them. Assumes nothing.
 ghost use mathlib.Core.Path.{_≡_};
 ghost use Prim.Native.Nat.{_+_, _≤_, _<_};
 ghost use lib.ListN.{length, drop};
@@ -29,15 +29,15 @@ pub fn all_below(p: &[u8], from: usize, limit: usize) -> bool
 }
 
 // The bytes from `from` on, at most eight, in an array.
-pub fn row_of(p: &[u8], from: usize) -> [u8; 8]
+pub fn place_of(p: &[u8], from: usize) -> [u8; 8]
     requires { ⌜ (from ≤ length (now p)) × (length (now p) ≤ from + 8) ⌝ }
     ensures { λ r. ⌜ r ≡ padded 8 0 (drop from (now (p .entry))) ⌝ }
 {
-    let mut row = [0u8; 8];
+    let mut place = [0u8; 8];
     let mut i = from;
     while i < p.len() {
-        row[i - from] = p[i];
+        place[i - from] = p[i];
         i += 1;
     }
-    row
+    place
 }

@@ -73,7 +73,19 @@ fn measure_by(b: Book, counts: Counts, runs: &[u8], chains: &[usize], meets: &[u
 
 // The sizes beside a refusal.
 fn refused_sizes(number: usize, detail: usize) -> Sizes
-    ensures { λ r. ⌜ r ≡ record { number = number; detail = detail; intervals = 0; nodes = 0; «free_nodes» = 0; segments = 0; trains = 0; variables = 0; clauses = 0; words = 0; «plan_bytes» = 0 } ⌝ }
+    ensures { λ r. ⌜ r ≡ record {
+      number = number;
+      detail = detail;
+      intervals = 0;
+      nodes = 0;
+      «free_nodes» = 0;
+      segments = 0;
+      trains = 0;
+      variables = 0;
+      clauses = 0;
+      words = 0;
+      «plan_bytes» = 0;
+    } ⌝ }
 {
     Sizes {
         number,

@@ -91,10 +91,6 @@ module _ (s : Bytes) (b : T (bytes s)) (whole : T (not (cutShort s))) where
   unfolding payloadLength
   payloadLength-lt = field-lt s 0 2 b (omega (arith, room))
 
-  pub kindField-lt : kindField s < 256 ^ 2
-  unfolding kindField
-  kindField-lt = field-lt s 2 2 b room
-
   -- the head's two numbers are what its bytes say
   length-bytes : littleEndian 2 (length (payloadOf s)) ≡ take 2 s
   unfolding payloadLength

@@ -59,9 +59,6 @@ module _ {ℓ} {A : Type ℓ} where
   pub part-here : (ys rest : List A) → Part (ys ++ rest) 0 ys
   part-here ys rest = record { front = []; rest = rest; whole = refl; place = refl }
 
-  pub part-all : (ys : List A) → Part ys 0 ys
-  part-all ys = record { front = []; rest = []; whole = sym (append-nil ys); place = refl }
-
   pub part-behind : (front ys : List A) → Part (front ++ ys) (length front) ys
   part-behind front ys = record { front = front; rest = []; whole = ap (λ (l : List A). front ++ l) (sym (append-nil ys)); place = refl }
 
@@ -77,11 +74,6 @@ module _ {ℓ} {A : Type ℓ} where
   pub part-at : {xs ys : List A} {n : ℕ} → Part xs n ys → (j : ℕ) (d : A) → j < length ys → getD xs (n + j) d ≡ getD ys j d
   part-at {xs} {ys} p j d h =
       rw (p .whole, ← p .place) (getD-append-add (p .front) (ys ++ p .rest) j d ∙ List·getD-append ys (p .rest) d j h)
-
-  -- a part is no longer than the whole
-  pub part-length : {xs ys : List A} {n : ℕ} → Part xs n ys → n + length ys ≤ length xs
-  part-length {xs} {ys} p =
-      omega (arith, p .place, ap length (p .whole), length-append (p .front) (ys ++ p .rest), length-append ys (p .rest))
 
 module _ {ℓ} {B : Type ℓ} (f : ℕ → List B) (w : ℕ → ℕ) (sized : (i : ℕ) → length (f i) ≡ w i) where
   -- rows of these lengths have this length together

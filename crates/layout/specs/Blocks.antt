@@ -13,8 +13,8 @@ use Rattle.layout.specs.declared.blocks.Block.{Block}
 abbrev pub blockRoom : ℕ
 blockRoom = 900000000
 
--- a train's variables in an interval are at most so many, and intervals, whose number a book has in two bytes, at most so many; a
--- generous bound, since reading allows far fewer
+-- a train's variables in an interval are at most so many, and intervals, of which the struct of a book holds fewer than this, at most so
+-- many; a generous bound, since reading allows far fewer
 abbrev pub widthMost : ℕ
 widthMost = maxRuns + 1 + maxSegments
 

@@ -5,20 +5,21 @@ use mathlib.Core.Logic.{⊎-elim}
 use mathlib.Core.Bool.{Bool, true, false, not, _&&_}
 use borrow.Author.Tests.{eq-eqb, ne-eqb}
 use Prim.Native.Nat.{ℕ, zero, suc, _+_, _*_, _-_, _/_, _≤_, _<_}
-use native.Mathlib.Nat.{zero-add}
+use native.Mathlib.Nat.{add-zero, zero-add}
 use native.Mathlib.Omega.{arith}
 use native.Mathlib.Numerals.{add-one}
 use mathlib.Core.List.{List, [], _∷_, _++_, map, append-nil}
 use lib.ListN.{length, getD, set, take, drop, length-map, length-take, length-drop}
 use lib.Seq.{sets, slice, length-sets, take-set-le, take-suc, take-length, length-take-le}
-use lib.Seq.{length-slice, getD-take, getD-drop, drop-append-le}
+use lib.Seq.{slice-empty, length-slice, getD-take, getD-drop, drop-append-le}
 use lib.Dec.{T, ltb}
 use Rattle.model.specs.declared.Book.{Book as BookStruct}
 use Rattle.spec.specs.Lists.{Bytes, upTo, each, only, one, all, pick, has, lastOr}
 use Rattle.spec.specs.Book.{Book, segmentOf, startNode, endNode, joined}
-use Rattle.spec.specs.Held.{held, CountsFit}
+use Rattle.spec.specs.Held.{held, padded, CountsFit}
 use Rattle.spec.specs.Runs.{leadsTo, goesOn, extend, pathsOf, directed}
 use Rattle.laws.proofs.Tests.{and-iff, ltb-iff, all-at, all-upTo, le-or-lt}
+use Rattle.laws.proofs.Arrays.{padded-next}
 use Rattle.laws.proofs.Parts.{length-upTo, each-append, each-same, map-at}
 use Rattle.listing.specs.Listed.{successors, successorTable, fanWidths, successorsBy, SuccessorsHeld, Covered, extendBy, pathsBy}
 use Rattle.listing.specs.Listed.{entryAt, entryOf, placeAt, placeIn, keptOf, runsAfter}
@@ -106,6 +107,18 @@ module _ {ℓ} {A : Type ℓ} where
       ap (λ (k : ℕ). slice base k xs) e
       ∙ ap (drop base) (take-suc xs (base + i) d h)
       ∙ drop-append-le base (take (base + i) xs) (one (getD xs (base + i) d)) l
+
+  -- a row that is copied, element by element, into an array of n: none is there, or one more
+  module _ (n : ℕ) (z : A) (xs : List A) (base : ℕ) where
+    pub copied-none : {row : List A} → row ≡ padded n z [] → row ≡ padded n z (slice base (base + 0) xs)
+    copied-none e = e ∙ ap (padded n z) (sym (ap (λ (k : ℕ). slice base k xs) (add-zero base) ∙ slice-empty base xs))
+
+    pub copied-next : {row : List A} (i : ℕ) → i < n → base + i < length xs → row ≡ padded n z (slice base (base + i) xs)
+        → set row i (getD xs (base + i) z) ≡ padded n z (slice base (base + (i + 1)) xs)
+    copied-next i room inside e =
+        ap (λ (r : List A). set r i (getD xs (base + i) z)) e
+        ∙ padded-next n i z (getD xs (base + i) z) (slice base (base + i) xs) (length-part xs base i (omega arith)) room
+        ∙ ap (padded n z) (sym (slice-snoc xs base i z inside))
 
   -- the rows of the elements of a part of a list
   pub each-slice {κ} : {B : Type κ} (f : A → List B) (d : A) (xs : List A) (base n : ℕ) → base + n ≤ length xs

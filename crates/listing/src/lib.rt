@@ -12,7 +12,7 @@ use model::MAX_SEGMENTS;
 use model::MAX_TRAINS;
 use model::Train;
 use network::track::end_node;
-use network::track::joined;
+use network::track::join_among;
 use network::track::length_in_segments;
 use network::track::speed_in_segments;
 use network::track::start_in;
@@ -66,12 +66,14 @@ fn fill_fan(b: Book, d: usize, table: &mut [u8]) -> usize
 {
     let n = 2 * b.segment_count;
     let node = end_node(b, d);
+    let joins = b.joins;
+    let count = b.join_count;
     let base = d * FAN_BYTES;
     let mut found = 0;
     let mut e = 0;
     while e < n {
         let s = b.segments[e / 2];
-        if start_in(s, e) == node && joined(b, node, d / 2, e / 2) {
+        if start_in(s, e) == node && join_among(joins, count, node, d / 2, e / 2) {
             table[base + found] = e as u8;
             found += 1;
         }

@@ -5,6 +5,7 @@
 use frames::bytes::wide;
 use model::Book;
 use model::Join;
+use model::MAX_JOINS;
 use model::MAX_REACH;
 use model::Segment;
 use model::Train;
@@ -17,7 +18,7 @@ ghost use lib.Dec.{T, ltb, eqb};
 ghost use Rattle.spec.specs.Lists as lists;
 ghost use Rattle.spec.specs.Book as book;
 ghost use Rattle.spec.specs.Runs as runs;
-ghost use Rattle.spec.specs.Read.{maxReach};
+ghost use Rattle.spec.specs.Read.{maxJoins, maxReach};
 ghost use Rattle.spec.specs.Held.{held, heldTrain, CountsFit, NumbersFit};
 
 // Whether a node of this kind may never have a border.
@@ -78,20 +79,29 @@ fn join_is(node: usize, s: usize, t: usize, j: Join) -> bool
     wide(j.node) == node && (left == s && right == t || left == t && right == s)
 }
 
-// Whether some join is of these two segments at this node.
-pub fn joined(b: Book, node: usize, s: usize, t: usize) -> bool
-    requires { ⌜ CountsFit b ⌝ }
-    ensures { λ r. ⌜ r ≡ book.joined (held b) node s t ⌝ }
+// Whether one of the first n joins is of these two segments at this node. It takes the joins and not
+// their book, since run lists ask it for many pairs.
+pub fn join_among(joins: [Join; MAX_JOINS], n: usize, node: usize, s: usize, t: usize) -> bool
+    requires { ⌜ n ≤ maxJoins ⌝ }
+    ensures { λ r. ⌜ r ≡ lists.any (book.joinIs node s t) (take n joins) ⌝ }
 {
-    let n = b.join_count;
     let mut i = 0;
     while i < n {
-        if join_is(node, s, t, b.joins[i]) {
+        if join_is(node, s, t, joins[i]) {
             return true;
         }
         i += 1;
     }
     false
+}
+
+// Whether some join is of these two segments at this node.
+pub fn joined(b: Book, node: usize, s: usize, t: usize) -> bool
+    requires { ⌜ CountsFit b ⌝ }
+    ensures { λ r. ⌜ r ≡ book.joined (held b) node s t ⌝ }
+{
+    let joins = b.joins;
+    join_among(joins, b.join_count, node, s, t)
 }
 
 // Whether directed segment d ends where e begins, with a join of the two there.

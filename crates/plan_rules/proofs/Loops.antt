@@ -1,7 +1,8 @@
 -- The rules of one train in the form of the loops that check them: one test an interval, of its move and the one before. Assumes
 -- nothing.
-use mathlib.Core.Path.{_≡_, ap, _∙_}
-use mathlib.Core.Bool.{Bool, not, _&&_, _||_, cond}
+use borrow.Author.Tests.{not-true, not-false}
+use mathlib.Core.Path.{_≡_, sym, ap, _∙_}
+use mathlib.Core.Bool.{Bool, true, false, not, _&&_, _||_, cond}
 use mathlib.Core.Logic.{inl, inr}
 use Prim.Native.Nat.{ℕ, zero, suc, _+_, _-_, _≤_, _<_}
 use native.Mathlib.Numerals.{add-one}
@@ -12,7 +13,15 @@ use Rattle.spec.specs.Instance.{Instance}
 use Rattle.spec.specs.Plan.{Plan, Move, absent, isAbsent, isGone, runs, ifRun, absentBefore, leavesRightly, runsOn}
 use Rattle.laws.proofs.Tests.{bool-ext, and-iff, not-iff, implies-iff, ltb-iff, all-upTo, all-range, decide, true-of, denied-of}
 use Rattle.laws.proofs.Tests.{le-or-lt}
-use Rattle.laws.proofs.Loops.{all-start}
+use Rattle.laws.proofs.Loops.{all-start, all-turn, all-broken}
+
+-- a turn of a loop that leaves with the first number that fails, by what a function answered of it
+module _ (f : ℕ → Bool) {n k : ℕ} {whole answer : Bool} (h : whole ≡ all f (range k n)) (l : k < n) (e : answer ≡ f k) where
+  pub all-fails : not answer ≡ true → false ≡ whole
+  all-fails t = all-broken f h l (sym e ∙ not-true answer t)
+
+  pub all-goes : not answer ≡ false → whole ≡ all f (range (k + 1) n)
+  all-goes t = all-turn f h l (sym e ∙ not-false answer t)
 
 not-below : (t d : ℕ) → T (not (ltb t d)) → d ≤ t
 not-below t d b = elim (le-or-lt d t) [ inl x ↦ x | inr x ↦ absurd (not-iff (ltb t d) .0 b (ltb-iff t d .1 x)) ]
@@ -59,6 +68,11 @@ module _ (m : ℕ → Move) where
 
   pub prior-next : (t : ℕ) → prior (t + 1) ≡ m t
   prior-next t = ap prior (add-one t)
+
+  -- a turn of a loop that holds the move before
+  pub next-move : (f : ℕ → Bool) {n k : ℕ} {whole answer : Bool} → whole ≡ all f (range k n) → k < n → answer ≡ f k
+      → {x : Move} → x ≡ m k → not answer ≡ false → (whole ≡ all f (range (k + 1) n)) × (x ≡ prior (k + 1))
+  next-move f {k = k} h l e moved t = (all-goes f h l e t, moved ∙ sym (prior-next k))
 
   -- what holds of absent and of every move holds of it
   pub prior-all : (P : Move → Type 0) → P absent → (n : ℕ) → ((t : ℕ) → t < n → P (m t)) → (t : ℕ) → t ≤ n → P (prior t)

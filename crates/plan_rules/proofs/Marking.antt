@@ -14,9 +14,13 @@ use Rattle.network.proofs.Walks.{slice-next, slice-end}
 use Rattle.plan_rules.specs.declared.apart.Stretch.{Stretch}
 use Rattle.plan_rules.specs.Marks.{StretchFits, isMarked, marking}
 
+-- the directed segment x has a label, and it is one of 64
+abbrev pub HasLabel : List ℕ → ℕ → Type 0
+HasLabel labels x = (x / 2 < length labels) × (getD labels (x / 2) 0 < 64)
+
 -- the label that is read at k, of a segment of the stretch
 pub label-here : {labels : List ℕ} {runs : Bytes} {s : Stretch} → StretchFits labels runs s
-    → {k x : ℕ} → s .at ≤ k → k < s .at + s .size → x ≡ getD runs k 0 → (x / 2 < length labels) × (getD labels (x / 2) 0 < 64)
+    → {k x : ℕ} → s .at ≤ k → k < s .at + s .size → x ≡ getD runs k 0 → HasLabel labels x
 label-here h {k} a z e = rw e (h .inside k a z, h .below k a z)
 
 -- the next label of a stretch, and none behind the last

@@ -1,7 +1,7 @@
 -- What the functions over one train know: its moves are its own, its runs lie inside the tables, and what the places' functions
 -- answer about a run is what the instance says. Assumes nothing.
 use mathlib.Core.Path.{_≡_, refl, sym, ap, ap₂, _∙_, subst}
-use mathlib.Core.Bool.{Bool}
+use mathlib.Core.Bool.{Bool, true, false}
 use Prim.Native.Nat.{ℕ, _+_, _≤_, _<_}
 use native.Mathlib.Omega.{arith}
 use lib.ListN.{length}
@@ -11,7 +11,7 @@ use Rattle.spec.specs.Lists.{Bytes, same}
 use Rattle.spec.specs.Runs.{startPlace, endPlace}
 use Rattle.spec.specs.Instance.{Instance, instanceOf, compile, runLists, runAt}
 use Rattle.spec.specs.Plan as plan
-use Rattle.spec.specs.Plan.{run, absent, gone, ifRun, isMove, planOf, planLength, planFits}
+use Rattle.spec.specs.Plan.{run, absent, gone, runs, ifRun, isMove, planOf, planLength, planFits}
 use Rattle.spec.specs.Held.{held}
 use Rattle.laws.proofs.Tests.{and-iff, eqb-iff, ltb-iff, all-upTo}
 use Rattle.listing.specs.Listed.{trainBytes, placeAt, startAt}
@@ -21,7 +21,7 @@ use Rattle.tables.proofs.Answers.{end-inside, least-held, ending-held}
 use Rattle.tables.proofs.Here.{in-instance}
 use Rattle.tables.proofs.Small.{intervals-is, passed-few}
 use Rattle.layout.specs.declared.moves.Move.{Move}
-use Rattle.layout.specs.declared.moves.Move.the-variants.{Run}
+use Rattle.layout.specs.declared.moves.Move.the-variants.{Run, Absent, Gone}
 use Rattle.layout.specs.Moves.{heldMove}
 use Rattle.plan_rules.proofs.Loops.{prior, prior-all}
 use Rattle.plan_rules.specs.Kept.{Planned, TrainReady}
@@ -46,6 +46,31 @@ module _ (I : Instance) (s : Bytes) (fits : T (planFits I s)) where
 -- the answer about a move, for the case that it is
 pub told : (f : plan.Move → Bool) {m case : Move} → m ≡ case → f (heldMove case) ≡ f (heldMove m)
 told f e = ap (λ (o : Move). f (heldMove o)) (sym e)
+
+module _ (f : ℕ → Bool) {m : Move} where
+  pub runs-run : {r : ℕ} → m ≡ Run r → f r ≡ runs (heldMove m) f
+  unfolding runs
+  runs-run e = told (λ o. runs o f) e
+
+  pub runs-absent : m ≡ Absent → false ≡ runs (heldMove m) f
+  unfolding runs
+  runs-absent e = told (λ o. runs o f) e
+
+  pub runs-gone : m ≡ Gone → false ≡ runs (heldMove m) f
+  unfolding runs
+  runs-gone e = told (λ o. runs o f) e
+
+  pub if-run : {r : ℕ} → m ≡ Run r → f r ≡ ifRun (heldMove m) f
+  unfolding ifRun
+  if-run e = told (λ o. ifRun o f) e
+
+  pub if-absent : m ≡ Absent → true ≡ ifRun (heldMove m) f
+  unfolding ifRun
+  if-absent e = told (λ o. ifRun o f) e
+
+  pub if-gone : m ≡ Gone → true ≡ ifRun (heldMove m) f
+  unfolding ifRun
+  if-gone e = told (λ o. ifRun o f) e
 
 pub run-below : (I : Instance) (i : ℕ) {m : Move} {r : ℕ} → T (isMove I i (heldMove m)) → m ≡ Run r → r < I .runs i
 unfolding isMove
@@ -114,6 +139,21 @@ module _ {b : BookStruct} {i l : ℕ} {runs : Bytes} (h : TrainReady b i l runs)
 
   pub ending : {at : ℕ} → at ≡ endAt runs r l → placeAt runs at l ≡ endPlace l (runAt (runLists (held b)) i r)
   ending e = ap (λ (n : ℕ). placeAt runs n l) e ∙ ending-held b i r (h .reached) (h .table) k
+
+-- the same of a move that is a run of the train's
+module _ {b : BookStruct} {i l : ℕ} {runs : Bytes} (h : TrainReady b i l runs) {m : Move} {r : ℕ}
+    (own : T (isMove (instanceOf (held b)) i (heldMove m))) (e : m ≡ Run r) where
+  pub below : r < instanceOf (held b) .runs i
+  below = run-below (instanceOf (held b)) i own e
+
+  pub run-asks : (r < 256) × (length runs ≡ trainBytes) × (l ≤ sizeAt runs r)
+  run-asks = end-asks h r below
+
+  pub run-room : {at : ℕ} → at ≡ endAt runs r l → at + l ≤ length runs
+  run-room = end-room h r below
+
+  pub run-ends : {at : ℕ} → at ≡ endAt runs r l → placeAt runs at l ≡ endPlace l (runAt (runLists (held b)) i r)
+  run-ends = ending h r below
 
 -- whether a run follows, as `places::follows` answers it
 module _ {b : BookStruct} {i l : ℕ} {runs : Bytes} (h : TrainReady b i l runs) (r q : ℕ)

@@ -9,7 +9,7 @@ use mathlib.Core.List.{List, [], _∷_, _++_, append-nil}
 use lib.ListN.{length, take, drop, length-drop}
 use lib.IntN.{ℤ}
 use lib.Dec.{T, leb}
-use lib.Seq.{sets, sets-eq, take-append-seam}
+use lib.Seq.{sets, length-sets, sets-eq, take-append-seam}
 use Rattle.spec.specs.Lists.{Bytes, Verdict, accepted, refused, andThen, each}
 use Rattle.spec.specs.Book.{Book}
 use Rattle.spec.specs.Read.{readBook}
@@ -39,6 +39,13 @@ module _ (old text : Bytes) (full : length old ≡ 64) {n : ℕ} (e : n ≡ leng
 
   pub line-front : take n new ≡ text
   line-front = ap₂ (λ (k : ℕ) (l : Bytes). take k l) e front ∙ take-append-seam text (drop (length text) old)
+
+-- ---- a piece of the words
+
+-- the buffer that it is put into stays as long as it was
+pub piece-long : (buf : Bytes) (ls : List ℤ) {new : Bytes} {n : ℕ} → new ≡ sets buf 0 (wordsText (take (taken (length buf) ls) ls))
+    → length buf ≡ n → length new ≡ n
+piece-long buf ls e h = ap length e ∙ length-sets buf 0 (wordsText (take (taken (length buf) ls) ls)) ∙ h
 
 -- ---- what an answer says
 

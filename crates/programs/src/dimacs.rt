@@ -89,7 +89,8 @@ pub fn put_words(buf: &mut [u8], words: &[i32], from: usize) -> Piece
     ensures { λ r. ⌜ (r .next ≡ from + taken (length (now (buf .entry))) (drop from (now (words .entry))))
         × (r .len ≡ length (wordsText (take (taken (length (now (buf .entry))) (drop from (now (words .entry)))) (drop from (now (words .entry))))))
         × (r .len ≤ length (now (buf .entry)))
-        × (now (buf .exit) ≡ sets (now (buf .entry)) 0 (wordsText (take (taken (length (now (buf .entry))) (drop from (now (words .entry)))) (drop from (now (words .entry)))))) ⌝ }
+        × (now (buf .exit) ≡ sets (now (buf .entry)) 0
+        (wordsText (take (taken (length (now (buf .entry))) (drop from (now (words .entry)))) (drop from (now (words .entry)))))) ⌝ }
 {
     let mut next = from;
     let mut len = 0;

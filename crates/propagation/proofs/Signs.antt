@@ -1,10 +1,11 @@
 -- A literal's sign, as the machine tests it, and what it makes of a byte: the bytes that make a literal true or false, and its truth
 -- by the byte of its variable. Assumes nothing.
-use mathlib.Core.Path.{_≡_, refl, sym, ap, _∙_}
+use mathlib.Core.Path.{_≡_, refl, sym, ap, ap₂, _∙_}
 use mathlib.Core.Bool.{Bool, false, cond}
 use Prim.Native.Nat.{ℕ, zero, suc, _-_, _≤_}
 use native.Mathlib.Omega.{arith}
-use lib.ListN.{getD}
+use mathlib.Core.List.{List}
+use lib.ListN.{getD, set}
 use lib.IntN.{ℤ, pos, negsuc}
 use lib.Signed.{ltZ}
 use mir.Syntax.{w32}
@@ -21,19 +22,33 @@ use Rattle.propagation.specs.Known.{valueIn, valuesIn, trueByte, falseBy
 pub sign-of : {l : Literal} {b : Bool} → SFits w32 l → ltZ (toZ w32 (ofZ w32 l)) (pos 0) ≡ b → ltZ l (pos 0) ≡ b
 sign-of h e = ap (λ (z : ℤ). ltZ z (pos 0)) (sym (toZ-ofZ h)) ∙ e
 
+-- and its variable that of the literal
+pub variable-read : (l : Literal) {v : ℕ} → SFits w32 l → v ≡ variableOf (toZ w32 (ofZ w32 l)) → v ≡ variableOf l
+variable-read l h e = e ∙ ap variableOf (toZ-ofZ h)
+
 above : (n : ℕ) → ltZ (pos n) (pos 0) ≡ false
 above n = le-ltb n 0 (omega arith)
 
--- the bytes that make a literal true and false
-pub true-byte : (l : Literal) (b : Bool) → ltZ l (pos 0) ≡ b → trueByte l ≡ cond b 2 1
-unfolding trueByte
-true-byte (pos n) b e = ap (λ (t : Bool). cond t 2 1) (sym (above n) ∙ e)
-true-byte (negsuc n) b e = ap (λ (t : Bool). cond t 2 1) e
+-- a byte that is one of two by the sign
+by-sign : (below above′ : ℕ) (l : Literal) {x : ℕ} {b : Bool} → SFits w32 l → ltZ (toZ w32 (ofZ w32 l)) (pos 0) ≡ b
+    → x ≡ cond b below above′ → x ≡ cond (ltZ l (pos 0)) below above′
+by-sign below above′ l h e f = f ∙ ap (λ (t : Bool). cond t below above′) (sym (sign-of h e))
 
-pub false-byte : (l : Literal) (b : Bool) → ltZ l (pos 0) ≡ b → falseByte l ≡ cond b 1 2
+-- the bytes that make a literal true and false
+pub true-byte : (l : Literal) {x : ℕ} {b : Bool} → SFits w32 l → ltZ (toZ w32 (ofZ w32 l)) (pos 0) ≡ b → x ≡ cond b 2 1 → x ≡ trueByte l
+unfolding trueByte
+true-byte (pos n) h e f = by-sign 2 1 (pos n) h e f ∙ ap (λ (t : Bool). cond t 2 1) (above n)
+true-byte (negsuc n) h e f = by-sign 2 1 (negsuc n) h e f
+
+pub false-byte : (l : Literal) {x : ℕ} {b : Bool} → SFits w32 l → ltZ (toZ w32 (ofZ w32 l)) (pos 0) ≡ b → x ≡ cond b 1 2 → x ≡ falseByte l
 unfolding falseByte
-false-byte (pos n) b e = ap (λ (t : Bool). cond t 1 2) (sym (above n) ∙ e)
-false-byte (negsuc n) b e = ap (λ (t : Bool). cond t 1 2) e
+false-byte (pos n) h e f = by-sign 1 2 (pos n) h e f ∙ ap (λ (t : Bool). cond t 1 2) (above n)
+false-byte (negsuc n) h e f = by-sign 1 2 (negsuc n) h e f
+
+-- the byte and the trail, at the place of the variable
+pub made : (values trail : List ℕ) (n : ℕ) {v u x y : ℕ} → v ≡ u → x ≡ y
+    → (set values (v - 1) x ≡ set values (u - 1) y) × (set trail n (v - 1) ≡ set trail n (u - 1))
+made values trail n e f = (ap₂ (λ (k b : ℕ). set values (k - 1) b) e f, ap (λ (k : ℕ). set trail n (k - 1)) e)
 
 -- the truth of a literal, by the byte of its variable
 pub truth-by : (values : Bytes) (l : Literal) (b : Bool) (x : Value) → 1 ≤ variableOf l → ltZ l (pos 0) ≡ b

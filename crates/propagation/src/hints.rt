@@ -9,7 +9,7 @@ ghost use mathlib.Core.Path.{_≡_};
 ghost use Prim.Native.Nat.{_+_, _-_, _≤_, _<_};
 ghost use lib.ListN as lists;
 ghost use lib.ListN.{length, drop};
-ghost use lib.Dec.{T};
+ghost use lib.Dec.{T, eqb};
 ghost use Rattle.spec.specs.Assignment as spec;
 ghost use Rattle.spec.specs.Refutation.{variableOf, literalsFit, hintsFit, refuting, goThrough, followsRule, clausesOf};
 ghost use Rattle.spec.specs.Entry.{zeroed};
@@ -38,6 +38,16 @@ pub fn truth(values: &[u8], l: i32) -> Value
     } else {
         if value == 1 { Value::Yes } else { Value::No }
     }
+}
+
+// Whether the byte of a literal's variable is the one that makes it false: asked first, since most
+// literals of a hint are false. A no decides nothing; the literal's truth is asked then.
+fn has_false_byte(values: &[u8], l: i32) -> bool
+    requires { ⌜ (1 ≤ variableOf l) × (variableOf l ≤ length (now values)) × (variableOf l < 2147483648) ⌝ }
+    ensures { λ r. ⌜ r ≡ eqb (lists.getD (now (values .entry)) (variableOf l - 1) 0) (falseByte l) ⌝ }
+{
+    let byte = if l < 0 { 1u8 } else { 2u8 };
+    values[variable(l) - 1] == byte
 }
 
 // Makes a literal true, and puts its variable on the trail.
@@ -112,14 +122,16 @@ fn try_hints(
         let mut unit = 0i32;
         while words[at] != 0 {
             let l = words[at];
-            match truth(values, l) {
-                Value::No => {}
-                Value::Yes => break 'hints,
-                Value::Open => {
-                    if unit != 0 {
-                        break 'hints;
+            if !has_false_byte(values, l) {
+                match truth(values, l) {
+                    Value::No => {}
+                    Value::Yes => break 'hints,
+                    Value::Open => {
+                        if unit != 0 {
+                            break 'hints;
+                        }
+                        unit = l;
                     }
-                    unit = l;
                 }
             }
             at += 1;

@@ -29,13 +29,13 @@ module _ (F : Format) (b : Book) (p : Bytes) where
   node-fine h k = simp (lt-leb _ _ h, le-ltb _ _ k)
 
   -- Head
-  pub head-wrong : (1 ≤ field p 0 2 → 1 ≤ field p 2 2 → 1 ≤ field p 4 (F .timeWidth) → field p 4 (F .timeWidth) ≤ F .maxIntervals → ⊥)
+  pub head-wrong : (1 ≤ field p 0 2 → 1 ≤ field p 2 2 → 1 ≤ field p 4 (F .timeWidth) → field p 4 (F .timeWidth) ≤ F .greatestT → ⊥)
       → firstFault (contentFaults F b headKind p) ≡ some 6
   unfolding contentFaults firstFault headFits add isKind kindNumber between
   head-wrong h =
       simp (false-of (headFits F (add F b headKind p)) (λ t. let q = simp (and-iff, leb-iff) at t in h (q .0 .0) (q .0 .1) (q .1 .0) (q .1 .1)))
 
-  pub head-fine : 1 ≤ field p 0 2 → 1 ≤ field p 2 2 → 1 ≤ field p 4 (F .timeWidth) → field p 4 (F .timeWidth) ≤ F .maxIntervals
+  pub head-fine : 1 ≤ field p 0 2 → 1 ≤ field p 2 2 → 1 ≤ field p 4 (F .timeWidth) → field p 4 (F .timeWidth) ≤ F .greatestT
       → firstFault (contentFaults F b headKind p) ≡ none
   unfolding contentFaults firstFault headFits add isKind kindNumber between
   head-fine m s t l = simp (le-leb _ _ m, le-leb _ _ s, le-leb _ _ t, le-leb _ _ l)

@@ -74,10 +74,10 @@ pub record OnWay (F : Format) (s : Bytes) (book : BookStruct) (last at : ℕ) : 
   pub rank-is : last ≡ reading .last
   pub inside : at ≤ length s
   pub isBytes : T (bytes s)
-  pub small : F .maxIntervals ≤ maxIntervals
+  pub small : F .greatestT ≤ maxIntervals
   pub way : ReadsTo F s reading (drop at s)
 
-pub way-start : (F : Format) (s : Bytes) (book : BookStruct) → F .maxIntervals ≤ maxIntervals → T (bytes s) → book ≡ packed noBook → OnWay F s book 0 0
+pub way-start : (F : Format) (s : Bytes) (book : BookStruct) → F .greatestT ≤ maxIntervals → T (bytes s) → book ≡ packed noBook → OnWay F s book 0 0
 unfolding readingStart
 way-start F s book m y e = record { reading = readingStart; same = e; rank-is = refl; inside = omega arith; isBytes = y; small = m; way = start }
 

@@ -10,7 +10,7 @@ use frames::TIME;
 use frames::TrainFrame;
 use frames::UnbreakableFrame;
 use frames::bytes::all_below;
-use frames::bytes::row_of;
+use frames::bytes::place_of;
 use frames::bytes::wide;
 use frames::pair;
 use frames::time;
@@ -271,16 +271,16 @@ fn train_numbers(p: &[u8]) -> Train
     }
 }
 
-// 8: the row behind a Train's fixed part is a path of l directed segments.
+// 8: what stands behind a Train's fixed part is a path of l directed segments.
 fn place_fits(b: Book, p: &[u8], l: usize) -> bool
-    requires { ⌜ CountsFit b × (frames.trainFixed frames.bookFormat ≤ length (now p)) × (l ≤ 8)
+    requires { ⌜ CountsFit b × (frames.trainFixed frames.bookFormat ≤ length (now p)) × (l ≤ read.maxReach)
         × T (lists.all (λ d. ltb d (2 * b .«segment_count»)) (placeSaid (now p))) ⌝ }
     ensures { λ r. ⌜ r ≡ (eqb (length (placeSaid (now (p .entry)))) l && runs.isPath (held b) (placeSaid (now (p .entry)))) ⌝ }
 {
-    p.len() - TrainFrame::LEN == l && is_path(b, row_of(p, TrainFrame::LEN), l)
+    p.len() - TrainFrame::LEN == l && is_path(b, place_of(p, TrainFrame::LEN), l)
 }
 
-// Train: at most 8; its place is a path of l directed segments. The row stands behind the fixed part.
+// Train: at most 8; its place, behind the fixed part, is a path of l directed segments.
 pub fn add_train(b: Book, p: &[u8]) -> Added
     requires { ⌜ Packed b × (1 ≤ b .«segment_metres») × (frames.trainFixed frames.bookFormat ≤ length (now p)) ⌝ }
     ensures { λ r. ⌜ r ≡ added frames.bookFormat frames.trainKind (held b) (now (p .entry)) ⌝ }
@@ -301,8 +301,8 @@ pub fn add_train(b: Book, p: &[u8]) -> Added
         return refused(b, 8);
     }
     t.size = l;
-    let row = row_of(p, TrainFrame::LEN);
-    t.place = row;
+    let place = place_of(p, TrainFrame::LEN);
+    t.place = place;
     let mut next = b;
     next.trains[at] = t;
     next.train_count = at + 1;

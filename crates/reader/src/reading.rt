@@ -144,7 +144,7 @@ fn unchanged(b: Book) -> Added
 }
 
 // 4 to 9 of a frame whose payload stands from `at` up to `end`, by its kind, and the book after it. The
-// kind's cursor says where its payload, or the part ahead of a Train's row, has to end: 4.
+// kind's cursor says where its payload, or the part ahead of a Train's place, has to end: 4.
 fn add_frame(b: Book, kind: Kind, s: &[u8], at: usize, end: usize) -> Added
     requires { ⌜ Packed b × (at ≤ end) × (end ≤ length (now s)) × (kind ≢ Kind.Head → T (growing (held b))) ⌝ }
     ensures { λ r. ⌜ r ≡ addedFound bookFormat (held b) (kindIn kind) (take (end - at) (drop at (now (s .entry)))) ⌝ }

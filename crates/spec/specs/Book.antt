@@ -10,7 +10,7 @@ pub use Rattle.model.specs.declared.Segment.{Segment}
 pub use Rattle.model.specs.declared.Join.{Join}
 pub use Rattle.model.specs.declared.Call.{Call}
 
--- "5 Train": `place` is the row of directed segments that it is given
+-- "5 Train": `place` has the directed segments that it is given
 pub record Train : Type 0 where
   pub metres : ℕ
   pub speed : ℕ

@@ -79,11 +79,11 @@ pub record Format : Type 0 where
   -- how many bytes a time has
   pub timeWidth : ℕ
   -- the greatest T
-  pub maxIntervals : ℕ
+  pub greatestT : ℕ
 
 -- The format in force: "Fields are one byte unless noted"; "T 1 to 32".
 abbrev pub bookFormat : Format
-bookFormat = record { timeWidth = 1; maxIntervals = 32 }
+bookFormat = record { timeWidth = 1; greatestT = 32 }
 
 module _ (f : Format) where
   -- Where a train's count n stands in its payload: behind length (2), speed (2) and departure.

@@ -64,7 +64,7 @@ abbrev pub maxCalls : ℕ
 maxCalls = 4
 
 abbrev pub maxIntervals : ℕ
-maxIntervals = bookFormat .maxIntervals
+maxIntervals = bookFormat .greatestT
 
 abbrev pub maxTtd : ℕ
 maxTtd = 63
@@ -80,7 +80,7 @@ between low high n = leb low n && leb n high
 
 -- 6 of a Head: "rs, rt at least 1; T 1 to 32"
 unfoldable pub headFits : Format → Book → Bool
-headFits f b = leb 1 (b .segmentMetres) && leb 1 (b .intervalSeconds) && between 1 (f .maxIntervals) (b .intervals)
+headFits f b = leb 1 (b .segmentMetres) && leb 1 (b .intervalSeconds) && between 1 (f .greatestT) (b .intervals)
 
 -- 6 of a Segment: "node a, node b (different), TTD 0 to 63"
 unfoldable pub segmentFits : Book → Segment → Bool

@@ -1,15 +1,16 @@
 -- From the answer to a book's bytes: the struct holds a book that passed, and a check of it goes on from its instance; or the check
--- stops with the book's refusal. Assumes nothing.
+-- stops with the book's refusal. And the tables that an entry point lends for it: how long they are, and what they are ready for
+-- afterwards. Assumes nothing.
 use mathlib.Core.Path.{_≡_, sym, ap, _∙_, subst}
-use Prim.Native.Nat.{ℕ, _<_}
-use lib.ListN.{getD}
+use Prim.Native.Nat.{ℕ, _≤_, _<_}
+use lib.ListN.{length, take, getD, replicate, length-replicate}
 use Rattle.spec.specs.Lists.{Bytes, Verdict, accepted, refused, andThen}
 use Rattle.spec.specs.Book.{Book}
 use Rattle.spec.specs.Read.{readBook}
 use Rattle.spec.specs.Instance.{Instance, instanceOf}
 use Rattle.spec.specs.Held.{held, packed}
 use Rattle.spec.specs.Entry.{readInstance}
-use Rattle.listing.specs.Listed.{runCounts}
+use Rattle.listing.specs.Listed.{runCounts, tableBytes}
 use Rattle.reader.proofs.Packing.{held-packed}
 use Rattle.reader.specs.declared.reading.Answer.the-variants.{Accepted, Refused}
 use Rattle.reader.specs.declared.reading.BookRead.{BookRead}
@@ -17,7 +18,10 @@ use Rattle.reader.specs.BookAnswers.{bookReadOf}
 use Rattle.reader.proofs.Accepted.{accepted-by, refused-by}
 use Rattle.reader.proofs.Verdicts.{goes-on, stops}
 use Rattle.reader.proofs.Way.{bytes-of}
-use Rattle.tables.specs.Tables.{Passed}
+use Rattle.tables.specs.Tables.{Passed, allChains}
+use Rattle.tables.specs.Meets.{meetRoom}
+use Rattle.tables.specs.Ready.{RunsReady, MeetsReady}
+use Rattle.tables.specs.declared.preparing.Prepared.{Prepared}
 use Rattle.tables.proofs.Passing.{passed-read}
 
 module _ (bytes : Bytes) (r : BookRead) (e : r ≡ bookReadOf (readBook bytes)) where
@@ -45,3 +49,20 @@ module _ (bytes : Bytes) (r : BookRead) (e : r ≡ bookReadOf (readBook bytes)) 
   -- a refusal
   pub stopped : {A : Type 0} {n d : ℕ} (f : Instance → Verdict A) → r .answer ≡ Refused n d → andThen (readInstance bytes) f ≡ refused n d
   stopped {n = n} {d} f told = stops bytes f n d (refused-by r (readBook bytes) e told)
+
+-- the tables as an entry point lends them, filled with zeros
+pub runs-long : length (replicate {A = ℕ} tableBytes 0) ≡ tableBytes
+runs-long = length-replicate {A = ℕ} tableBytes 0
+
+pub chains-long : length (replicate {A = ℕ} allChains 0) ≡ allChains
+chains-long = length-replicate {A = ℕ} allChains 0
+
+pub meets-long : length (replicate {A = ℕ} meetRoom 0) ≡ meetRoom
+meets-long = length-replicate {A = ℕ} meetRoom 0
+
+-- and as they are beside an accepted book: of the last only the first bytes are filled
+abbrev pub TablesReady : Prepared → Bytes → Bytes → Type 0
+TablesReady p runs meets =
+    RunsReady (p .read .book) (p .read .counts) runs
+    × (p .«meet_bytes» ≤ length meets)
+    × MeetsReady (p .read .book) (take (p .«meet_bytes») meets)

@@ -182,9 +182,6 @@ module _ (b : BookStruct) (counts : List ℕ) (k : Counted b counts) (i : ℕ) (
   pub same-width : getD counts i 0 + 1 + b .«segment_count» ≡ width (instanceOf (held b)) i
   same-width = width-is b (k .passed) i _ (k .runs i l)
 
-  pub product-small : (t : ℕ) → t ≤ b .intervals → t * (getD counts i 0 + 1 + b .«segment_count») ≤ 21037056
-  product-small = span-small b (k .passed) i l _ (k .runs i l)
-
   pub first-below : firstVar (instanceOf (held b)) i ≤ 168296544
   first-below = begins-small b (k .passed) i l _ (k .runs i l)
 

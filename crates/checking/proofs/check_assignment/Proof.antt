@@ -2,19 +2,13 @@
 use borrow.Author.Needs.{needs}
 use native.Mathlib.Omega.{arith}
 use mathlib.Core.Path.{sym}
-use Prim.Native.Nat.{ℕ, _≤_}
 use denote.Ref.{now}
-use lib.ListN.{length, take, length-replicate}
+use lib.ListN.{length}
 use lib.Seq.{length-take-le}
 use Rattle.spec.specs.Lists.{Bytes, Verdict}
 use Rattle.spec.specs.Instance.{Instance}
 use Rattle.spec.specs.Entry.{decodedFor, checkAssignment, planOutput}
-use Rattle.listing.specs.Listed.{tableBytes}
-use Rattle.tables.specs.Tables.{allChains}
-use Rattle.tables.specs.Meets.{meetRoom}
-use Rattle.tables.specs.Ready.{RunsReady, MeetsReady}
-use Rattle.tables.specs.declared.preparing.Prepared.{Prepared}
-use Rattle.tables.proofs.Instances.{went-on, stopped}
+use Rattle.tables.proofs.Instances.{went-on, stopped, runs-long, chains-long, meets-long, TablesReady}
 use Rattle.checking.proofs.Answers.{left-stopped, left-same}
 use Rattle.checking.proofs.check_assignment.Statement.{statement}
 use Rattle.checking.proofs.check_assignment.Tie as tie
@@ -33,12 +27,7 @@ module _ (c : tie.After-enum-told) where
   abbrev prepared : tie.After-prepare-chains
   prepared = c .before .before .before .before .before .before .before .before
 
-  abbrev p : Prepared
-  p = prepared .prepare-chains .result
-
-  ready : RunsReady (p .read .book) (p .read .counts) (prepared .prepare-chains .last .1 .0)
-      × (p .«meet_bytes» ≤ length (prepared .prepare-chains .last .1 .1 .1 .0))
-      × MeetsReady (p .read .book) (take (p .«meet_bytes») (prepared .prepare-chains .last .1 .1 .1 .0))
+  ready : TablesReady (prepared .prepare-chains .result) (prepared .prepare-chains .last .1 .0) (prepared .prepare-chains .last .1 .1 .1 .0)
   ready = prepared .prepare-chains .ensures .1 (c .enum-told .given .1)
 
 decode-by-requires : tie.Need-decode-by-requires
@@ -62,16 +51,16 @@ pub check-assignment-spec : {M : Type 1} → statement M
 check-assignment-spec =
     tie.close
     (tie.spec
-    (λ c. sym (length-replicate {A = ℕ} tableBytes 0))
-    (λ c. sym (length-replicate {A = ℕ} allChains 0))
-    (λ c. sym (length-replicate {A = ℕ} meetRoom 0))
-    (λ c κs. (length-replicate {A = ℕ} tableBytes 0, length-replicate {A = ℕ} allChains 0, length-replicate {A = ℕ} meetRoom 0))
+    (λ c. sym runs-long)
+    (λ c. sym chains-long)
+    (λ c. sym meets-long)
+    (λ c κs. (runs-long, chains-long, meets-long))
     (λ c. search needs)
     (λ c. search needs)
     (λ c. search needs)
     (λ c. search needs)
     (λ c. omega (arith, ready (c .before .before) .1))
-    (λ c. let a = c .before .before .before in sym (length-take-le (p a .«meet_bytes») (prepared a .prepare-chains .last .1 .1 .1 .0) (ready a .1)))
+    (λ c. let a = c .before .before .before in sym (length-take-le _ _ (ready a .1)))
     decode-by-requires
     returns
     (λ c. search needs)

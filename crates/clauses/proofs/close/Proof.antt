@@ -11,4 +11,4 @@ close-spec =
     (λ c κs. search needs)
     (λ c κs. search needs)
     (λ c. search needs)
-    (λ c. closes _ _ _ _ _ (c .closed-by .ensures) (c .before .before .store .ensures)))
+    (λ c. closes _ _ _ _ _ (c .closed-by .ensures) (c .before .before .before .store .ensures)))

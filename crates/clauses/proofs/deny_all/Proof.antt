@@ -21,11 +21,6 @@ Inv-loop from n values out₀ next₀ k₀ out next k =
 abbrev μ-loop : tie.MeasureT-loop
 μ-loop from n values out₀ next₀ k₀ out next k = n - k
 
-loop-again : tie.Need-loop-again Inv-loop μ-loop
-loop-again c =
-    let t = c .before .before .before in
-    turn _ _ _ (t .before .loop .inv) (t .loop-test .taken) (c .before .unit-not .ensures)
-
 pub deny-all-spec : {M : Type 1} → statement M
 deny-all-spec =
     tie.close
@@ -37,6 +32,6 @@ deny-all-spec =
     (λ c κs. omega arith)
     (λ c. omega arith)
     (λ c. omega arith)
-    loop-again
+    (λ c. let t = c .before .before .before in turn _ _ _ (t .before .loop .inv) (t .loop-test .taken) (c .before .unit-not .ensures))
     (λ c. c .before .loop .inv .size)
     (λ c. walks-same (words-row _ _) (turned _ _ _ (c .before .loop .inv) (c .loop-test .left))))

@@ -22,11 +22,6 @@ Inv-loop from m n values out₀ next₀ k₀ out next k =
 abbrev μ-loop : tie.MeasureT-loop
 μ-loop from m n values out₀ next₀ k₀ out next k = n - k
 
-loop-again : tie.Need-loop-again Inv-loop μ-loop
-loop-again c =
-    let t = c .before .before .before in
-    turn _ _ _ (t .before .loop .inv) (t .loop-test .taken) (c .before .not-both .ensures)
-
 pub each-pair-spec : {M : Type 1} → statement M
 each-pair-spec =
     tie.close
@@ -40,6 +35,6 @@ each-pair-spec =
     (λ c κs. (omega arith, omega arith))
     (λ c. omega arith)
     (λ c. omega arith)
-    loop-again
+    (λ c. let t = c .before .before .before in turn _ _ _ (t .before .loop .inv) (t .loop-test .taken) (c .before .not-both .ensures))
     (λ c. c .before .loop .inv .size)
     (λ c. walks-same (sym (words-map _ _)) (turned _ _ _ (c .before .loop .inv) (c .loop-test .left))))

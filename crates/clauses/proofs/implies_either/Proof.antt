@@ -18,7 +18,7 @@ returns c =
     let first = second .before in
     let both = first .before .before in
     let half = both .before in
-    let s = half .before .before in
+    let s = half .before .before .before in
     passes-three _ _ _ _ _ _ _ _ _ _ _ _ (denying _) (affirming _) (affirming _)
     (judged .holds-by2 .ensures ∙ simp (both .holds-by .ensures, half .holds-without .ensures, affirmed, denied′))
     (c .closed-by .ensures) (not-said _ _ (s .pre .0) (first .negative .ensures)) (is-said _ _ (s .pre .1) (second .positive .ensures))

@@ -21,11 +21,6 @@ Inv-loop from n values out₀ next₀ m₀ out next m =
 abbrev μ-loop : tie.MeasureT-loop
 μ-loop from n values out₀ next₀ m₀ out next m = n - m
 
-loop-again : tie.Need-loop-again Inv-loop μ-loop
-loop-again c =
-    let t = c .before .before .before in
-    turn _ _ _ (t .before .loop .inv) (t .loop-test .taken) (c .before .pairs-of .ensures)
-
 pub no-two-spec : {M : Type 1} → statement M
 no-two-spec =
     tie.close
@@ -36,6 +31,6 @@ no-two-spec =
     (λ c κs. (omega arith, omega arith, omega arith))
     (λ c. omega arith)
     (λ c. omega arith)
-    loop-again
+    (λ c. let t = c .before .before .before in turn _ _ _ (t .before .loop .inv) (t .loop-test .taken) (c .before .pairs-of .ensures))
     (λ c. c .before .loop .inv .size)
     (λ c. walks-same (words-rows _ _) (turned _ _ _ (c .before .loop .inv) (c .loop-test .left))))

@@ -16,7 +16,7 @@ returns c =
     let second = kept .before in
     let first = second .before in
     let half = first .before .before in
-    let s = half .before .before in
+    let s = half .before .before .before in
     passes-two _ _ _ _ _ _ _ _ _ _ (denying _) (denying _)
     (judged .holds-without2 .ensures ∙ simp (half .holds-without .ensures, denied′))
     (c .closed-by .ensures) (not-said _ _ (s .pre .0) (first .negative .ensures)) (not-said _ _ (s .pre .1) (second .negative2 .ensures)) (kept .store-two .ensures)

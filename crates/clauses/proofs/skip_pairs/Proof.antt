@@ -2,7 +2,6 @@
 use borrow.Author.Needs.{needs}
 use mathlib.Core.Path.{_≡_, refl, sym, ap}
 use mathlib.Core.Logic.{_≢_}
-use mathlib.Core.Bool.{false}
 use Prim.Native.Nat.{ℕ, zero, suc, _*_}
 use Rattle.clauses.specs.declared.Walk.{Walk}
 use Rattle.clauses.specs.Walked.{more, skipped}
@@ -16,7 +15,7 @@ none w e = ap (λ (n : ℕ). skipped n w) (sym e)
 
 -- some clauses
 some : {k words clauses : ℕ} (w : Walk) → k ≢ 0 → words ≡ more (w .words) (3 * k) → clauses ≡ more (w .clauses) k
-    → record { words = words; clauses = clauses; holds = false; wrong = w .wrong } ≡ skipped k w
+    → record { words = words; clauses = clauses; holds = 0; wrong = w .wrong } ≡ skipped k w
 unfolding skipped
 some {k = zero} w h e f = absurd (h refl)
 some {k = suc k} w h e f = simp (e, f)

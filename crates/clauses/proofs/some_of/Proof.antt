@@ -23,11 +23,6 @@ Inv-loop from n values out₀ next₀ k₀ out next k =
 abbrev μ-loop : tie.MeasureT-loop
 μ-loop from n values out₀ next₀ k₀ out next k = n - k
 
-loop-again : tie.Need-loop-again Inv-loop μ-loop
-loop-again c =
-    let t = c .before .before .before in
-    turn _ _ _ (t .before .loop .inv) (t .loop-test .taken) (c .before .affirm .ensures)
-
 returns : tie.Need-returns Inv-loop μ-loop
 returns c =
     let l = c .before .before .before in
@@ -45,7 +40,7 @@ some-of-spec =
     (λ c κs. omega arith)
     (λ c. omega arith)
     (λ c. omega arith)
-    loop-again
+    (λ c. let t = c .before .before .before in turn _ _ _ (t .before .loop .inv) (t .loop-test .taken) (c .before .affirm .ensures))
     (λ c κs. search needs)
     (λ c. walks-length (returns c))
     returns)

@@ -6,18 +6,9 @@ use Rattle.clauses.proofs.Laws.{walks-behind, walks-length}
 use Rattle.clauses.proofs.unit_is.Statement.{statement}
 use Rattle.clauses.proofs.unit_is.Tie as tie
 
-affirm-requires : tie.Need-affirm-requires
-affirm-requires c κs = search needs
-
-close-requires : tie.Need-close-requires
-close-requires c κs = search needs
-
 returns : tie.Need-returns
 unfolding wordsOf each
 returns c = walks-behind (c .before .before .before .before .affirm .ensures) (c .before .close .ensures)
 
-same-length : tie.Need-same-length
-same-length c = walks-length (returns c)
-
 pub unit-is-spec : {M : Type 1} → statement M
-unit-is-spec = tie.close (tie.spec affirm-requires close-requires same-length returns)
+unit-is-spec = tie.close (tie.spec (λ c κs. search needs) (λ c κs. search needs) (λ c. walks-length (returns c)) returns)

@@ -6,18 +6,9 @@ use Rattle.clauses.proofs.Laws.{walks-behind, walks-length}
 use Rattle.clauses.proofs.unit_not.Statement.{statement}
 use Rattle.clauses.proofs.unit_not.Tie as tie
 
-deny-requires : tie.Need-deny-requires
-deny-requires c κs = search needs
-
-close-requires : tie.Need-close-requires
-close-requires c κs = search needs
-
 returns : tie.Need-returns
 unfolding wordsOf each
 returns c = walks-behind (c .before .before .before .before .deny .ensures) (c .before .close .ensures)
 
-same-length : tie.Need-same-length
-same-length c = walks-length (returns c)
-
 pub unit-not-spec : {M : Type 1} → statement M
-unit-not-spec = tie.close (tie.spec deny-requires close-requires same-length returns)
+unit-not-spec = tie.close (tie.spec (λ c κs. search needs) (λ c κs. search needs) (λ c. walks-length (returns c)) returns)

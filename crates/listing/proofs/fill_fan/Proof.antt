@@ -11,7 +11,7 @@ use denote.Ref.{now}
 use lib.ListN.{length, set, length-set, length-append}
 use lib.Seq.{sets}
 use Rattle.spec.specs.Lists.{upTo, count, pick, one}
-use Rattle.spec.specs.Book.{startNode}
+use Rattle.spec.specs.Book.{joined, startNode}
 use Rattle.spec.specs.Runs.{leadsTo, directed}
 use Rattle.spec.specs.Held.{held}
 use Rattle.network.proofs.Walks.{length-of-map}
@@ -24,78 +24,24 @@ use Rattle.listing.proofs.fill_fan.Statement.{statement}
 use Rattle.listing.proofs.fill_fan.Tie as tie
 
 abbrev Inv-loop : tie.InvT-loop
-Inv-loop d table₀ b n node base found₀ e₀ table found e =
+Inv-loop d table₀ b n node joins count base found₀ e₀ table found e =
     (e ≤ n) × (found ≤ e) × (length table ≡ length table₀) × (found ≡ length (pick (leadsTo (held b) d) (upTo e)))
     × (table ≡ sets table₀ base (pick (leadsTo (held b) d) (upTo e)))
 
 abbrev μ-loop : tie.MeasureT-loop
-μ-loop d table₀ b n node base found₀ e₀ table found e = n - e
+μ-loop d table₀ b n node joins count base found₀ e₀ table found e = n - e
 
--- src/lib.rt:40:13
-mul-n : tie.Need-mul-n Inv-loop μ-loop
-mul-n c = omega arith
-
--- src/lib.rt:41:9
-end-node-requires : tie.Need-end-node-requires Inv-loop μ-loop
-end-node-requires c κs = search needs
-
--- src/lib.rt:42:16
-mul-base : tie.Need-mul-base Inv-loop μ-loop
-mul-base c = omega arith
-
--- src/lib.rt:45:5
 loop-holds : tie.Need-loop-holds Inv-loop μ-loop
 unfolding upTo count pick
 loop-holds c = (omega arith, omega arith, refl, refl, refl)
 
--- src/lib.rt:46:17
-mul-s : tie.Need-mul-s Inv-loop μ-loop
-mul-s c = omega arith
-
--- src/lib.rt:46:17
-element-copy-out-s : tie.Need-element-copy-out-s Inv-loop μ-loop
-element-copy-out-s c = omega arith
-
--- src/lib.rt:47:12
-start-in-requires : tie.Need-start-in-requires Inv-loop μ-loop
-start-in-requires c κs = search needs
-
--- src/lib.rt:47:38
-joined-requires : tie.Need-joined-requires Inv-loop μ-loop
-joined-requires c κs = search needs
-
--- src/lib.rt:48:35
-cast-table : tie.Need-cast-table Inv-loop μ-loop
-cast-table c = omega arith
-
--- src/lib.rt:48:19
-add-table : tie.Need-add-table Inv-loop μ-loop
-add-table c = omega arith
-
--- src/lib.rt:48:13
-slice-write-table : tie.Need-slice-write-table Inv-loop μ-loop
-slice-write-table c = omega arith
-
--- src/lib.rt:49:13
-add-found : tie.Need-add-found Inv-loop μ-loop
-add-found c = omega arith
-
--- src/lib.rt:51:9
-add-e : tie.Need-add-e Inv-loop μ-loop
-add-e c = omega arith
-
--- src/lib.rt:45:5
-loop-less : tie.Need-loop-less Inv-loop μ-loop
-loop-less c = omega arith
-
--- src/lib.rt:45:5
 -- a turn: what is known of e, with whether d leads to it
 module _ (c : tie.After-start-in Inv-loop μ-loop) where
   abbrev looped : tie.At-loop Inv-loop μ-loop
   looped = c .before .before .before
 
   abbrev given : tie.Start Inv-loop μ-loop
-  given = looped .before .before .before
+  given = looped .before .before .before .before
 
   abbrev leads : ℕ → Bool
   leads = leadsTo (held (given .args .t1)) (given .args .d)
@@ -127,9 +73,10 @@ module _ (c : tie.After-start-in Inv-loop μ-loop) where
   left h = let i = looped .loop .inv in let p = pick-left leads e h in rw p (omega arith, i .2, i .3, i .4)
 
 loop-again : tie.Need-loop-again Inv-loop μ-loop
+unfolding joined held
 loop-again c =
     let s = c .before in
-    let ends = looped s .before .end-node .ensures .0 in
+    let ends = looped s .before .before .end-node .ensures .0 in
     let joins = leads-joined (held (given s .args .t1)) (given s .args .d) (e s) ends (starts s) in
     let after : After s (c .if1 .table) (c .if1 .found) =
     ⊎-elim
@@ -141,11 +88,6 @@ loop-again c =
     (c .if1 .came) in
     (omega arith, after .0, after .1, after .2, after .3)
 
--- src/lib.rt:35:1
-same-length : tie.Need-same-length Inv-loop μ-loop
-same-length c = c .before .loop .inv .2
-
--- src/lib.rt:35:1
 -- the book's segments are as many as its struct says
 segments : (s : tie.Start Inv-loop μ-loop) → length (held (s .args .t1) .segments) ≡ s .args .t1 .«segment_count»
 segments s =
@@ -156,8 +98,8 @@ returns : tie.Need-returns Inv-loop μ-loop
 unfolding successors directed
 returns c =
     let s = c .before in
-    let a = s .before .before .before .args in
-    let size = segments (s .before .before .before) in
+    let a = s .before .before .before .before .args in
+    let size = segments (s .before .before .before .before) in
     let done : s .loop .e ≡ 2 * length (held (a .t1) .segments) = omega arith in
     let all = ap (λ (n : ℕ). pick (leadsTo (held (a .t1)) (a .d)) (upTo n)) done in
     (s .loop .inv .3 ∙ ap length all, omega arith, s .loop .inv .4 ∙ ap (sets (now (a .table)) (a .d * 128)) all)
@@ -168,20 +110,20 @@ fill-fan-spec =
     (tie.spec
     Inv-loop
     μ-loop
-    mul-n
-    end-node-requires
-    mul-base
+    (λ c. omega arith)
+    (λ c κs. search needs)
+    (λ c. omega arith)
     loop-holds
-    mul-s
-    element-copy-out-s
-    start-in-requires
-    joined-requires
-    cast-table
-    add-table
-    slice-write-table
-    add-found
-    add-e
-    loop-less
+    (λ c. omega arith)
+    (λ c. omega arith)
+    (λ c κs. search needs)
+    (λ c κs. search needs)
+    (λ c. omega arith)
+    (λ c. omega arith)
+    (λ c. omega arith)
+    (λ c. omega arith)
+    (λ c. omega arith)
+    (λ c. omega arith)
     loop-again
-    same-length
+    (λ c. c .before .loop .inv .2)
     returns)

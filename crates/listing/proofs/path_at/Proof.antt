@@ -1,16 +1,13 @@
 -- `listing::path_at` meets its contract. The loop's invariant: the array holds the first i bytes of the run, zeros behind. Assumes
 -- nothing.
 use native.Mathlib.Omega.{arith}
-use native.Mathlib.Nat.{add-zero}
-use mathlib.Core.Path.{_≡_, sym, ap, ap₂, _∙_}
+use mathlib.Core.Path.{_≡_, refl, sym, ap, ap₂, _∙_}
 use Prim.Native.Nat.{ℕ, _+_, _-_, _≤_}
 use mathlib.Core.List.{List}
-use lib.ListN.{getD, set}
-use lib.Seq.{slice, slice-empty}
+use lib.Seq.{slice}
 use Rattle.spec.specs.Held.{padded}
-use Rattle.laws.proofs.Arrays.{padded-next}
 use Rattle.listing.specs.Listed.{packedPath, entryAt, placeAt}
-use Rattle.listing.proofs.Successors.{length-part, slice-snoc}
+use Rattle.listing.proofs.Successors.{length-part, copied-none, copied-next}
 use Rattle.listing.proofs.path_at.Statement.{statement}
 use Rattle.listing.proofs.path_at.Tie as tie
 
@@ -22,24 +19,13 @@ abbrev μ-loop : tie.MeasureT-loop
 
 loop-holds : tie.Need-loop-holds Inv-loop μ-loop
 unfolding padded
-loop-holds c =
-    let base = entryAt (c .args .r) + 1 in
-    let none = ap (λ (k : ℕ). slice base k (c .args .runs .now)) (add-zero base) ∙ slice-empty base (c .args .runs .now) in
-    (omega arith, ap (padded 16 0) (sym none))
+loop-holds c = (omega arith, copied-none 16 0 (c .args .runs .now) (entryAt (c .args .r) + 1) refl)
 
 loop-again : tie.Need-loop-again Inv-loop μ-loop
 loop-again c =
     let l = c .before .before in
     let a = l .before .args in
-    let i = l .loop .i in
-    let base = entryAt (a .r) + 1 in
-    let runs = a .runs .now in
-    let size = length-part runs base i (omega arith) in (
-      omega arith,
-      ap (λ (at : List ℕ). set at i (getD runs (base + i) 0)) (l .loop .inv .1)
-          ∙ padded-next 16 i 0 (getD runs (base + i) 0) (slice base (base + i) runs) size (omega arith)
-          ∙ ap (padded 16 0) (sym (slice-snoc runs base i 0 (omega arith))),
-    )
+    (omega arith, copied-next 16 0 (a .runs .now) (entryAt (a .r) + 1) (l .loop .i) (omega arith) (omega arith) (l .loop .inv .1))
 
 returns : tie.Need-returns Inv-loop μ-loop
 unfolding packedPath placeAt

@@ -2,21 +2,16 @@
 use borrow.Author.Needs.{needs}
 use native.Mathlib.Omega.{arith}
 use mathlib.Core.Path.{sym, ap, ap₂, _∙_}
-use Prim.Native.Nat.{ℕ, _≤_}
+use Prim.Native.Nat.{ℕ}
 use denote.Ref.{now}
-use lib.ListN.{length, take, length-replicate}
+use lib.ListN.{length}
 use lib.Seq.{length-take-le}
 use Rattle.spec.specs.Lists.{Verdict}
 use Rattle.spec.specs.Instance.{Instance, instanceOf}
 use Rattle.spec.specs.Held.{held}
 use Rattle.spec.specs.Entry.{refutedFor, checkRefutation}
-use Rattle.listing.specs.Listed.{tableBytes}
 use Rattle.reader.specs.BookAnswers.{answerOf}
-use Rattle.tables.specs.Tables.{allChains}
-use Rattle.tables.specs.Meets.{meetRoom}
-use Rattle.tables.specs.Ready.{RunsReady, MeetsReady}
-use Rattle.tables.specs.declared.preparing.Prepared.{Prepared}
-use Rattle.tables.proofs.Instances.{went-on, stopped}
+use Rattle.tables.proofs.Instances.{went-on, stopped, runs-long, chains-long, meets-long, TablesReady}
 use Rattle.refutations.specs.Lent.{lengths}
 use Rattle.refutations.proofs.Loaded.{loaded-stands}
 use Rattle.refutations.proofs.refute.Statement.{statement}
@@ -38,12 +33,7 @@ module _ (c : tie.After-enum-told) where
   abbrev prepared : tie.After-prepare-chains
   prepared = c .before .before .before .before .before .before .before .before
 
-  abbrev p : Prepared
-  p = prepared .prepare-chains .result
-
-  ready : RunsReady (p .read .book) (p .read .counts) (prepared .prepare-chains .last .1 .0)
-      × (p .«meet_bytes» ≤ length (prepared .prepare-chains .last .1 .1 .1 .0))
-      × MeetsReady (p .read .book) (take (p .«meet_bytes») (prepared .prepare-chains .last .1 .1 .1 .0))
+  ready : TablesReady (prepared .prepare-chains .result) (prepared .prepare-chains .last .1 .0) (prepared .prepare-chains .last .1 .1 .1 .0)
   ready = prepared .prepare-chains .ensures .1 (c .enum-told .given .1)
 
 load-formula-requires : tie.Need-load-formula-requires
@@ -73,7 +63,7 @@ returns-2 c =
     ∙ ap₂
     (λ (m n : ℕ).
     answerOf
-    (refutedFor (instanceOf (held (p (told l) .read .book))) (now (a .r)) (record { words = m; clauses = n; values = length (now (a .values)); trail = length (now (a .trail)) })))
+    (refutedFor (instanceOf (held (prepared (told l) .prepare-chains .result .read .book))) (now (a .r)) (record { words = m; clauses = n; values = length (now (a .values)); trail = length (now (a .trail)) })))
     (l .load-formula .kept .1 .1 .1 .1 .1 .0) (l .load-formula .kept .1 .1 .1 .1 .1 .1 .0)
     ∙ ap answerOf (went-on _ _ (r .prepare-chains .ensures .0) (told l .enum-told .given .1) (onward r))
 
@@ -81,16 +71,16 @@ pub refute-spec : {M : Type 1} → statement M
 refute-spec =
     tie.close
     (tie.spec
-    (λ c. sym (length-replicate {A = ℕ} tableBytes 0))
-    (λ c. sym (length-replicate {A = ℕ} allChains 0))
-    (λ c. sym (length-replicate {A = ℕ} meetRoom 0))
-    (λ c κs. (length-replicate {A = ℕ} tableBytes 0, length-replicate {A = ℕ} allChains 0, length-replicate {A = ℕ} meetRoom 0))
+    (λ c. sym runs-long)
+    (λ c. sym chains-long)
+    (λ c. sym meets-long)
+    (λ c κs. (runs-long, chains-long, meets-long))
     (λ c. search needs)
     (λ c. search needs)
     (λ c. search needs)
     (λ c. search needs)
     (λ c. omega (arith, ready (c .before .before) .1))
-    (λ c. let a = c .before .before .before in sym (length-take-le (p a .«meet_bytes») (prepared a .prepare-chains .last .1 .1 .1 .0) (ready a .1)))
+    (λ c. let a = c .before .before .before in sym (length-take-le _ _ (ready a .1)))
     load-formula-requires
     (λ c κs.
     let l = c .before .before .before .before .before .before .before in

@@ -3,17 +3,11 @@
 use borrow.Author.Needs.{needs}
 use native.Mathlib.Omega.{arith}
 use mathlib.Core.Path.{sym, ap, _∙_}
-use Prim.Native.Nat.{ℕ, _≤_}
 use denote.Ref.{now}
-use lib.ListN.{length, take, length-replicate}
+use lib.ListN.{length}
 use lib.Seq.{length-take-le}
 use Rattle.spec.specs.Entry.{writtenFor, wordsAfter, writeFormula, formulaOutput}
-use Rattle.listing.specs.Listed.{tableBytes}
-use Rattle.tables.specs.Tables.{allChains}
-use Rattle.tables.specs.Meets.{meetRoom}
-use Rattle.tables.specs.Ready.{RunsReady, MeetsReady}
-use Rattle.tables.specs.declared.preparing.Prepared.{Prepared}
-use Rattle.tables.proofs.Instances.{went-on, stopped}
+use Rattle.tables.proofs.Instances.{went-on, stopped, runs-long, chains-long, meets-long, TablesReady}
 use Rattle.writing.specs.FormulaAnswers.{formulaAnswer}
 use Rattle.writing.proofs.Answers.{stopped-answer, stopped-output}
 use Rattle.writing.proofs.write_formula.Statement.{statement}
@@ -24,13 +18,13 @@ module _ (c : tie.After-enum-told) where
   abbrev prepared : tie.After-prepare-chains
   prepared = c .before .before .before .before .before .before .before .before
 
-  abbrev p : Prepared
-  p = prepared .prepare-chains .result
-
-  ready : RunsReady (p .read .book) (p .read .counts) (prepared .prepare-chains .last .1 .0)
-      × (p .«meet_bytes» ≤ length (prepared .prepare-chains .last .1 .1 .1 .0))
-      × MeetsReady (p .read .book) (take (p .«meet_bytes») (prepared .prepare-chains .last .1 .1 .1 .0))
+  ready : TablesReady (prepared .prepare-chains .result) (prepared .prepare-chains .last .1 .0) (prepared .prepare-chains .last .1 .1 .1 .0)
   ready = prepared .prepare-chains .ensures .1 (c .enum-told .given .1)
+
+write-by-requires : tie.Need-write-by-requires
+write-by-requires c κs =
+    let a = c .before .before .before .before in
+    (ready a .0, prepared a .prepare-chains .ensures .2 (a .enum-told .given .1), ready a .2)
 
 returns : tie.Need-returns
 unfolding writeFormula formulaOutput
@@ -39,11 +33,6 @@ returns c =
     let old = now (r .before .before .before .before .before .args .out) in
     let e = stopped _ _ (r .prepare-chains .ensures .0) (λ I. writtenFor I (length old)) (c .before .answer .given .1) in
     (stopped-answer e, stopped-output old e)
-
-write-by-requires : tie.Need-write-by-requires
-write-by-requires c κs =
-    let a = c .before .before .before .before in
-    (ready a .0, prepared a .prepare-chains .ensures .2 (a .enum-told .given .1), ready a .2)
 
 returns-2 : tie.Need-returns-2
 unfolding writeFormula formulaOutput
@@ -59,16 +48,16 @@ pub write-formula-spec : {M : Type 1} → statement M
 write-formula-spec =
     tie.close
     (tie.spec
-    (λ c. sym (length-replicate {A = ℕ} tableBytes 0))
-    (λ c. sym (length-replicate {A = ℕ} allChains 0))
-    (λ c. sym (length-replicate {A = ℕ} meetRoom 0))
-    (λ c κs. (length-replicate {A = ℕ} tableBytes 0, length-replicate {A = ℕ} allChains 0, length-replicate {A = ℕ} meetRoom 0))
+    (λ c. sym runs-long)
+    (λ c. sym chains-long)
+    (λ c. sym meets-long)
+    (λ c κs. (runs-long, chains-long, meets-long))
     (λ c. search needs)
     (λ c. search needs)
     (λ c. search needs)
     (λ c. search needs)
     (λ c. omega (arith, ready (c .before .before) .1))
-    (λ c. let a = c .before .before .before in sym (length-take-le (p a .«meet_bytes») (prepared a .prepare-chains .last .1 .1 .1 .0) (ready a .1)))
+    (λ c. let a = c .before .before .before in sym (length-take-le _ _ (ready a .1)))
     write-by-requires
     returns
     (λ c. search needs)

@@ -1,12 +1,10 @@
 -- `cases::formulas::more_words` is safe and ends: each piece leads further on. Assumes nothing.
 use borrow.Author.Needs.{needs}
-use mathlib.Core.Path.{_≡_, sym, ap, _∙_}
+use mathlib.Core.Path.{_≡_, sym}
 use Prim.Native.Nat.{_≤_, _<_, _-_}
 use native.Mathlib.Omega.{arith}
-use lib.ListN.{length, take, drop}
-use lib.Seq.{sets, length-sets}
-use Rattle.programs.specs.Text.{wordsText, taken}
-use Rattle.programs.proofs.Texts.{piece-some, piece-le}
+use lib.ListN.{length, drop}
+use Rattle.programs.proofs.Texts.{piece-long, piece-some, piece-le}
 use Rattle.cases.proofs.formulas.more_words.Statement.{statement}
 use Rattle.cases.proofs.formulas.more_words.Tie as tie
 
@@ -20,9 +18,7 @@ abbrev μ-loop : tie.MeasureT-loop
 filled : (c : tie.After-put-words Inv-loop μ-loop) → length (c .put-words .last .0) ≡ 65536
 filled c =
     let k = c .before .before .before in
-    let ls = drop (k .loop .from) (k .before .before .args .words .now) in
-    let text = wordsText (take (taken (length (k .loop .buf)) ls) ls) in
-    ap length {y = sets (k .loop .buf) 0 text} (c .put-words .ensures .3) ∙ length-sets (k .loop .buf) 0 text ∙ k .loop .inv .1
+    piece-long (k .loop .buf) (drop (k .loop .from) (k .before .before .args .words .now)) (c .put-words .ensures .3) (k .loop .inv .1)
 
 put-words-requires : tie.Need-put-words-requires Inv-loop μ-loop
 put-words-requires c κs =

@@ -21,11 +21,6 @@ Inv-loop lower higher n values out₀ next₀ s₀ out next s =
 abbrev μ-loop : tie.MeasureT-loop
 μ-loop lower higher n values out₀ next₀ s₀ out next s = n - s
 
-loop-again : tie.Need-loop-again Inv-loop μ-loop
-loop-again c =
-    let t = c .before .before .before in
-    turn _ _ _ (t .before .loop .inv) (t .loop-test .taken) (c .before .not-both .ensures)
-
 returns : tie.Need-returns Inv-loop μ-loop
 unfolding clausesI
 returns c = walks-same (words-row _ _) (turned _ _ _ (c .before .loop .inv) (c .loop-test .left))
@@ -42,6 +37,6 @@ clauses-i-spec =
     (λ c κs. (omega arith, omega arith))
     (λ c. omega arith)
     (λ c. omega arith)
-    loop-again
+    (λ c. let t = c .before .before .before in turn _ _ _ (t .before .loop .inv) (t .loop-test .taken) (c .before .not-both .ensures))
     (λ c. c .before .loop .inv .size)
     returns)

@@ -40,11 +40,6 @@ add-t c =
     let t = c .before .before .before in
     omega (arith, t .loop-test .taken, t .before .before .before .pre .passed .packed .numbers .intervals)
 
-loop-again : tie.Need-loop-again Inv-loop μ-loop
-loop-again c =
-    let t = c .before .before .before in
-    turn _ _ _ (t .before .loop .inv) (t .loop-test .taken) (c .before .interval-pairs .ensures)
-
 returns : tie.Need-returns Inv-loop μ-loop
 returns c =
     walks-same (intervals _ (c .before .before .before .pre .passed)) (turned _ _ _ (c .before .loop .inv) (c .loop-test .left))
@@ -59,6 +54,6 @@ family-i-spec =
     (λ c κs. (c .before .before .before .before .pre, c .before .loop-test .taken))
     add-t
     (λ c. omega (arith, c .before .before .before .loop-test .taken))
-    loop-again
+    (λ c. let t = c .before .before .before in turn _ _ _ (t .before .loop .inv) (t .loop-test .taken) (c .before .interval-pairs .ensures))
     (λ c. c .before .loop .inv .size)
     returns)

@@ -45,11 +45,6 @@ add-i c =
     let t = c .before .before .before in
     omega (arith, t .loop-test .taken, t .before .before .before .pre .0 .passed .packed .counts .trains)
 
-loop-again : tie.Need-loop-again Inv-loop μ-loop
-loop-again c =
-    let t = c .before .before .before in
-    turn _ _ _ (t .before .loop .inv) (t .loop-test .taken) (c .before .pairs-behind .ensures)
-
 returns : tie.Need-returns Inv-loop μ-loop
 returns c =
     walks-same (pairs _ (c .before .before .before .pre .0 .passed) _) (turned _ _ _ (c .before .loop .inv) (c .loop-test .left))
@@ -64,6 +59,6 @@ interval-pairs-spec =
     pairs-behind-requires
     add-i
     (λ c. omega (arith, c .before .before .before .loop-test .taken))
-    loop-again
+    (λ c. let t = c .before .before .before in turn _ _ _ (t .before .loop .inv) (t .loop-test .taken) (c .before .pairs-behind .ensures))
     (λ c. c .before .loop .inv .size)
     returns)

@@ -27,11 +27,6 @@ Inv-loop b first runs values out₀ calls next₀ number₀ out next number =
 abbrev μ-loop : tie.MeasureT-loop
 μ-loop b first runs values out₀ calls next₀ number₀ out next number = calls - number
 
-loop-again : tie.Need-loop-again Inv-loop μ-loop
-loop-again c =
-    let t = c .before .before .before in
-    turn _ _ _ (t .before .loop .inv) (t .loop-test .taken) (c .before .call-clause .ensures)
-
 returns : tie.Need-returns Inv-loop μ-loop
 unfolding instanceOf compile
 returns c =
@@ -52,6 +47,6 @@ train-calls-spec =
     (λ c κs. c .before .before .before .before .before .before .pre)
     (λ c. omega arith)
     (λ c. omega arith)
-    loop-again
+    (λ c. let t = c .before .before .before in turn _ _ _ (t .before .loop .inv) (t .loop-test .taken) (c .before .call-clause .ensures))
     (λ c. c .before .loop .inv .size)
     returns)

@@ -1,61 +1,13 @@
--- `track::joined` meets its contract. The loop's invariant: the answer for all joins is the answer for those from i on.
--- Assumes nothing.
+-- `track::joined` meets its contract: the book's joins are the first of the array. Assumes nothing.
 use borrow.Author.Needs.{needs}
-use native.Mathlib.Omega.{arith}
-use mathlib.Core.Path.{_≡_, refl, sym, _∙_}
-use mathlib.Core.Bool.{Bool, _||_}
-use Prim.Native.Nat.{ℕ, _+_, _≤_, _-_}
-use lib.ListN.{length}
-use lib.Seq.{slice}
-use Rattle.spec.specs.Lists.{any}
-use Rattle.spec.specs.Book.{joined, joinIs}
-use Rattle.spec.specs.Held.{held, zeroJoin}
-use Rattle.network.proofs.Walks.{length-of-map, any-next, any-end}
+use Rattle.spec.specs.Book.{joined}
+use Rattle.spec.specs.Held.{held}
 use Rattle.network.proofs.track.joined.Statement.{statement}
 use Rattle.network.proofs.track.joined.Tie as tie
 
-abbrev Inv-loop : tie.InvT-loop
-Inv-loop node s t b n i₀ i = (i ≤ n) × (joined (held b) node s t ≡ any (joinIs node s t) (slice i n (b .joins)))
-
-abbrev μ-loop : tie.MeasureT-loop
-μ-loop node s t b n i₀ i = n - i
-
--- the answer for all joins, and for those from i on
-abbrev whole : tie.Start Inv-loop μ-loop → Bool
-whole c = joined (held (c .args .t1)) (c .args .node) (c .args .s) (c .args .t)
-
-abbrev behind : tie.Start Inv-loop μ-loop → ℕ → Bool
-behind c i = any (joinIs (c .args .node) (c .args .s) (c .args .t)) (slice i (c .args .t1 .«join_count») (c .args .t1 .joins))
-
-room : (c : tie.Start Inv-loop μ-loop) → c .args .t1 .«join_count» ≤ length (c .args .t1 .joins)
-room c = let e : length (c .args .t1 .joins) ≡ 128 = search (needs, length-of-map) in omega arith
-
-loop-holds : tie.Need-loop-holds Inv-loop μ-loop
+returns : tie.Need-returns
 unfolding joined held
-loop-holds c = (omega arith, refl)
-
--- a turn: this join, or those behind it
-turn : (c : tie.After-join-is Inv-loop μ-loop)
-    → whole (c .before .before .before .before)
-    ≡ (c .join-is .result || behind (c .before .before .before .before) (c .before .before .before .loop .i + 1))
-turn c =
-    let s = c .before .before .before in
-    s .loop .inv .1
-    ∙ any-next _ _ _ zeroJoin (c .before .before .loop-test .taken) (room (s .before)) _
-    ∙ simp (c .join-is .ensures)
+returns c = c .join-among .ensures
 
 pub joined-spec : {M : Type 1} → statement M
-joined-spec =
-    tie.close
-    (tie.spec
-    Inv-loop
-    μ-loop
-    loop-holds
-    (λ c. omega arith)
-    (λ c. omega arith)
-    (λ c κs. tt)
-    (λ c. sym (turn (c .before) ∙ simp (c .if1 .taken)))
-    (λ c. omega arith)
-    (λ c. omega arith)
-    (λ c. (omega arith, turn (c .before) ∙ simp (c .if1 .left)))
-    (λ c. sym (c .before .loop .inv .1 ∙ any-end _ _ _ (c .loop-test .left) _)))
+joined-spec = tie.close (tie.spec (λ c κs. search needs) returns)

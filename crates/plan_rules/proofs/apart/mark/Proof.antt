@@ -3,14 +3,14 @@ use borrow.Author.Needs.{needs}
 use native.Mathlib.Omega.{arith}
 use mathlib.Core.Path.{_≡_, refl, sym, ap, _∙_}
 use mathlib.Core.List.{List, map}
-use Prim.Native.Nat.{ℕ, _+_, _-_, _/_, _≤_, _<_}
+use Prim.Native.Nat.{ℕ, _+_, _-_, _/_, _≤_}
 use denote.Ref.{now}
-use lib.ListN.{length, getD, set}
+use lib.ListN.{getD, set}
 use lib.Seq.{slice}
 use Rattle.spec.specs.Book.{segmentOf}
 use Rattle.listing.specs.Listed.{placeAt}
 use Rattle.plan_rules.specs.Marks.{labelsOf, marking}
-use Rattle.plan_rules.proofs.Marking.{label-here, marking-next, marking-end}
+use Rattle.plan_rules.proofs.Marking.{HasLabel, label-here, marking-next, marking-end}
 use Rattle.plan_rules.proofs.apart.mark.Statement.{statement}
 use Rattle.plan_rules.proofs.apart.mark.Tie as tie
 
@@ -30,10 +30,7 @@ module _ (c : tie.After-wide Inv-loop μ-loop) where
   abbrev start : tie.Start Inv-loop μ-loop
   start = c .before .before .before .before .before .before .before
 
-  abbrev here : ℕ
-  here = c .before .before .before .loop .k
-
-  label : (c .wide .result / 2 < length (now (start .args .labels))) × (getD (now (start .args .labels)) (c .wide .result / 2) 0 < 64)
+  label : HasLabel (now (start .args .labels)) (c .wide .result)
   label = label-here (start .pre) (c .before .before .before .loop .inv .0) (c .before .before .loop-test .taken) (c .wide .ensures .0)
 
 loop-again : tie.Need-loop-again Inv-loop μ-loop
@@ -44,9 +41,9 @@ loop-again c =
     let labels = now (start w .args .labels) in (
       omega arith,
       inv .1
-          ∙ marking-next (labelled labels) _ (now (start w .args .runs)) (here w) _ (w .before .before .loop-test .taken) (start w .pre .fits)
+          ∙ marking-next (labelled labels) _ (now (start w .args .runs)) (w .before .before .before .loop .k) _ (w .before .before .loop-test .taken) (start w .pre .fits)
           ∙ ap (λ (d : ℕ). marking (set (w .before .before .before .loop .marks) (getD labels (d / 2) 0) 1)
-          (map (labelled labels) (slice (here w + 1) (start w .args .stretch .at + start w .args .stretch .size) (now (start w .args .runs)))))
+          (map (labelled labels) (slice (w .before .before .before .loop .k + 1) (start w .args .stretch .at + start w .args .stretch .size) (now (start w .args .runs)))))
           (sym (w .wide .ensures .0)),
     )
 

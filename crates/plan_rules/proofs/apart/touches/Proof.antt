@@ -6,9 +6,9 @@ use native.Mathlib.Omega.{arith}
 use mathlib.Core.Path.{_≡_, refl, sym, ap, _∙_}
 use mathlib.Core.Bool.{Bool, _||_}
 use mathlib.Core.List.{List}
-use Prim.Native.Nat.{ℕ, _+_, _-_, _/_, _≤_, _<_}
+use Prim.Native.Nat.{ℕ, _+_, _-_, _/_, _≤_}
 use denote.Ref.{now}
-use lib.ListN.{length, getD}
+use lib.ListN.{getD}
 use lib.Seq.{slice}
 use Rattle.spec.specs.Lists.{Bytes, any}
 use Rattle.spec.specs.Book.{segmentOf}
@@ -16,7 +16,7 @@ use Rattle.laws.proofs.Rows.{any-map}
 use Rattle.network.proofs.Walks.{any-next, any-end}
 use Rattle.listing.specs.Listed.{placeAt}
 use Rattle.plan_rules.specs.Marks.{labelsOf, isMarked}
-use Rattle.plan_rules.proofs.Marking.{label-here}
+use Rattle.plan_rules.proofs.Marking.{HasLabel, label-here}
 use Rattle.plan_rules.proofs.apart.touches.Statement.{statement}
 use Rattle.plan_rules.proofs.apart.touches.Tie as tie
 
@@ -36,11 +36,11 @@ module _ (c : tie.After-wide Inv-loop μ-loop) where
   abbrev start : tie.Start Inv-loop μ-loop
   start = c .before .before .before .before .before .before .before
 
+  label : HasLabel (now (start .args .labels)) (c .wide .result)
+  label = label-here (start .pre) (c .before .before .before .loop .inv .0) (c .before .before .loop-test .taken) (c .wide .ensures .0)
+
   abbrev here : ℕ
   here = c .before .before .before .loop .k
-
-  label : (c .wide .result / 2 < length (now (start .args .labels))) × (getD (now (start .args .labels)) (c .wide .result / 2) 0 < 64)
-  label = label-here (start .pre) (c .before .before .before .loop .inv .0) (c .before .before .loop-test .taken) (c .wide .ensures .0)
 
   abbrev behind : ℕ → Bool
   behind k =

@@ -1,6 +1,5 @@
 -- `rules::absent_before` meets its contract. The loop's invariant: the answer for all intervals is that for those from t on.
 -- Assumes nothing.
-use borrow.Author.Tests.{not-true, not-false}
 use native.Mathlib.Omega.{arith}
 use mathlib.Core.Path.{_≡_, sym, ap, _∙_}
 use mathlib.Core.Bool.{Bool, not, cond}
@@ -13,12 +12,12 @@ use Rattle.spec.specs.Lists.{Bytes, all, range}
 use Rattle.spec.specs.Instance.{instanceOf}
 use Rattle.spec.specs.Plan.{Move, isAbsent, planOf, absentBefore}
 use Rattle.spec.specs.Held.{held}
-use Rattle.laws.proofs.Loops.{all-turn, all-broken, all-done}
+use Rattle.laws.proofs.Loops.{all-done}
 use Rattle.listing.proofs.Trains.{noTrain}
 use Rattle.tables.proofs.Here.{few-trains, departs-here, departs-asks}
 use Rattle.tables.proofs.Small.{intervals-is}
 use Rattle.plan_rules.proofs.Ready.{move-asks}
-use Rattle.plan_rules.proofs.Loops.{absentStep, absent-steps}
+use Rattle.plan_rules.proofs.Loops.{all-fails, all-goes, absentStep, absent-steps}
 use Rattle.plan_rules.proofs.rules.absent_before.Statement.{statement}
 use Rattle.plan_rules.proofs.rules.absent_before.Tie as tie
 
@@ -58,16 +57,6 @@ module _ (c : tie.After-absent-if Inv-loop μ-loop) where
   here : c .absent-if .result ≡ step (start .args .t1) (now (start .args .plan)) (start .args .train) d time
   here = c .absent-if .ensures ∙ ap (λ (m : Move). cond (ltb time d) (isAbsent m) (not (isAbsent m))) (c .before .move-at .ensures)
 
-returns : tie.Need-returns Inv-loop μ-loop
-returns c =
-    let k = c .before in
-    all-broken _ (k .before .before .before .loop .inv) (k .before .before .loop-test .taken) (sym (here k) ∙ not-true _ (c .if1 .taken))
-
-loop-again : tie.Need-loop-again Inv-loop μ-loop
-loop-again c =
-    let k = c .before in
-    all-turn _ (k .before .before .before .loop .inv) (k .before .before .loop-test .taken) (sym (here k) ∙ not-false _ (c .if1 .left))
-
 pub absent-before-spec : {M : Type 1} → statement M
 absent-before-spec =
     tie.close
@@ -79,8 +68,8 @@ absent-before-spec =
     loop-holds
     (λ c κs. move-asks (c .before .before .before .pre) (c .before .loop .t) (c .loop-test .taken))
     (λ c κs. tt)
-    returns
+    (λ c. let t = c .before .before .before in all-fails _ (t .before .loop .inv) (t .loop-test .taken) (here (c .before)) (c .if1 .taken))
     (λ c. omega arith)
     (λ c. omega arith)
-    loop-again
+    (λ c. let t = c .before .before .before in all-goes _ (t .before .loop .inv) (t .loop-test .taken) (here (c .before)) (c .if1 .left))
     (λ c. all-done _ (c .before .loop .inv) (c .loop-test .left)))

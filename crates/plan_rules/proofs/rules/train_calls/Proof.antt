@@ -1,6 +1,5 @@
 -- `rules::train_calls` meets its contract. The loop's invariant: the answer for all calls is that for those from `number` on.
 -- Assumes nothing.
-use borrow.Author.Tests.{not-true, not-false}
 use native.Mathlib.Omega.{arith}
 use mathlib.Core.Path.{_≡_, sym, ap, _∙_}
 use mathlib.Core.Bool.{Bool, _||_}
@@ -12,7 +11,8 @@ use Rattle.spec.specs.Instance.{Instance, instanceOf, compile, servedAtDepartur
 use Rattle.spec.specs.Plan.{Plan, planOf, servedBy, keepsCalls}
 use Rattle.spec.specs.Held.{held}
 use Rattle.model.specs.declared.Book.{Book as BookStruct}
-use Rattle.laws.proofs.Loops.{all-start, all-turn, all-broken, all-done}
+use Rattle.laws.proofs.Loops.{all-start, all-done}
+use Rattle.plan_rules.proofs.Loops.{all-fails, all-goes}
 use Rattle.plan_rules.proofs.rules.train_calls.Statement.{statement}
 use Rattle.plan_rules.proofs.rules.train_calls.Tie as tie
 
@@ -33,21 +33,11 @@ steps : (b : BookStruct) (p : Plan) (i : ℕ) {n : ℕ} → n ≡ length (callsO
 unfolding keepsCalls instanceOf compile
 steps b p i {n} e = ap (λ (k : ℕ). all (step (instanceOf (held b)) p i) (upTo k)) (sym e) ∙ all-start (step (instanceOf (held b)) p i) n
 
-returns : tie.Need-returns Inv-loop μ-loop
-returns c =
-    let t = c .before .before in
-    all-broken _ (t .before .loop .inv) (t .loop-test .taken) (sym (c .before .call-served .ensures) ∙ not-true _ (c .if1 .taken))
-
 add-number : tie.Need-add-number Inv-loop μ-loop
 add-number c =
     let t = c .before .before in
     let k = t .before .before in
     omega (arith, t .loop-test .taken, k .calls-of .ensures .1, k .before .before .before .pre .0 .passed .packed .counts .calls)
-
-loop-again : tie.Need-loop-again Inv-loop μ-loop
-loop-again c =
-    let t = c .before .before in
-    all-turn _ (t .before .loop .inv) (t .loop-test .taken) (sym (c .before .call-served .ensures) ∙ not-false _ (c .if1 .left))
 
 pub train-calls-spec : {M : Type 1} → statement M
 train-calls-spec =
@@ -58,8 +48,8 @@ train-calls-spec =
     (λ c κs. c .before .before .pre .0 .passed .packed .counts)
     (λ c. let s = c .before .before .before in steps (s .args .b) _ (s .args .train) (c .calls-of .ensures .0))
     (λ c κs. let s = c .before .before .before .before .before in (s .pre .0, s .pre .1))
-    returns
+    (λ c. let t = c .before .before in all-fails _ (t .before .loop .inv) (t .loop-test .taken) (c .before .call-served .ensures) (c .if1 .taken))
     add-number
     (λ c. omega (arith, c .before .before .loop-test .taken))
-    loop-again
+    (λ c. let t = c .before .before in all-goes _ (t .before .loop .inv) (t .loop-test .taken) (c .before .call-served .ensures) (c .if1 .left))
     (λ c. all-done _ (c .before .loop .inv) (c .loop-test .left)))

@@ -1,6 +1,5 @@
 -- `rules::train_leaves` meets its contract. The loop's invariant: the answer for all intervals is that for those from t on, and
 -- `before` holds the move before t. Assumes nothing.
-use borrow.Author.Tests.{not-true, not-false}
 use native.Mathlib.Omega.{arith}
 use mathlib.Core.Path.{_≡_, refl, sym, ap₂, _∙_}
 use mathlib.Core.Bool.{Bool}
@@ -12,13 +11,13 @@ use Rattle.spec.specs.Lists.{Bytes, all, range}
 use Rattle.spec.specs.Instance.{instanceOf}
 use Rattle.spec.specs.Plan.{runs, planOf, leavesRightly}
 use Rattle.spec.specs.Held.{held}
-use Rattle.laws.proofs.Loops.{all-turn, all-broken, all-done}
+use Rattle.laws.proofs.Loops.{all-done}
 use Rattle.layout.specs.Moves.{heldMove}
 use Rattle.listing.proofs.Trains.{noTrain}
 use Rattle.tables.proofs.Here.{few-trains, departs-here, departs-asks}
 use Rattle.tables.proofs.Small.{intervals-is}
 use Rattle.plan_rules.proofs.Ready.{planned, move-asks, prior-own}
-use Rattle.plan_rules.proofs.Loops.{prior, prior-next, goneStep, leaveStep, leave-steps}
+use Rattle.plan_rules.proofs.Loops.{all-fails, prior, next-move, goneStep, leaveStep, leave-steps}
 use Rattle.plan_rules.proofs.rules.train_leaves.Statement.{statement}
 use Rattle.plan_rules.proofs.rules.train_leaves.Tie as tie
 
@@ -77,21 +76,6 @@ module _ (c : tie.After-gone-fits Inv-loop μ-loop) where
       ∙ ap₂ (goneStep (λ x. runs x (λ r. instanceOf (held b) .leaves (start k .args .train) r)) d (k .before .loop .t))
       (k .before .loop .inv .1) (c .before .move-at .ensures)
 
-returns : tie.Need-returns Inv-loop μ-loop
-returns c =
-    let t = k (c .before) in
-    all-broken _ (t .before .loop .inv .0) (t .loop-test .taken) (sym (here (c .before)) ∙ not-true _ (c .if1 .taken))
-
-add-t : tie.Need-add-t Inv-loop μ-loop
-add-t c = omega (arith, k (c .before) .loop-test .taken, start (k (c .before)) .pre .0 .passed .packed .numbers .intervals)
-
-loop-again : tie.Need-loop-again Inv-loop μ-loop
-loop-again c =
-    let t = k (c .before) in (
-      all-turn _ (t .before .loop .inv .0) (t .loop-test .taken) (sym (here (c .before)) ∙ not-false _ (c .if1 .left)),
-      c .before .before .move-at .ensures ∙ sym (prior-next _ (t .before .loop .t)),
-    )
-
 pub train-leaves-spec : {M : Type 1} → statement M
 train-leaves-spec =
     tie.close
@@ -104,8 +88,8 @@ train-leaves-spec =
     loop-holds
     (λ c κs. move-asks (planned (start c .pre .0) (start c .pre .1)) (c .before .loop .t) (c .loop-test .taken))
     gone-fits-requires
-    returns
-    add-t
+    (λ c. let t = k (c .before) in all-fails _ (t .before .loop .inv .0) (t .loop-test .taken) (here (c .before)) (c .if1 .taken))
+    (λ c. let t = k (c .before) in omega (arith, t .loop-test .taken, start t .pre .0 .passed .packed .numbers .intervals))
     (λ c. omega (arith, k (c .before) .loop-test .taken))
-    loop-again
+    (λ c. let t = k (c .before) in next-move _ _ (t .before .loop .inv .0) (t .loop-test .taken) (here (c .before)) (c .before .before .move-at .ensures) (c .if1 .left))
     (λ c. all-done _ (c .before .loop .inv .0) (c .loop-test .left)))

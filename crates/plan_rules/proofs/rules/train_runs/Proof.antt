@@ -1,8 +1,7 @@
 -- `rules::train_runs` meets its contract. The loop's invariant: the answer for all intervals is that for those from t on, and
 -- `before` holds the move before t. Assumes nothing.
-use borrow.Author.Tests.{not-true, not-false}
 use native.Mathlib.Omega.{arith}
-use mathlib.Core.Path.{_≡_, refl, sym, ap₂, _∙_}
+use mathlib.Core.Path.{_≡_, refl, ap₂, _∙_}
 use mathlib.Core.Bool.{Bool}
 use Prim.Native.Nat.{ℕ, _-_}
 use denote.Ref.{now}
@@ -11,11 +10,11 @@ use Rattle.spec.specs.Lists.{Bytes, all, range}
 use Rattle.spec.specs.Instance.{instanceOf}
 use Rattle.spec.specs.Plan.{Plan, planOf, runsOn}
 use Rattle.spec.specs.Held.{held}
-use Rattle.laws.proofs.Loops.{all-turn, all-broken, all-done}
+use Rattle.laws.proofs.Loops.{all-done}
 use Rattle.layout.specs.Moves.{heldMove}
 use Rattle.tables.proofs.Small.{intervals-is}
 use Rattle.plan_rules.proofs.Ready.{planned, move-asks, move-own, prior-own}
-use Rattle.plan_rules.proofs.Loops.{prior, prior-next, runStep, run-steps}
+use Rattle.plan_rules.proofs.Loops.{all-fails, prior, next-move, runStep, run-steps}
 use Rattle.plan_rules.proofs.rules.train_runs.Statement.{statement}
 use Rattle.plan_rules.proofs.rules.train_runs.Tie as tie
 
@@ -68,21 +67,6 @@ module _ (c : tie.After-goes-on Inv-loop μ-loop) where
       ∙ ap₂ (runStep (instanceOf (held (s .b))) (choices (s .b) (now (s .plan))) (s .train)) (k .before .loop .inv .1)
       (c .before .move-at .ensures)
 
-returns : tie.Need-returns Inv-loop μ-loop
-returns c =
-    let t = k (c .before) in
-    all-broken _ (t .before .loop .inv .0) (t .loop-test .taken) (sym (here (c .before)) ∙ not-true _ (c .if1 .taken))
-
-add-t : tie.Need-add-t Inv-loop μ-loop
-add-t c = omega (arith, k (c .before) .loop-test .taken, start (k (c .before)) .pre .0 .passed .packed .numbers .intervals)
-
-loop-again : tie.Need-loop-again Inv-loop μ-loop
-loop-again c =
-    let t = k (c .before) in (
-      all-turn _ (t .before .loop .inv .0) (t .loop-test .taken) (sym (here (c .before)) ∙ not-false _ (c .if1 .left)),
-      c .before .before .move-at .ensures ∙ sym (prior-next _ (t .before .loop .t)),
-    )
-
 pub train-runs-spec : {M : Type 1} → statement M
 train-runs-spec =
     tie.close
@@ -92,8 +76,8 @@ train-runs-spec =
     loop-holds
     (λ c κs. move-asks (planned (start c .pre .0) (start c .pre .1)) (c .before .loop .t) (c .loop-test .taken))
     goes-on-requires
-    returns
-    add-t
+    (λ c. let t = k (c .before) in all-fails _ (t .before .loop .inv .0) (t .loop-test .taken) (here (c .before)) (c .if1 .taken))
+    (λ c. let t = k (c .before) in omega (arith, t .loop-test .taken, start t .pre .0 .passed .packed .numbers .intervals))
     (λ c. omega (arith, k (c .before) .loop-test .taken))
-    loop-again
+    (λ c. let t = k (c .before) in next-move _ _ (t .before .loop .inv .0) (t .loop-test .taken) (here (c .before)) (c .before .before .move-at .ensures) (c .if1 .left))
     (λ c. all-done _ (c .before .loop .inv .0) (c .loop-test .left)))

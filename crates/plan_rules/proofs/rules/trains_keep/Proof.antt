@@ -1,8 +1,7 @@
 -- `rules::trains_keep` meets its contract. The loop's invariant: the answer for all trains is that for those from i on. Assumes
 -- nothing.
-use borrow.Author.Tests.{not-true, not-false}
 use native.Mathlib.Omega.{arith}
-use mathlib.Core.Path.{_≡_, sym, ap, _∙_}
+use mathlib.Core.Path.{_≡_, ap, _∙_}
 use Prim.Native.Nat.{ℕ, _+_, _*_, _-_, _≤_, _<_}
 use denote.Ref.{now}
 use lib.ListN.{length}
@@ -10,12 +9,13 @@ use Rattle.spec.specs.Lists.{all, upTo, range}
 use Rattle.spec.specs.Instance.{Instance, instanceOf}
 use Rattle.spec.specs.Plan.{Plan, planOf}
 use Rattle.spec.specs.Held.{held}
-use Rattle.laws.proofs.Loops.{all-start, all-turn, all-broken, all-done}
+use Rattle.laws.proofs.Loops.{all-start, all-done}
 use Rattle.listing.specs.Listed.{trainBytes}
 use Rattle.tables.proofs.Here.{runs-lent}
 use Rattle.tables.proofs.Small.{trains-is}
 use Rattle.plan_rules.specs.declared.rules.TrainRule.{TrainRule}
 use Rattle.plan_rules.specs.Kept.{trainKeeps, trainsKeep}
+use Rattle.plan_rules.proofs.Loops.{all-fails, all-goes}
 use Rattle.plan_rules.proofs.rules.trains_keep.Statement.{statement}
 use Rattle.plan_rules.proofs.rules.trains_keep.Tie as tie
 
@@ -41,13 +41,10 @@ module _ (c : tie.In-loop Inv-loop μ-loop) where
   abbrev start : tie.Start Inv-loop μ-loop
   start = c .before .before .before .before
 
-  abbrev i : ℕ
-  i = c .before .loop .i
-
-  few : i < 8
+  few : c .before .loop .i < 8
   few = omega (arith, c .loop-test .taken, start .pre .0 .counted .passed .packed .counts .trains)
 
-  fits : i * trainBytes + trainBytes ≤ length (now (start .args .runs))
+  fits : c .before .loop .i * trainBytes + trainBytes ≤ length (now (start .args .runs))
   fits = omega (arith, few, start .pre .0 .long)
 
 train-keeps-requires : tie.Need-train-keeps-requires Inv-loop μ-loop
@@ -55,17 +52,7 @@ train-keeps-requires c κs =
     let k = c .before in
     let p = start k .pre in
     let l = k .loop-test .taken in
-    (record { passed = p .0 .counted .passed; known = l; fits = p .1 }, runs-lent (i k) l (p .0))
-
-returns : tie.Need-returns Inv-loop μ-loop
-returns c =
-    let t = c .before .before .before in
-    all-broken _ (t .before .loop .inv) (t .loop-test .taken) (sym (c .before .train-keeps .ensures) ∙ not-true _ (c .if1 .taken))
-
-loop-again : tie.Need-loop-again Inv-loop μ-loop
-loop-again c =
-    let t = c .before .before .before in
-    all-turn _ (t .before .loop .inv) (t .loop-test .taken) (sym (c .before .train-keeps .ensures) ∙ not-false _ (c .if1 .left))
+    (record { passed = p .0 .counted .passed; known = l; fits = p .1 }, runs-lent (k .before .loop .i) l (p .0))
 
 pub trains-keep-spec : {M : Type 1} → statement M
 trains-keep-spec =
@@ -80,8 +67,8 @@ trains-keep-spec =
     (λ c. omega arith)
     (λ c. omega (arith, fits c))
     train-keeps-requires
-    returns
+    (λ c. let t = c .before .before .before in all-fails _ (t .before .loop .inv) (t .loop-test .taken) (c .before .train-keeps .ensures) (c .if1 .taken))
     (λ c. omega (arith, few (c .before .before .before)))
     (λ c. omega (arith, c .before .before .before .loop-test .taken))
-    loop-again
+    (λ c. let t = c .before .before .before in all-goes _ (t .before .loop .inv) (t .loop-test .taken) (c .before .train-keeps .ensures) (c .if1 .left))
     (λ c. all-done _ (c .before .loop .inv) (c .loop-test .left)))

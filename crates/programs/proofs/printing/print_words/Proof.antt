@@ -1,12 +1,10 @@
 -- `printing::print_words` is safe and ends: the place stays within the words, and each piece leads further on. Assumes nothing.
 use borrow.Author.Needs.{needs}
-use mathlib.Core.Path.{_≡_, sym, ap, _∙_}
+use mathlib.Core.Path.{_≡_, sym}
 use Prim.Native.Nat.{_≤_, _-_}
 use native.Mathlib.Omega.{arith}
-use lib.ListN.{length, take, drop}
-use lib.Seq.{sets, length-sets}
-use Rattle.programs.specs.Text.{wordsText, taken}
-use Rattle.programs.proofs.Texts.{piece-some, piece-le}
+use lib.ListN.{length, drop}
+use Rattle.programs.proofs.Texts.{piece-long, piece-some, piece-le}
 use Rattle.programs.proofs.printing.print_words.Statement.{statement}
 use Rattle.programs.proofs.printing.print_words.Tie as tie
 
@@ -25,9 +23,7 @@ put-words-requires c κs =
 filled : (c : tie.After-put-words Inv-loop μ-loop) → length (c .put-words .last .0) ≡ 65536
 filled c =
     let k = c .before .before .before in
-    let ls = drop (k .loop .from) (k .before .before .args .words .now) in
-    let text = wordsText (take (taken (length (k .loop .buf)) ls) ls) in
-    ap length {y = sets (k .loop .buf) 0 text} (c .put-words .ensures .3) ∙ length-sets (k .loop .buf) 0 text ∙ k .loop .inv .1
+    piece-long (k .loop .buf) (drop (k .loop .from) (k .before .before .args .words .now)) (c .put-words .ensures .3) (k .loop .inv .1)
 
 loop-less : tie.Need-loop-less Inv-loop μ-loop
 loop-less c =

@@ -1,43 +1,32 @@
 -- `hints::make_true` meets its contract: the byte that is stored is the one of the literal's sign. Assumes nothing.
 use borrow.Author.Needs.{needs}
 use native.Mathlib.Omega.{arith}
-use mathlib.Core.Path.{_≡_, sym, ap, ap₂, _∙_}
+use mathlib.Core.Path.{_≡_}
 use mathlib.Core.Logic.{⊎-elim}
-use Prim.Native.Nat.{ℕ, _-_}
-use lib.ListN.{set}
-use mir.Facts.{toZ-ofZ}
 use Rattle.spec.specs.Refutation.{variableOf}
 use Rattle.propagation.specs.Known.{trueByte}
-use Rattle.propagation.proofs.Signs.{sign-of, true-byte}
+use Rattle.propagation.proofs.Signs.{variable-read, true-byte, made}
 use Rattle.propagation.proofs.hints.make_true.Statement.{statement}
 use Rattle.propagation.proofs.hints.make_true.Tie as tie
 
 -- the variable that was found is the literal's
-module _ (c : tie.After-variable) where
-  abbrev start : tie.Start
-  start = c .before .before .before
-
-  found : c .variable .result ≡ variableOf (start .args .l)
-  found = c .variable .ensures ∙ ap variableOf (toZ-ofZ (start .fits .l))
+found : (c : tie.After-variable) → c .variable .result ≡ variableOf (c .before .before .before .args .l)
+found c = variable-read _ (c .before .before .before .fits .l) (c .variable .ensures)
 
 returns : tie.Need-returns
 returns c =
-    let s = start (c .before) in
-    let place : c .before .variable .result - 1 ≡ variableOf (s .args .l) - 1 = ap (λ (n : ℕ). n - 1) (found (c .before)) in
+    let s = c .before .before .before .before in
     let byte : c .if1 .values ≡ trueByte (s .args .l) =
-    ⊎-elim
-    (λ w. w .1 ∙ sym (true-byte _ _ (sign-of (s .fits .l) (w .0 .taken))))
-    (λ w. w .1 ∙ sym (true-byte _ _ (sign-of (s .fits .l) (w .0 .left))))
-    (c .if1 .came) in
-    (ap₂ (λ (v b : ℕ). set (s .args .values .now) v b) place byte, ap (set (s .args .trail .now) (s .args .set)) place)
+    ⊎-elim (λ w. true-byte _ (s .fits .l) (w .0 .taken) (w .1)) (λ w. true-byte _ (s .fits .l) (w .0 .left) (w .1)) (c .if1 .came) in
+    made (s .args .values .now) (s .args .trail .now) (s .args .set) (found (c .before)) byte
 
 pub make-true-spec : {M : Type 1} → statement M
 make-true-spec =
     tie.close
     (tie.spec
     (λ c κs. search needs)
-    (λ c. omega (arith, found c, start c .pre))
-    (λ c. omega (arith, found (c .before), start (c .before) .pre))
+    (λ c. omega (arith, found c, c .before .before .before .pre))
+    (λ c. omega (arith, found (c .before), c .before .before .before .before .pre))
     (λ c. search needs)
     (λ c. search needs)
     (λ c. search needs)

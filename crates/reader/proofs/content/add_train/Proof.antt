@@ -27,7 +27,7 @@ fitted c = c .before .before .before
 abbrev reached : tie.After-length-in-segments → tie.After-reach-fits
 reached c = c .before .before
 
-abbrev placed : tie.After-row-of → tie.After-place-fits
+abbrev placed : tie.After-place-of → tie.After-place-fits
 placed c = c .before .before
 
 returns : tie.Need-returns
@@ -111,8 +111,8 @@ row-length c =
     let s = start (fitted (reached (c .before .before))) in
     place-length (held (s .args .b)) bookFormat (s .args .p .now) _ (c .before .place-fits .ensures) (not-false _ (c .if4 .left))
 
-row-of-requires : tie.Need-row-of-requires
-row-of-requires c κs =
+place-of-requires : tie.Need-place-of-requires
+place-of-requires c κs =
     let a = c .before .before in
     let s = start (fitted (reached a)) in
     let h = s .pre .2 in
@@ -133,7 +133,7 @@ returns-5 c =
     (train-fine _ _ _ (rw n (a .before .if1 .left)) (fits (r .before .before)) (reaches (g .before .before))
     (place-is g true (not-false _ (o .before .if4 .left))))
     (put-train _ (s .pre .0) _ _ _
-    (train-packed bookFormat (s .args .p .now) _ _ _ _ _ (m .metres) (m .speed) (m .departure) (sym (row-length (o .before))) (o .row-of .ensures)) (a .before .if1 .left))
+    (train-packed bookFormat (s .args .p .now) _ _ _ _ _ (m .metres) (m .speed) (m .departure) (sym (row-length (o .before))) (o .place-of .ensures)) (a .before .if1 .left))
     (c .fine .ensures)
 
 pub add-train-spec : {M : Type 1} → statement M
@@ -153,7 +153,7 @@ add-train-spec =
     place-fits-requires
     (λ c κs. search needs)
     returns-4
-    row-of-requires
+    place-of-requires
     (λ c. search needs)
     (λ c. search needs)
     (λ c. search needs)

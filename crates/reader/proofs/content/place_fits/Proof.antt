@@ -12,18 +12,18 @@ use Rattle.reader.proofs.content.place_fits.Tie as tie
 sub-if1 : tie.Need-sub-if1
 sub-if1 c = search needs
 
-row-of-requires : tie.Need-row-of-requires
-row-of-requires c κs = search needs
+place-of-requires : tie.Need-place-of-requires
+place-of-requires c κs = search needs
 
 -- the first l bytes of the array are the payload's row
-row-is : (c : tie.After-row-of)
+row-is : (c : tie.After-place-of)
     → let s = c .before .before .before in
-    take (s .args .l) (c .row-of .result) ≡ drop (trainFixed bookFormat) (s .args .p .now)
+    take (s .args .l) (c .place-of .result) ≡ drop (trainFixed bookFormat) (s .args .p .now)
 row-is c =
     let s = c .before .before .before in
     let xs = drop (trainFixed bookFormat) (s .args .p .now) in
     let e : length xs ≡ s .args .l = length-drop (trainFixed bookFormat) (s .args .p .now) ∙ c .before .if1 .taken in
-    ap (take (s .args .l)) (c .row-of .ensures) ∙ take-padded-at 8 (s .args .l) 0 xs e
+    ap (take (s .args .l)) (c .place-of .ensures) ∙ take-padded-at 8 (s .args .l) 0 xs e
 
 is-path-requires : tie.Need-is-path-requires
 is-path-requires c κs =
@@ -43,4 +43,4 @@ returns-2 c =
     simp (length-drop (trainFixed bookFormat) (s .args .p .now), ne-eqb _ _ (c .if1 .left))
 
 pub place-fits-spec : {M : Type 1} → statement M
-place-fits-spec = tie.close (tie.spec sub-if1 row-of-requires is-path-requires returns returns-2)
+place-fits-spec = tie.close (tie.spec sub-if1 place-of-requires is-path-requires returns returns-2)

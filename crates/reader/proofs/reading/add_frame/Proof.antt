@@ -2,204 +2,89 @@
 -- answers. What the functions ask of the book holds of every book as far as it was read. Assumes nothing.
 use borrow.Author.Needs.{needs}
 use borrow.Author.Tests.{eqb-true, eqb-false, not-true, not-false}
-use mathlib.Core.Path.{_≡_, refl}
-use mathlib.Core.Logic.{⊎-elim}
-use mathlib.Core.Option.{none}
+use mathlib.Core.Path.{_≡_, refl, sym, ap, _∙_}
+use mathlib.Core.Logic.{⊎-elim, _≢_}
+use mathlib.Core.Option.{Option, none, some}
+use Prim.Native.Nat.{ℕ, _+_, _-_}
 use native.Mathlib.Omega.{arith}
-use Rattle.spec.specs.Lists.{firstFault}
-use Rattle.spec.specs.Frames.{bookFormat, headKind, nodeKind, segmentKind, joinKind, trainKind, callKind, unbreakableKind, endKind, lengthFits}
+use denote.Ref.{now}
+use lib.ListN.{length, take, drop}
+use lib.Dec.{eqb}
+use Rattle.spec.specs.Lists.{Bytes, firstFault}
+use Rattle.spec.specs.Frames.{Kind, bookFormat, headKind, nodeKind, segmentKind, joinKind, trainKind, callKind, unbreakableKind, endKind, lengthFits}
 use Rattle.spec.specs.Read.{addFound, kindFaults}
 use Rattle.spec.specs.Held.{held}
-use Rattle.frames.specs.declared.Kind.the-variants.{Head, Node, Segment, Join, Train, Call, Unbreakable, End}
+use Rattle.frames.specs.declared.Kind.the-variants.{Train}
+use Rattle.frames.specs.Framed.{kindIn}
+use Rattle.reader.specs.declared.content.Added.{Added}
+use Rattle.reader.specs.declared.content.Checked.the-variants.{Refused}
+use Rattle.reader.specs.Added.{added}
+use Rattle.reader.specs.BookAnswers.{addedFound}
 use Rattle.reader.proofs.ByKind.{by-kind, wrong-length, right-length, elsewhere, there, sized, train-long, train-short, train-wrong, train-right, adds-nothing, none-left, ends-right, no-head, growing-metres, growing-calls, growing-segments}
 use Rattle.reader.proofs.reading.add_frame.Statement.{statement}
 use Rattle.reader.proofs.reading.add_frame.Tie as tie
 
--- Head
-module _ (c : tie.After-cursor) where
-  abbrev start1 : tie.Start
-  start1 = c .before .before .before .before
+-- a frame of a kind of n bytes, whose cursor ends at `to`
+record Of (st : tie.Start) (k : Kind) (n to : ℕ) : Type 0 where
+  told : kindIn (st .args .kind) ≡ some k
+  size : (p : Bytes) → lengthFits bookFormat k p ≡ eqb (length p) n
+  ends : to ≡ st .args .at + n
 
-  is1 : start1 .args .kind ≡ Head
-  is1 = c .before .enum-told .given .1
+-- what becomes of it where the cursor ends elsewhere than the payload, and where it ends there
+module _ {st : tie.Start} {k : Kind} {n to : ℕ} (h : Of st k n to) where
+  abbrev upTo : ℕ → Bytes
+  upTo end = take (end - st .args .at) (drop (st .args .at) (now (st .args .s)))
 
-returns : tie.Need-returns
+  abbrev Becomes : Option Kind → Added → Type 0
+  Becomes o r = r ≡ addedFound bookFormat (held (st .args .b)) o (upTo (st .args .end))
+
+  as-told : {r : Added} → Becomes (some k) r → Becomes (kindIn (st .args .kind)) r
+  as-told e = e ∙ sym (ap (λ (o : Option Kind). addedFound bookFormat (held (st .args .b)) o (upTo (st .args .end))) (h .told))
+
+  wrong : to ≢ st .args .end → {r : Added} → (r .checked ≡ Refused 4) × (r .book ≡ st .args .b) → Becomes (kindIn (st .args .kind)) r
+  wrong apart e = as-told (elsewhere bookFormat _ (st .pre .0) _ _ _ (st .pre .2) k n to (h .size _) (h .ends) (st .pre .1) apart e)
+
+  right : to ≡ st .args .end → {r : Added} → r ≡ added bookFormat k (held (st .args .b)) (upTo to) → Becomes (kindIn (st .args .kind)) r
+  right same e = as-told (there bookFormat _ (st .pre .0) _ _ _ (st .pre .2) k n to (h .size _) (h .ends) (st .pre .1) same e)
+
+  long : to ≡ st .args .end → length (upTo to) ≡ n
+  long same = sized bookFormat _ (st .pre .0) _ _ _ (st .pre .2) k n to (h .size _) (h .ends) (st .pre .1) same
+
+head : (c : tie.After-cursor) → Of (c .before .before .before .before) headKind 5 (c .cursor .result .end)
 unfolding lengthFits
-returns c =
-    let k = c .before .before in
-    let st = start1 k in
-    by-kind bookFormat _ (st .pre .0) _ _ _ (st .pre .2) (is1 k)
-    (elsewhere bookFormat _ (st .pre .0) _ _ _ (st .pre .2) headKind 5 _ refl (k .cursor .ensures .1) (st .pre .1) (c .before .if1 .taken) (c .wrong-length .ensures))
+head c = record { told = ap kindIn (c .before .enum-told .given .1); size = λ p. refl; ends = c .cursor .ensures .1 }
 
-returns-9 : tie.Need-returns-9
+node : (c : tie.After-cursor2) → Of (c .before .before .before .before) nodeKind 1 (c .cursor2 .result .end)
 unfolding lengthFits
-returns-9 c =
-    let k = c .before .before .before in
-    let st = start1 k in
-    by-kind bookFormat _ (st .pre .0) _ _ _ (st .pre .2) (is1 k)
-    (there bookFormat _ (st .pre .0) _ _ _ (st .pre .2) headKind 5 _ refl (k .cursor .ensures .1) (st .pre .1) (c .before .before .if1 .left) (c .add-head .ensures))
+node c = record { told = ap kindIn (c .before .enum-told2 .given .1); size = λ p. refl; ends = c .cursor2 .ensures .1 }
 
-add-head-requires : tie.Need-add-head-requires
+segment : (c : tie.After-cursor3) → Of (c .before .before .before .before) segmentKind 3 (c .cursor3 .result .end)
 unfolding lengthFits
-add-head-requires c κs =
-    let k = c .before .before in
-    let st = start1 k in
-    (st .pre .0, sized bookFormat _ (st .pre .0) _ _ _ (st .pre .2) headKind 5 _ refl (k .cursor .ensures .1) (st .pre .1) (c .before .if1 .left))
+segment c = record { told = ap kindIn (c .before .enum-told3 .given .1); size = λ p. refl; ends = c .cursor3 .ensures .1 }
 
--- Node
-module _ (c : tie.After-cursor2) where
-  abbrev start2 : tie.Start
-  start2 = c .before .before .before .before
-
-  is2 : start2 .args .kind ≡ Node
-  is2 = c .before .enum-told2 .given .1
-
-returns-2 : tie.Need-returns-2
+join : (c : tie.After-cursor4) → Of (c .before .before .before .before) joinKind 3 (c .cursor4 .result .end)
 unfolding lengthFits
-returns-2 c =
-    let k = c .before .before in
-    let st = start2 k in
-    by-kind bookFormat _ (st .pre .0) _ _ _ (st .pre .2) (is2 k)
-    (elsewhere bookFormat _ (st .pre .0) _ _ _ (st .pre .2) nodeKind 1 _ refl (k .cursor2 .ensures .1) (st .pre .1) (c .before .if2 .taken) (c .wrong-length2 .ensures))
+join c = record { told = ap kindIn (c .before .enum-told4 .given .1); size = λ p. refl; ends = c .cursor4 .ensures .1 }
 
-returns-10 : tie.Need-returns-10
+call : (c : tie.After-cursor6) → Of (c .before .before .before .before) callKind 4 (c .cursor6 .result .end)
 unfolding lengthFits
-returns-10 c =
-    let k = c .before .before .before in
-    let st = start2 k in
-    by-kind bookFormat _ (st .pre .0) _ _ _ (st .pre .2) (is2 k)
-    (there bookFormat _ (st .pre .0) _ _ _ (st .pre .2) nodeKind 1 _ refl (k .cursor2 .ensures .1) (st .pre .1) (c .before .before .if2 .left) (c .add-node .ensures))
-
-add-node-requires : tie.Need-add-node-requires
-unfolding lengthFits
-add-node-requires c κs =
-    let k = c .before .before in
-    let st = start2 k in
-    (st .pre .0, sized bookFormat _ (st .pre .0) _ _ _ (st .pre .2) nodeKind 1 _ refl (k .cursor2 .ensures .1) (st .pre .1) (c .before .if2 .left))
-
--- Segment
-module _ (c : tie.After-cursor3) where
-  abbrev start3 : tie.Start
-  start3 = c .before .before .before .before
-
-  is3 : start3 .args .kind ≡ Segment
-  is3 = c .before .enum-told3 .given .1
-
-returns-3 : tie.Need-returns-3
-unfolding lengthFits
-returns-3 c =
-    let k = c .before .before in
-    let st = start3 k in
-    by-kind bookFormat _ (st .pre .0) _ _ _ (st .pre .2) (is3 k)
-    (elsewhere bookFormat _ (st .pre .0) _ _ _ (st .pre .2) segmentKind 3 _ refl (k .cursor3 .ensures .1) (st .pre .1) (c .before .if3 .taken) (c .wrong-length3 .ensures))
-
-returns-11 : tie.Need-returns-11
-unfolding lengthFits
-returns-11 c =
-    let k = c .before .before .before in
-    let st = start3 k in
-    by-kind bookFormat _ (st .pre .0) _ _ _ (st .pre .2) (is3 k)
-    (there bookFormat _ (st .pre .0) _ _ _ (st .pre .2) segmentKind 3 _ refl (k .cursor3 .ensures .1) (st .pre .1) (c .before .before .if3 .left) (c .add-segment .ensures))
-
-add-segment-requires : tie.Need-add-segment-requires
-unfolding lengthFits
-add-segment-requires c κs =
-    let k = c .before .before in
-    let st = start3 k in
-    (st .pre .0, sized bookFormat _ (st .pre .0) _ _ _ (st .pre .2) segmentKind 3 _ refl (k .cursor3 .ensures .1) (st .pre .1) (c .before .if3 .left))
-
--- Join
-module _ (c : tie.After-cursor4) where
-  abbrev start4 : tie.Start
-  start4 = c .before .before .before .before
-
-  is4 : start4 .args .kind ≡ Join
-  is4 = c .before .enum-told4 .given .1
-
-returns-4 : tie.Need-returns-4
-unfolding lengthFits
-returns-4 c =
-    let k = c .before .before in
-    let st = start4 k in
-    by-kind bookFormat _ (st .pre .0) _ _ _ (st .pre .2) (is4 k)
-    (elsewhere bookFormat _ (st .pre .0) _ _ _ (st .pre .2) joinKind 3 _ refl (k .cursor4 .ensures .1) (st .pre .1) (c .before .if4 .taken) (c .wrong-length4 .ensures))
-
-returns-12 : tie.Need-returns-12
-unfolding lengthFits
-returns-12 c =
-    let k = c .before .before .before in
-    let st = start4 k in
-    by-kind bookFormat _ (st .pre .0) _ _ _ (st .pre .2) (is4 k)
-    (there bookFormat _ (st .pre .0) _ _ _ (st .pre .2) joinKind 3 _ refl (k .cursor4 .ensures .1) (st .pre .1) (c .before .before .if4 .left) (c .add-join .ensures))
-
-add-join-requires : tie.Need-add-join-requires
-unfolding lengthFits
-add-join-requires c κs =
-    let k = c .before .before in
-    let st = start4 k in
-    (st .pre .0, sized bookFormat _ (st .pre .0) _ _ _ (st .pre .2) joinKind 3 _ refl (k .cursor4 .ensures .1) (st .pre .1) (c .before .if4 .left))
-
--- Call
-module _ (c : tie.After-cursor6) where
-  abbrev start6 : tie.Start
-  start6 = c .before .before .before .before
-
-  is6 : start6 .args .kind ≡ Call
-  is6 = c .before .enum-told6 .given .1
-
-returns-6 : tie.Need-returns-6
-unfolding lengthFits
-returns-6 c =
-    let k = c .before .before in
-    let st = start6 k in
-    by-kind bookFormat _ (st .pre .0) _ _ _ (st .pre .2) (is6 k)
-    (elsewhere bookFormat _ (st .pre .0) _ _ _ (st .pre .2) callKind 4 _ refl (k .cursor6 .ensures .1) (st .pre .1) (c .before .if7 .taken) (c .wrong-length6 .ensures))
-
-returns-14 : tie.Need-returns-14
-unfolding lengthFits
-returns-14 c =
-    let k = c .before .before .before in
-    let st = start6 k in
-    by-kind bookFormat _ (st .pre .0) _ _ _ (st .pre .2) (is6 k)
-    (there bookFormat _ (st .pre .0) _ _ _ (st .pre .2) callKind 4 _ refl (k .cursor6 .ensures .1) (st .pre .1) (c .before .before .if7 .left) (c .add-call .ensures))
+call c = record { told = ap kindIn (c .before .enum-told6 .given .1); size = λ p. refl; ends = c .cursor6 .ensures .1 }
 
 add-call-requires : tie.Need-add-call-requires
-unfolding lengthFits
 add-call-requires c κs =
     let k = c .before .before in
-    let st = start6 k in
-    (st .pre .0, growing-calls _ (st .pre .3 (no-head (is6 k) (λ e. omega arith))), sized bookFormat _ (st .pre .0) _ _ _ (st .pre .2) callKind 4 _ refl (k .cursor6 .ensures .1) (st .pre .1) (c .before .if7 .left))
+    let p = k .before .before .before .before .pre in
+    (p .0, growing-calls _ (p .3 (no-head (k .before .enum-told6 .given .1) (λ e. omega arith))), long (call k) (c .before .if7 .left))
 
--- Unbreakable
-module _ (c : tie.After-cursor7) where
-  abbrev start7 : tie.Start
-  start7 = c .before .before .before .before
-
-  is7 : start7 .args .kind ≡ Unbreakable
-  is7 = c .before .enum-told7 .given .1
-
-returns-7 : tie.Need-returns-7
+unbreakable : (c : tie.After-cursor7) → Of (c .before .before .before .before) unbreakableKind 1 (c .cursor7 .result .end)
 unfolding lengthFits
-returns-7 c =
-    let k = c .before .before in
-    let st = start7 k in
-    by-kind bookFormat _ (st .pre .0) _ _ _ (st .pre .2) (is7 k)
-    (elsewhere bookFormat _ (st .pre .0) _ _ _ (st .pre .2) unbreakableKind 1 _ refl (k .cursor7 .ensures .1) (st .pre .1) (c .before .if8 .taken) (c .wrong-length7 .ensures))
-
-returns-15 : tie.Need-returns-15
-unfolding lengthFits
-returns-15 c =
-    let k = c .before .before .before in
-    let st = start7 k in
-    by-kind bookFormat _ (st .pre .0) _ _ _ (st .pre .2) (is7 k)
-    (there bookFormat _ (st .pre .0) _ _ _ (st .pre .2) unbreakableKind 1 _ refl (k .cursor7 .ensures .1) (st .pre .1) (c .before .before .if8 .left) (c .add-unbreakable .ensures))
+unbreakable c = record { told = ap kindIn (c .before .enum-told7 .given .1); size = λ p. refl; ends = c .cursor7 .ensures .1 }
 
 add-unbreakable-requires : tie.Need-add-unbreakable-requires
-unfolding lengthFits
 add-unbreakable-requires c κs =
     let k = c .before .before in
-    let st = start7 k in
-    (st .pre .0, growing-segments _ (st .pre .3 (no-head (is7 k) (λ e. omega arith))), sized bookFormat _ (st .pre .0) _ _ _ (st .pre .2) unbreakableKind 1 _ refl (k .cursor7 .ensures .1) (st .pre .1) (c .before .if8 .left))
+    let p = k .before .before .before .before .pre in
+    (p .0, growing-segments _ (p .3 (no-head (k .before .enum-told7 .given .1) (λ e. omega arith))), long (unbreakable k) (c .before .if8 .left))
 
 -- Train: the row stands behind the fixed part
 module _ (c : tie.After-cursor5) where
@@ -239,13 +124,9 @@ returns-13 c =
     (c .add-train .ensures))
 
 -- End
-returns-8 : tie.Need-returns-8
+ending : (c : tie.After-cursor8) → Of (c .before .before .before .before) endKind 0 (c .cursor8 .result .end)
 unfolding lengthFits
-returns-8 c =
-    let k = c .before .before .before in
-    let st = k .before .before .before .before in
-    by-kind bookFormat _ (st .pre .0) _ _ _ (st .pre .2) (k .before .enum-told8 .given .1)
-    (elsewhere bookFormat _ (st .pre .0) _ _ _ (st .pre .2) endKind 0 _ refl (k .cursor8 .ensures .1) (st .pre .1) (c .before .if9 .taken) (c .wrong-length8 .ensures))
+ending c = record { told = ap kindIn (c .before .enum-told8 .given .1); size = λ p. refl; ends = c .cursor8 .ensures .1 }
 
 returns-16 : tie.Need-returns-16
 returns-16 c =
@@ -268,35 +149,35 @@ add-frame-spec =
     (λ c. search needs)
     (λ c κs. search needs)
     (λ c κs. search needs)
-    returns
+    (λ c. wrong (head (c .before .before)) (c .before .if1 .taken) (c .wrong-length .ensures))
     (λ c. search needs)
     (λ c. search needs)
     (λ c. search needs)
-    add-head-requires
-    (λ c. search needs)
-    (λ c κs. search needs)
-    (λ c κs. search needs)
-    returns-2
-    (λ c. search needs)
-    (λ c. search needs)
-    (λ c. search needs)
-    add-node-requires
+    (λ c κs. let k = c .before .before in (k .before .before .before .before .pre .0, long (head k) (c .before .if1 .left)))
     (λ c. search needs)
     (λ c κs. search needs)
     (λ c κs. search needs)
-    returns-3
+    (λ c. wrong (node (c .before .before)) (c .before .if2 .taken) (c .wrong-length2 .ensures))
     (λ c. search needs)
     (λ c. search needs)
     (λ c. search needs)
-    add-segment-requires
+    (λ c κs. let k = c .before .before in (k .before .before .before .before .pre .0, long (node k) (c .before .if2 .left)))
     (λ c. search needs)
     (λ c κs. search needs)
     (λ c κs. search needs)
-    returns-4
+    (λ c. wrong (segment (c .before .before)) (c .before .if3 .taken) (c .wrong-length3 .ensures))
     (λ c. search needs)
     (λ c. search needs)
     (λ c. search needs)
-    add-join-requires
+    (λ c κs. let k = c .before .before in (k .before .before .before .before .pre .0, long (segment k) (c .before .if3 .left)))
+    (λ c. search needs)
+    (λ c κs. search needs)
+    (λ c κs. search needs)
+    (λ c. wrong (join (c .before .before)) (c .before .if4 .taken) (c .wrong-length4 .ensures))
+    (λ c. search needs)
+    (λ c. search needs)
+    (λ c. search needs)
+    (λ c κs. let k = c .before .before in (k .before .before .before .before .pre .0, long (join k) (c .before .if4 .left)))
     (λ c. search needs)
     (λ c κs. search needs)
     (λ c. search needs)
@@ -312,7 +193,7 @@ add-frame-spec =
     (λ c. search needs)
     (λ c κs. search needs)
     (λ c κs. search needs)
-    returns-6
+    (λ c. wrong (call (c .before .before)) (c .before .if7 .taken) (c .wrong-length6 .ensures))
     (λ c. search needs)
     (λ c. search needs)
     (λ c. search needs)
@@ -320,7 +201,7 @@ add-frame-spec =
     (λ c. search needs)
     (λ c κs. search needs)
     (λ c κs. search needs)
-    returns-7
+    (λ c. wrong (unbreakable (c .before .before)) (c .before .if8 .taken) (c .wrong-length7 .ensures))
     (λ c. search needs)
     (λ c. search needs)
     (λ c. search needs)
@@ -328,16 +209,16 @@ add-frame-spec =
     (λ c. search needs)
     (λ c κs. search needs)
     (λ c κs. search needs)
-    returns-8
+    (λ c. wrong (ending (c .before .before .before)) (c .before .if9 .taken) (c .wrong-length8 .ensures))
     (λ c κs. search needs)
     (λ c. search needs)
     (λ c κs. search needs)
-    returns-9
-    returns-10
-    returns-11
-    returns-12
+    (λ c. right (head (c .before .before .before)) (c .before .before .if1 .left) (c .add-head .ensures))
+    (λ c. right (node (c .before .before .before)) (c .before .before .if2 .left) (c .add-node .ensures))
+    (λ c. right (segment (c .before .before .before)) (c .before .before .if3 .left) (c .add-segment .ensures))
+    (λ c. right (join (c .before .before .before)) (c .before .before .if4 .left) (c .add-join .ensures))
     returns-13
-    returns-14
-    returns-15
+    (λ c. right (call (c .before .before .before)) (c .before .before .if7 .left) (c .add-call .ensures))
+    (λ c. right (unbreakable (c .before .before .before)) (c .before .before .if8 .left) (c .add-unbreakable .ensures))
     returns-16
     returns-17)

@@ -1,4 +1,4 @@
--- `bytes::row_of` meets its contract. The loop's invariant: the array is the bytes from `from` up to i, with zeros behind them.
+-- `bytes::place_of` meets its contract. The loop's invariant: the array is the bytes from `from` up to i, with zeros behind them.
 -- Assumes nothing.
 use borrow.Author.Needs.{needs}
 use native.Mathlib.Omega.{arith}
@@ -11,14 +11,14 @@ use lib.Seq.{take-suc, take-all, getD-drop, length-take-le}
 use Rattle.spec.specs.Lists.{one}
 use Rattle.spec.specs.Held.{padded}
 use Rattle.laws.proofs.Arrays.{padded-next}
-use Rattle.frames.proofs.bytes.row_of.Statement.{statement}
-use Rattle.frames.proofs.bytes.row_of.Tie as tie
+use Rattle.frames.proofs.bytes.place_of.Statement.{statement}
+use Rattle.frames.proofs.bytes.place_of.Tie as tie
 
 abbrev Inv-loop : tie.InvT-loop
-Inv-loop p from row₀ i₀ row i = (from ≤ i) × (i ≤ length p) × (row ≡ padded 8 0 (take (i - from) (drop from p)))
+Inv-loop p from place₀ i₀ place i = (from ≤ i) × (i ≤ length p) × (place ≡ padded 8 0 (take (i - from) (drop from p)))
 
 abbrev μ-loop : tie.MeasureT-loop
-μ-loop p from row₀ i₀ row i = length p - i
+μ-loop p from place₀ i₀ place i = length p - i
 
 loop-holds : tie.Need-loop-holds Inv-loop μ-loop
 unfolding padded
@@ -39,7 +39,7 @@ module _ (p : List ℕ) (from i : ℕ) (l : from ≤ i) (k : i < length p) where
   many = length-take-le (i - from) (drop from p) (rw length-drop (omega arith))
 
 turn : (c : tie.After-shared-slice-known Inv-loop μ-loop)
-    → set (c .before .before .loop .row) (c .before .before .loop .i - c .before .before .before .args .from)
+    → set (c .before .before .loop .place) (c .before .before .loop .i - c .before .before .before .args .from)
     (getD (c .before .before .before .args .p .now) (c .before .before .loop .i) 0)
     ≡ padded 8 0 (take (c .before .before .loop .i + 1 - c .before .before .before .args .from)
     (drop (c .before .before .before .args .from) (c .before .before .before .args .p .now)))
@@ -58,8 +58,8 @@ returns c =
     let e = take-all (s .loop .i - s .before .args .from) (drop (s .before .args .from) (s .before .args .p .now)) (rw length-drop (omega arith)) in
     s .loop .inv .2 ∙ simp e
 
-pub row-of-spec : {M : Type 1} → statement M
-row-of-spec =
+pub place-of-spec : {M : Type 1} → statement M
+place-of-spec =
     tie.close
     (tie.spec
     Inv-loop

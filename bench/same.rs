@@ -1,0 +1,244 @@
+// Holds the proved functions, the plain ones and the tuned ones together: answers and outputs, on an input, on damaged ones, and with
+// outputs that are too short. The first difference ends the program.
+
+use std::sync::atomic::{AtomicUsize, Ordering};
+
+use crate::checks::{self, Lent};
+use crate::tuned::Space;
+use crate::{plain, proved, tuned, tuned_checks, tuned_formula};
+
+// xorshift
+struct Random(u64);
+
+impl Random {
+    fn below(&mut self, n: usize) -> usize {
+        self.0 ^= self.0 << 13;
+        self.0 ^= self.0 >> 7;
+        self.0 ^= self.0 << 17;
+        (self.0 % n as u64) as usize
+    }
+}
+
+fn damages() -> usize {
+    std::env::var("DAMAGES").ok().and_then(|s| s.parse().ok()).unwrap_or(300)
+}
+
+// The bytes with some damage: a byte or two changed a little or much, cut, or with a byte more.
+fn damaged(bytes: &[u8], random: &mut Random) -> Vec<u8> {
+    let mut other = bytes.to_vec();
+    match random.below(12) {
+        0 => other.truncate(random.below(bytes.len())),
+        1 => other.push(random.below(256) as u8),
+        n => {
+            for _ in 0..1 + n % 2 {
+                let at = random.below(bytes.len());
+                other[at] = match random.below(4) {
+                    0 => random.below(256) as u8,
+                    1 => other[at].wrapping_add(1),
+                    2 => other[at].wrapping_sub(1),
+                    _ => other[at] ^ 1 << random.below(8),
+                };
+            }
+        }
+    }
+    other
+}
+
+// How many answers had each refusal's number; 0 is accepted.
+static ANSWERS: [AtomicUsize; 22] = [const { AtomicUsize::new(0) }; 22];
+
+fn tally<T>(found: &Result<T, (usize, usize)>) {
+    ANSWERS[found.as_ref().map_or_else(|refusal| refusal.0, |_| 0)].fetch_add(1, Ordering::Relaxed);
+}
+
+// The answers so far: "number: how many".
+pub fn tallied() -> String {
+    let rows = ANSWERS.iter().map(|n| n.load(Ordering::Relaxed)).enumerate();
+    rows.filter(|row| row.1 > 0).map(|(number, n)| format!("{number}: {n}")).collect::<Vec<_>>().join(", ")
+}
+
+fn with_detail<T>(found: Result<T, usize>) -> Result<T, (usize, usize)> {
+    found.map_err(|number| (number, 0))
+}
+
+// Reading, and writing the formula with all the room and with a word too little.
+fn formula(name: &str, book: &[u8], space: &mut Space) {
+    let read = proved::read_book(book);
+    tally(&read);
+    assert_eq!(read, with_detail(plain::read_book(book).map(|_| ())), "{name}, read, plain");
+    assert_eq!(read, with_detail(tuned::read_book::<false>(book, space)), "{name}, read, tuned");
+    let Ok(sizes) = tuned_formula::prepare(book, space) else { return assert!(read.is_err(), "{name}, read, tuned") };
+    assert!(read.is_ok(), "{name}, read, tuned");
+    let words = sizes.totals.words;
+    for room in [words + 1, words, words - 1] {
+        let [mut one, mut two, mut three] = [(); 3].map(|_| vec![7i32; room]);
+        let found = proved::write_formula(book, &mut one);
+        tally(&found);
+        assert_eq!(found, with_detail(plain::write_formula(book, &mut two)), "{name}, write, plain");
+        let totals = tuned_formula::write_formula(book, &mut three, space).map(|t| (t.variables, t.clauses, t.words));
+        assert_eq!(found, with_detail(totals), "{name}, write, tuned");
+        assert!(one == two && one == three, "{name}: the outputs differ");
+    }
+}
+
+pub fn formulas(name: &str, book: &[u8], space: &mut Space) {
+    formula(name, book, space);
+    let mut random = Random(88172645463325252);
+    for _ in 0..damages().min(200_000_000 / tuned_formula::prepare(book, space).map_or(1, |s| s.totals.words)) {
+        formula(name, &damaged(book, &mut random), space);
+    }
+}
+
+// Checks a plan; answers the assignment.
+fn plan(name: &str, book: &[u8], plan: &[u8], room: usize, space: &mut Space) -> Option<Vec<u8>> {
+    let [mut one, mut two, mut three] = [(); 3].map(|_| vec![9u8; room]);
+    let found = proved::check_plan(book, plan, &mut one);
+    tally(&found);
+    assert_eq!(found, checks::check_plan(book, plan, &mut two), "{name}, plan, plain");
+    assert_eq!(found, tuned_checks::check_plan(book, plan, &mut three, space), "{name}, plan, tuned");
+    assert!(one == two && one == three, "{name}: the assignments differ");
+    found.ok().map(|n| one[..n].to_vec())
+}
+
+// Checks an assignment; answers the plan.
+fn assignment(name: &str, book: &[u8], values: &[u8], room: usize, space: &mut Space) -> Option<Vec<u8>> {
+    let [mut one, mut two, mut three] = [(); 3].map(|_| vec![9u8; room]);
+    let found = proved::check_assignment(book, values, &mut one);
+    tally(&found);
+    assert_eq!(found, checks::check_assignment(book, values, &mut two), "{name}, assignment, plain");
+    assert_eq!(found, tuned_checks::check_assignment(book, values, &mut three, space), "{name}, assignment, tuned");
+    assert!(one == two && one == three, "{name}: the plans differ");
+    found.ok().map(|n| one[..n].to_vec())
+}
+
+// A plan and its assignment, both also damaged. Answers the assignment.
+pub fn judgements(name: &str, book: &[u8], good: &[u8], space: &mut Space) -> Vec<u8> {
+    let variables = tuned_formula::prepare(book, space).expect("a good book").totals.variables;
+    let values = plan(name, book, good, variables, space).expect("a good plan");
+    assert_eq!(assignment(name, book, &values, good.len(), space).as_deref(), Some(good));
+    trials(name, book, good, &values, damages(), space);
+    values
+}
+
+fn trials(name: &str, book: &[u8], good: &[u8], values: &[u8], times: usize, space: &mut Space) {
+    let mut random = Random(88172645463325252);
+    for k in 0..times {
+        plan(name, book, &damaged(good, &mut random), values.len() + k % 3 - 1, space);
+        assignment(name, book, &damaged(values, &mut random), good.len() + k % 3 - 1, space);
+    }
+}
+
+// Slices for a refutation check.
+pub struct Slices {
+    pub words: Vec<i32>,
+    pub clauses: Vec<usize>,
+    pub values: Vec<u8>,
+    pub trail: Vec<usize>,
+}
+
+impl Slices {
+    pub fn new(words: usize, clauses: usize, variables: usize) -> Slices {
+        Slices { words: vec![1; words], clauses: vec![1; clauses], values: vec![1; variables], trail: vec![1; variables] }
+    }
+
+    pub fn lent(&mut self) -> Lent<'_> {
+        self.shorter([0; 4])
+    }
+
+    // The slices without so many of their last entries.
+    fn shorter(&mut self, less: [usize; 4]) -> Lent<'_> {
+        let [w, c, v, t] = less;
+        let (w, c, v, t) = (self.words.len() - w, self.clauses.len() - c, self.values.len() - v, self.trail.len() - t);
+        Lent { words: &mut self.words[..w], clauses: &mut self.clauses[..c], values: &mut self.values[..v], trail: &mut self.trail[..t] }
+    }
+
+    fn is_clear(&self, less: [usize; 4]) -> bool {
+        let [w, c, v, t] = less.map(|n| n == 0);
+        !(w && self.words.iter().any(|&w| w != 0) || c && self.clauses.iter().any(|&n| n != 0)
+            || v && self.values.iter().any(|&v| v != 0) || t && self.trail.iter().any(|&n| n != 0))
+    }
+}
+
+fn refutation(name: &str, book: &[u8], r: &[u8], less: [usize; 4], all: &mut [Slices; 3], space: &mut Space) -> bool {
+    let [one, two, three] = all;
+    let found = proved::check_refutation(book, r, &mut one.shorter(less));
+    tally(&found);
+    assert_eq!(found, checks::check_refutation(book, r, &mut two.shorter(less)), "{name}, refutation, plain");
+    assert_eq!(found, tuned_checks::check_refutation(book, r, &mut three.shorter(less), space), "{name}, refutation, tuned");
+    assert!(all.iter().all(|slices| slices.is_clear(less)), "{name}: the slices are not zero");
+    found.is_ok()
+}
+
+// A refutation, also damaged, and with slices that are too short by one.
+pub fn refutations(name: &str, book: &[u8], r: &[u8], all: &mut [Slices; 3], space: &mut Space) {
+    assert!(refutation(name, book, r, [0; 4], all, space), "{name}: a good refutation");
+    let mut random = Random(88172645463325252);
+    // and the first bytes of a long one, which is seldom damaged in its first steps
+    let head = &r[..r.len().min(20_000)];
+    for _ in 0..damages().min(1_000_000_000 / (r.len() + 50 * all[0].words.len())) {
+        refutation(name, book, &damaged(r, &mut random), [0; 4], all, space);
+        refutation(name, book, &damaged(head, &mut random), [0; 4], all, space);
+    }
+    for less in [[1, 0, 0, 0], [0, 1, 0, 0], [0, 0, 1, 0], [0, 0, 0, 1]] {
+        assert!(!refutation(name, book, r, less, all, space), "{name}: short slices");
+    }
+}
+
+// Another book: its formula, damaged too; random plans; and random assignments that keep most clauses.
+pub fn all(name: &str, book: &[u8], space: &mut Space) {
+    formulas(name, book, space);
+    let Ok(sizes) = tuned_formula::prepare(book, space) else { return };
+    let (variables, length) = (sizes.totals.variables, space.book.nodes + 2 * space.book.trains * space.book.intervals);
+    let mut random = Random(88172645463325252);
+    for _ in 0..damages() {
+        let (good, values) = likely(space, variables, length, &mut random);
+        if let Some(values) = plan(name, book, &good, variables, space) {
+            assignment(name, book, &values, length, space);
+            trials(name, book, &good, &values, 10, space);
+        }
+        assignment(name, book, &values, length, space);
+        tuned_formula::prepare(book, space).expect("it was read before");
+    }
+}
+
+// A plan whose trains go on from run to run for the most part, and an assignment with its moves and the claims of its runs, and more.
+fn likely(space: &Space, variables: usize, length: usize, random: &mut Random) -> (Vec<u8>, Vec<u8>) {
+    let book = &space.book;
+    let (mut plan, mut values) = (vec![0u8; book.nodes], vec![0u8; variables]);
+    for node in 0..book.nodes {
+        plan[node] = match book.kinds[node] {
+            1 => random.below(2) as u8,
+            kind => kind / 2 ^ (random.below(200) == 0) as u8,
+        };
+    }
+    values[..book.nodes].copy_from_slice(&plan);
+    let mut at = book.nodes;
+    for train in &book.train[..book.trains] {
+        let list = &space.lists[train.list];
+        let mut place = list.place(train.l, train.place) as usize;
+        let mut gone = false;
+        for interval in 0..book.intervals {
+            let runs = &list.by_start[list.first[place] as usize..list.first[place + 1] as usize];
+            let leaves = interval > train.departure && list.masks[place] >> train.goal() & 1 == 1;
+            gone = (gone || leaves && random.below(3) == 0) && random.below(50) != 0;
+            let mut code = if random.below(200) == 0 { random.below(list.count) } else { runs[random.below(runs.len())] as usize };
+            if interval < train.departure && random.below(200) != 0 {
+                code = 65534;
+            } else if gone {
+                code = 65535;
+            } else {
+                place = list.end[code] as usize;
+                values[at + code] = 1;
+                let mask = list.masks[code] | if random.below(3) == 0 { 1 << random.below(book.segments) } else { 0 };
+                for s in tuned::bits(mask) {
+                    values[at + list.count + 1 + s] = (random.below(200) != 0) as u8;
+                }
+            }
+            values[at + list.count] = (code == 65535) as u8;
+            plan.extend((code as u16).to_le_bytes());
+            at += list.count + 1 + book.segments;
+        }
+    }
+    assert!(plan.len() == length && at == variables);
+    (plan, values)
+}
