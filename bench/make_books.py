@@ -1,13 +1,16 @@
 #!/usr/bin/env python3
-"""Makes the books that bench.rs runs on. It takes how a book is written, document 01's book L and the reference from the package tools.
+"""Makes the books that bench.rs runs on. It takes how a book is written, random books and the reference from the package tools.
 
-  make_books.py random SEED DIR  writes random books, refused ones among them, for `./bench same`
+  make_books.py random SEED DIR  writes random books, refused ones and ones with many intervals among them, for `./bench same`
   make_books.py [DIR]  writes big_star.book, big_ring.book, big_lanes.book, small_l.book, the smaller rings ring_8.book, ring_16.book and
-                       ring_32.book, stand_16.book and stand_64.book with their plans, and shut.book into DIR, by default beside itself
+                       ring_32.book, stand_16.book and stand_64.book with their plans, shut.book and the scale books into DIR, by
+                       default beside itself
 
-Each big book has T = 32, 8 trains (l = 1, k = 1, departure 0) and about 250 runs a train; a smaller ring has 4 runs a segment. In a stand
-book the trains stand where their calls are. shut.book has a call whose window shuts before the departure, so its formula has an empty clause. The
-reference must accept each (read_book raises otherwise).
+small_l.book is document 01's book L. Each big book has T = 32, 8 trains (l = 1, k = 1, departure 0) and about 250 runs a train; a smaller
+ring has 4 runs a segment. In a stand book the trains stand where their calls are. A shut book has a call whose window shuts before the
+departure, so its formula has an empty clause. A scale book has the most of everything that its shape allows: T = 256, 96 nodes, 64
+segments, 8 trains, some 256 runs a train; scale_ring and scale_tracks have plans, in scale_long eight trains have no room.
+The reference must accept each (read_book raises otherwise).
 """
 
 import os
@@ -18,9 +21,8 @@ import sys
 HERE = os.path.dirname(os.path.abspath(__file__))
 sys.path.insert(0, os.path.dirname(HERE))
 from tools.books import Spec, spec_bytes    # noqa: E402 (the path has to be right first)
-from tools.known import BOOK_L              # noqa: E402
 from tools.passing_books import make_book   # noqa: E402
-from tools.random_books import refused_books    # noqa: E402
+from tools.random_books import random_spec, refused_books    # noqa: E402
 from tools.reference import read_book       # noqa: E402
 
 
@@ -33,6 +35,14 @@ def with_trains(spec, stride, calls):
         spec.trains.append((100, 36, 0, [2 * at + tr % 2]))
         for c in range(calls):
             spec.calls.append((tr, (at + 5 + 7 * c) % count, 0, 32))
+    return spec
+
+
+def book_l(T=1, departure=0, first=0, last=1):
+    """Document 01's book L, or its like with other times."""
+    spec = Spec(T=T)
+    spec.nodes, spec.segments = [0, 0], [(0, 1, 0)]
+    spec.trains, spec.calls = [(80, 36, departure, [0])], [(0, 0, first, last)]
     return spec
 
 
@@ -76,9 +86,17 @@ def stand(n):
     return spec
 
 
-def standing_plan(spec):
-    """No border; each train in every interval the run of its own place, which has its directed segment's number."""
+def standing_plan(spec, border):
+    """Every border set or none; each train in every interval the run of its own place, which has its directed segment's number."""
     codes = [struct.pack("<H", row[0]) for _, _, _, row in spec.trains for _ in range(spec.T)]
+    return bytes([border]) * len(spec.nodes) + b"".join(codes)
+
+
+def circling_plan(spec):
+    """No border; each train goes round the ring, a segment an interval. The run from 2s to 2s + 2 has the number of the place 2s behind
+    all places."""
+    n = len(spec.segments)
+    codes = [struct.pack("<H", 2 * n + 2 * ((row[0] // 2 + i) % n)) for _, _, _, row in spec.trains for i in range(spec.T)]
     return bytes(len(spec.nodes)) + b"".join(codes)
 
 
@@ -95,22 +113,132 @@ def shut():
     return spec
 
 
+# --------------------------------------------------- the largest books
+
+
+def with_short_trains(spec, stride, calls):
+    """8 trains of one segment, `stride` apart, that face from a to b; each calls so many segments from its own."""
+    for tr in range(8):
+        spec.trains.append((100, 36, 0, [2 * tr * stride]))
+        spec.calls += [(tr, (tr * stride + c) % 64, 1, 256) for c in calls]
+    return filled(spec)
+
+
+def filled(spec):
+    """96 nodes, by nodes without segments, and T = 256."""
+    spec.T = 256
+    spec.nodes += [1] * (96 - len(spec.nodes))
+    return spec
+
+
+def scale_line():
+    """A line of 64 segments, each its own TTD: 128 + 126 runs."""
+    spec = Spec()
+    spec.nodes = [1] * 65
+    spec.segments = [(s, s + 1, s) for s in range(64)]
+    spec.joins = [(s + 1, s, s + 1) for s in range(63)]
+    return with_short_trains(spec, 8, (5, 7, 9, 0))
+
+
+def scale_ring():
+    """A ring of 64 segments: 128 + 128 runs. It is large by family C alone, the pairs of runs."""
+    spec = ring(64)
+    spec.trains, spec.calls = [], []
+    return with_short_trains(spec, 8, (5, 7, 9, 0))
+
+
+def tracks():
+    """64 tracks of one TTD between two nodes: nothing has a larger family H."""
+    spec = Spec()
+    spec.nodes = [1, 1]
+    spec.segments = [(0, 1, 0)] * 64
+    return spec
+
+
+def scale_tracks():
+    """The first track is joined to 31 others at one node and to 33 at the other, so that each run has many followers: 128 + 128 runs.
+    With both borders set eight trains may stand on tracks of their own."""
+    spec = tracks()
+    spec.joins = [(0, 0, s) for s in range(1, 32)] + [(1, 0, s) for s in range(1, 34)]
+    return with_short_trains(spec, 1, (0, 0, 0, 0))
+
+
+def scale_long():
+    """16 of the tracks are joined to a ring with trains of 8 segments that move up to 7: 32 places, 256 runs of 8 to 15 segments, so
+    that family G is large too."""
+    spec = tracks()
+    spec.joins = [((s + 1) % 2, s, (s + 1) % 16) for s in range(16)]
+    for tr in range(8):
+        row = [(2 * tr + s) % 16 for s in range(8)]
+        spec.trains.append((800, 252, 0, [2 * s + s % 2 for s in row]))
+        spec.calls += [(tr, (2 * tr + c) % 16, 1, 256) for c in (9, 11, 13, 15)]
+    return filled(spec)
+
+
+def with_shut_call(spec):
+    """The first train departs an interval later, and its first call is over by then."""
+    length, speed, _, place = spec.trains[0]
+    spec.trains[0] = (length, speed, 1, place)
+    train, segment, _, _ = spec.calls[0]
+    spec.calls[0] = (train, segment, 0, 0)
+    return spec
+
+
+def scale_books():
+    """By name each largest book, with a plan or None."""
+    return {
+        "scale_line": (scale_line(), None),
+        "scale_ring": (scale_ring(), circling_plan(scale_ring())),
+        "scale_tracks": (scale_tracks(), standing_plan(scale_tracks(), 1)),
+        "scale_long": (scale_long(), None),
+        "scale_shut_ring": (with_shut_call(scale_ring()), None),
+        "scale_shut_long": (with_shut_call(scale_long()), None),
+    }
+
+
+# ------------------------------------------------------------- the files
+
+
 def all_files():
     """Every file by its name."""
-    files = {"big_star.book": spec_bytes(star()), "big_ring.book": spec_bytes(ring(64)), "big_lanes.book": spec_bytes(lanes()),
-             "small_l.book": BOOK_L, "shut.book": spec_bytes(shut())}
+    books = {"small_l": book_l(), "big_star": star(), "big_ring": ring(64), "big_lanes": lanes(), "shut": shut()}
+    plans = {}
     for n in (8, 16, 32):
-        files["ring_%d.book" % n] = spec_bytes(ring(n))
+        books["ring_%d" % n] = ring(n)
     for n in (16, 64):
-        files["stand_%d.book" % n] = spec_bytes(stand(n))
-        files["stand_%d.plan" % n] = standing_plan(stand(n))
-    return files
+        books["stand_%d" % n] = stand(n)
+        plans["stand_%d" % n] = standing_plan(stand(n), 0)
+    for name, (spec, plan) in scale_books().items():
+        books[name] = spec
+        if plan:
+            plans[name] = plan
+    files = {name + ".book": spec_bytes(spec) for name, spec in books.items()}
+    return files | {name + ".plan": plan for name, plan in plans.items()}
+
+
+# T, departure, first and last where a second byte begins, or where only one of the two bytes is as it should be
+EDGES = ((256, 255, 256, 256), (256, 255, 255, 256), (256, 255, 0, 254), (256, 256, 0, 256), (256, 0, 256, 255), (256, 0, 0, 257),
+         (256, 0, 257, 257), (255, 254, 255, 255), (255, 255, 0, 255), (255, 0, 0, 256), (257, 0, 0, 1), (1, 256, 0, 1), (1, 0, 0, 256),
+         (1, 0, 256, 257), (0, 0, 0, 0), (65280, 0, 0, 1), (65535, 65534, 65535, 65535))
+
+
+def stretched(spec, T):
+    """The same with T intervals, every time later by as much."""
+    def later(time):
+        return time * T // spec.T
+
+    spec.trains = [(length, speed, later(departure), place) for length, speed, departure, place in spec.trains]
+    spec.calls = [(train, segment, later(first), later(last)) for train, segment, first, last in spec.calls]
+    spec.T = T
+    return spec
 
 
 def write_random(seed, folder):
-    """700 random books, and 12 for each refusal of a book."""
+    """700 random books, 12 for each refusal of a book, 20 of each of several numbers of intervals, some of them too large, and EDGES."""
     rng = random.Random(seed)
     books = [make_book(rng) for _ in range(700)] + [data for _, data in refused_books(rng, 12)]
+    books += [spec_bytes(stretched(random_spec(rng, "tiny"), T)) for T in (32, 33, 255, 256, 257, 512) for _ in range(20)]
+    books += [spec_bytes(book_l(*times)) for times in EDGES]
     for number, data in enumerate(filter(None, books)):
         with open(os.path.join(folder, "random_%03d.book" % number), "wb") as f:
             f.write(data)

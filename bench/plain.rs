@@ -1,4 +1,4 @@
-// A plain Rust implementation of document 01's reader and formula, to time the proved one against:
+// A plain Rust implementation of document 01's reader, with times of two bytes, and formula, to time the proved one against:
 // structs, Vec and iterators, follow lists and meeting triples worked out once a book, one walk over
 // the families that is generic in where its words go (counted, or stored in a slice).  Written from
 // tools/reference.py; nothing in it is tuned by hand.
@@ -90,12 +90,11 @@ pub fn read_book(s: &[u8]) -> Result<Book, usize> {
         let order = if last == 0 { kind != 1 } else { kind == 1 || kind < last };
         refuse_if(order || kind == 8 && at < s.len(), 3)?;
         let wanted = match kind {
-            1 => 5,
+            1 | 6 => 6,
             2 | 7 => 1,
             3 | 4 => 3,
-            5 if len >= 6 => 6 + p[5] as usize,
-            5 => 6,
-            6 => 4,
+            5 if len >= 7 => 7 + p[6] as usize,
+            5 => 7,
             _ => 0,
         };
         refuse_if(len != wanted, 4)?;
@@ -129,8 +128,8 @@ pub fn read_book(s: &[u8]) -> Result<Book, usize> {
 }
 
 fn take_head(book: &mut Book, p: &[u8]) -> Result<(), usize> {
-    (book.rs, book.rt, book.intervals) = (two(p, 0), two(p, 2), p[4] as usize);
-    refuse_if(book.rs < 1 || book.rt < 1 || !(1..=32).contains(&book.intervals), 6)
+    (book.rs, book.rt, book.intervals) = (two(p, 0), two(p, 2), two(p, 4));
+    refuse_if(book.rs < 1 || book.rt < 1 || !(1..=256).contains(&book.intervals), 6)
 }
 
 fn take_node(book: &mut Book, p: &[u8]) -> Result<(), usize> {
@@ -159,7 +158,7 @@ fn take_join(book: &mut Book, p: &[u8]) -> Result<(), usize> {
 }
 
 fn take_train(book: &mut Book, p: &[u8]) -> Result<(), usize> {
-    let (metres, speed, departure, place) = (two(p, 0), two(p, 2), p[4] as usize, &p[6..]);
+    let (metres, speed, departure, place) = (two(p, 0), two(p, 2), two(p, 4), &p[7..]);
     refuse_if(book.trains.len() == 8, 5)?;
     refuse_if(metres < 1 || departure >= book.intervals, 6)?;
     refuse_if(place.iter().any(|&d| d as usize / 2 >= book.segments.len()), 6)?;
@@ -172,7 +171,7 @@ fn take_train(book: &mut Book, p: &[u8]) -> Result<(), usize> {
 }
 
 fn take_call(book: &mut Book, p: &[u8]) -> Result<(), usize> {
-    let (train, segment, first, last) = (p[0] as usize, p[1] as usize, p[2] as usize, p[3] as usize);
+    let (train, segment, first, last) = (p[0] as usize, p[1] as usize, two(p, 2), two(p, 4));
     refuse_if(book.trains.get(train).is_some_and(|t| t.calls.len() == 4), 5)?;
     refuse_if(train >= book.trains.len() || segment >= book.segments.len(), 6)?;
     refuse_if(first > last || last > book.intervals, 6)?;

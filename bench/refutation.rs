@@ -1,6 +1,8 @@
 // Makes a refutation of a given number of steps, for a formula that has an empty clause: lemmas that unit propagation proves, from
 // random decisions on, with their hints, and at the end the empty step, whose hint is the empty clause. One lemma in four is named by
-// later hints.
+// later hints. The lemmas are looked for in one part of the formula after the other: the clauses whose variables all lie in the part.
+
+use std::ops::Range;
 
 struct Search {
     clauses: Vec<Vec<i32>>,
@@ -10,8 +12,14 @@ struct Search {
     value: Vec<i8>,
     reason: Vec<usize>,
     trail: Vec<i32>,
+    // the part's variables, and the literals and places of its single ones
+    variables: Vec<usize>,
+    units: Vec<(i32, usize)>,
     random: u64,
 }
+
+// Ranges of variables.
+pub type Part = Vec<Range<usize>>;
 
 const DECIDED: usize = usize::MAX;
 
@@ -21,6 +29,32 @@ fn place(l: i32) -> usize {
 }
 
 impl Search {
+    // A search in a part of a formula.
+    fn new(words: &[i32], variables: usize, part: &Part) -> Search {
+        let mut search = Search {
+            clauses: Vec::new(),
+            numbers: Vec::new(),
+            watches: vec![Vec::new(); 2 * variables + 2],
+            value: vec![0; variables + 1],
+            reason: vec![DECIDED; variables + 1],
+            trail: Vec::new(),
+            variables: part.iter().cloned().flatten().collect(),
+            units: Vec::new(),
+            random: 88172645463325252,
+        };
+        let mut known = vec![false; variables + 1];
+        search.variables.iter().for_each(|&v| known[v] = true);
+        for (k, clause) in clauses(words).enumerate() {
+            if clause.iter().all(|l| known[l.unsigned_abs() as usize]) {
+                if clause.len() == 1 {
+                    search.units.push((clause[0], search.clauses.len()));
+                }
+                search.add(clause.to_vec(), k as u32 + 1);
+            }
+        }
+        search
+    }
+
     // xorshift
     fn below(&mut self, n: usize) -> usize {
         self.random ^= self.random << 13;
@@ -105,21 +139,23 @@ impl Search {
     }
 
     // Decides at random until a clause is all false; None where every variable has a value.
-    fn decide(&mut self, units: &[(i32, usize)]) -> Option<usize> {
-        self.trail.clear();
-        self.value.fill(0);
-        for &(l, at) in units {
+    fn decide(&mut self) -> Option<usize> {
+        while let Some(l) = self.trail.pop() {
+            self.value[l.unsigned_abs() as usize] = 0;
+        }
+        for k in 0..self.units.len() {
+            let (l, at) = self.units[k];
             if self.truth(l) == 0 {
                 self.set(l, at);
             }
         }
         let mut conflict = self.propagate(0);
-        let variables = self.value.len() - 1;
-        for _ in 0..4 * variables {
+        for _ in 0..4 * self.variables.len() {
             if conflict.is_some() {
                 return conflict;
             }
-            let v = 1 + self.below(variables);
+            let at = self.below(self.variables.len());
+            let v = self.variables[at];
             if self.value[v] == 0 {
                 let l = if self.below(8) == 0 { v as i32 } else { -(v as i32) };
                 let from = self.trail.len();
@@ -140,46 +176,34 @@ fn frame(literals: &[i32], hints: &[u32], out: &mut Vec<u8>) {
     hints.iter().for_each(|h| out.extend(h.to_le_bytes()));
 }
 
-// The refutation's bytes, how many hints it has, and how many words its steps add. `words` is the formula.
-pub fn make(words: &[i32], variables: usize, steps: usize) -> (Vec<u8>, usize, usize) {
-    let clauses: Vec<Vec<i32>> = words.split(|&w| w == 0).map(|c| c.to_vec()).collect();
-    let count = clauses.len() - 1;
-    let mut search = Search {
-        clauses: Vec::new(),
-        numbers: Vec::new(),
-        watches: vec![Vec::new(); 2 * variables + 2],
-        value: vec![0; variables + 1],
-        reason: vec![DECIDED; variables + 1],
-        trail: Vec::new(),
-        random: 88172645463325252,
-    };
-    let mut units = Vec::new();
-    let mut empty = 0;
-    for (k, clause) in clauses[..count].iter().enumerate() {
-        if clause.len() == 1 {
-            units.push((clause[0], k));
-        }
-        if clause.is_empty() {
-            empty = k as u32 + 1;
-        }
-        search.add(clause.clone(), k as u32 + 1);
-    }
-    assert!(empty > 0, "the formula has no empty clause");
+// The formula's clauses.
+fn clauses(words: &[i32]) -> impl Iterator<Item = &[i32]> {
+    words.split_inclusive(|&w| w == 0).map(|clause| &clause[..clause.len() - 1])
+}
+
+// The refutation's bytes, how many hints it has, and how many words its steps add. `words` is the formula; each part gives about as
+// many steps as the others.
+pub fn make(words: &[i32], variables: usize, steps: usize, parts: &[Part]) -> (Vec<u8>, usize, usize) {
+    let count = words.iter().filter(|&&w| w == 0).count();
+    let empty = 1 + clauses(words).position(|clause| clause.is_empty()).expect("the formula has no empty clause");
     let (mut out, mut hinted, mut added, mut made) = (Vec::new(), 0, 0, 0);
-    while made + 1 < steps {
-        let Some(conflict) = search.decide(&units) else { continue };
-        let (literals, hints) = search.lemma(conflict);
-        if literals.is_empty() || hints.len() > 2000 {
-            continue;
-        }
-        made += 1;
-        frame(&literals, &hints, &mut out);
-        hinted += hints.len();
-        added += literals.len() + 1;
-        if made % 4 == 0 && literals.len() > 1 {
-            search.add(literals, (count + made) as u32);
+    for (k, part) in parts.iter().enumerate() {
+        let mut search = Search::new(words, variables, part);
+        while made < (steps - 1) * (k + 1) / parts.len() {
+            let Some(conflict) = search.decide() else { continue };
+            let (literals, hints) = search.lemma(conflict);
+            if literals.is_empty() || hints.len() > 2000 {
+                continue;
+            }
+            made += 1;
+            frame(&literals, &hints, &mut out);
+            hinted += hints.len();
+            added += literals.len() + 1;
+            if made % 4 == 0 && literals.len() > 1 {
+                search.add(literals, (count + made) as u32);
+            }
         }
     }
-    frame(&[], &[empty], &mut out);
+    frame(&[], &[empty as u32], &mut out);
     (out, hinted + 1, added + 1)
 }

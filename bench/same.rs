@@ -5,6 +5,7 @@ use std::sync::atomic::{AtomicUsize, Ordering};
 
 use crate::checks::{self, Lent};
 use crate::tuned::Space;
+use crate::tuned_formula::Totals;
 use crate::{plain, proved, tuned, tuned_checks, tuned_formula};
 
 // xorshift
@@ -137,8 +138,15 @@ pub struct Slices {
 }
 
 impl Slices {
-    pub fn new(words: usize, clauses: usize, variables: usize) -> Slices {
+    // For a formula and so many steps, which add so many words.
+    pub fn new(formula: Totals, added: usize, steps: usize) -> Slices {
+        let [words, clauses, variables] = [formula.words + added, formula.clauses + steps, formula.variables];
         Slices { words: vec![1; words], clauses: vec![1; clauses], values: vec![1; variables], trail: vec![1; variables] }
+    }
+
+    // How many bytes they have.
+    pub fn bytes(&self) -> usize {
+        size_of_val(&self.words[..]) + size_of_val(&self.clauses[..]) + size_of_val(&self.values[..]) + size_of_val(&self.trail[..])
     }
 
     pub fn lent(&mut self) -> Lent<'_> {
@@ -175,7 +183,7 @@ pub fn refutations(name: &str, book: &[u8], r: &[u8], all: &mut [Slices; 3], spa
     let mut random = Random(88172645463325252);
     // and the first bytes of a long one, which is seldom damaged in its first steps
     let head = &r[..r.len().min(20_000)];
-    for _ in 0..damages().min(1_000_000_000 / (r.len() + 50 * all[0].words.len())) {
+    for _ in 0..damages().min(2 + 1_000_000_000 / (r.len() + 50 * all[0].words.len())) {
         refutation(name, book, &damaged(r, &mut random), [0; 4], all, space);
         refutation(name, book, &damaged(head, &mut random), [0; 4], all, space);
     }

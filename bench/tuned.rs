@@ -1,5 +1,5 @@
-// Rust of document 01's reader that is tuned for speed, to time the proved one against; tuned_formula.rs and tuned_checks.rs go on from
-// it. What was done:
+// Rust of document 01's reader, with times of two bytes, that is tuned for speed, to time the proved one against; tuned_formula.rs and
+// tuned_checks.rs go on from it. What was done:
 //
 // - Everything lies in fixed arrays of a space that the caller keeps: nothing is allocated a call, and nothing is cleared that is not used.
 // - Joins are bit masks: by directed segment, the segments that may follow it. So a repeated join is a bit, and no join is looked for.
@@ -11,12 +11,13 @@ pub const NODES: usize = 96;
 pub const SEGMENTS: usize = 64;
 pub const TRAINS: usize = 8;
 pub const RUNS: usize = 256;
+pub const INTERVALS: usize = 256;
 
 #[derive(Clone, Copy, Default)]
 pub struct Call {
     pub segment: u8,
-    pub first: u8,
-    pub last: u8,
+    pub first: u16,
+    pub last: u16,
 }
 
 #[derive(Clone, Copy, Default)]
@@ -73,12 +74,17 @@ pub struct List {
     pub ending: [u16; RUNS],      // by place: how many runs end there
 }
 
+// By train and interval a number.
+pub type Table<T> = [[T; INTERVALS]; TRAINS];
+
 pub struct Space {
     pub book: Book,
     pub lists: [List; TRAINS],
     pub list_count: usize,
     pub meets: [[i32; 4]; 2 * SEGMENTS * (SEGMENTS - 1)], // family H without the interval's variables; see tuned_formula.rs
     pub meet_count: usize,
+    pub moves: Table<u16>,  // a plan's codes; this and the next are for the checks
+    pub claims: Table<u64>, // the segments that are claimed
 }
 
 impl Space {
@@ -156,9 +162,11 @@ pub fn read_book<const SHARED: bool>(s: &[u8], space: &mut Space) -> Result<(), 
 }
 
 fn take_head(book: &mut Book, p: &[u8]) -> Result<(), usize> {
-    let &[_, _, _, _, intervals] = p else { return Err(4) };
-    (book.rs, book.rt, book.intervals) = (two(p), two(&p[2..]), intervals as usize);
-    if book.rs < 1 || book.rt < 1 || !(1..=32).contains(&intervals) { Err(6) } else { Ok(()) }
+    if p.len() != 6 {
+        return Err(4);
+    }
+    (book.rs, book.rt, book.intervals) = (two(p), two(&p[2..]), two(&p[4..]));
+    if book.rs < 1 || book.rt < 1 || !(1..=INTERVALS).contains(&book.intervals) { Err(6) } else { Ok(()) }
 }
 
 fn take_node(book: &mut Book, p: &[u8]) -> Result<(), usize> {
@@ -227,10 +235,10 @@ fn onward(book: &Book, d: usize, t: usize) -> usize {
 }
 
 fn take_train(book: &mut Book, p: &[u8]) -> Result<(), usize> {
-    if p.len() < 6 || p.len() != 6 + p[5] as usize {
+    if p.len() < 7 || p.len() != 7 + p[6] as usize {
         return Err(4);
     }
-    let (metres, speed, departure, place) = (two(p), two(&p[2..]), p[4] as usize, &p[6..]);
+    let (metres, speed, departure, place) = (two(p), two(&p[2..]), two(&p[4..]), &p[7..]);
     if book.trains == TRAINS {
         return Err(5);
     }
@@ -262,7 +270,10 @@ fn take_train(book: &mut Book, p: &[u8]) -> Result<(), usize> {
 }
 
 fn take_call(book: &mut Book, p: &[u8]) -> Result<(), usize> {
-    let &[train, segment, first, last] = p else { return Err(4) };
+    if p.len() != 6 {
+        return Err(4);
+    }
+    let (train, segment, first, last) = (p[0], p[1], two(&p[2..]) as u16, two(&p[4..]) as u16);
     let known = (train as usize) < book.trains;
     if known && book.train[train as usize].call_count == 4 {
         return Err(5);

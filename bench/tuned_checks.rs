@@ -9,7 +9,7 @@
 use std::arch::x86_64::{_mm_prefetch, _MM_HINT_T0};
 
 use crate::checks::Lent;
-use crate::tuned::{bits, Call, List, Space, SEGMENTS, TRAINS};
+use crate::tuned::{bits, Book, Call, List, Space, Table, Train, INTERVALS, SEGMENTS, TRAINS};
 use crate::tuned_formula::{met_at_departure, prepare, width, write, Sizes};
 
 type Verdict<T> = Result<T, (usize, usize)>;
@@ -65,12 +65,9 @@ fn spread(mask: u64, bytes: &mut [u8]) {
     }
 }
 
-// By train and interval a number.
-type Table<T> = [[T; 32]; TRAINS];
-
 // The groups of two or more segments of one TTD at a node without a border.
-fn groups(space: &Space, borders: &[u8]) -> ([u64; SEGMENTS], usize) {
-    let (book, mut found, mut n) = (&space.book, [0; SEGMENTS], 0);
+fn groups(book: &Book, borders: &[u8]) -> ([u64; SEGMENTS], usize) {
+    let (mut found, mut n) = ([0; SEGMENTS], 0);
     for node in (0..book.nodes).filter(|&node| borders[node] == 0) {
         let mut left = book.touching[node];
         while left != 0 {
@@ -85,12 +82,11 @@ fn groups(space: &Space, borders: &[u8]) -> ([u64; SEGMENTS], usize) {
     (found, n)
 }
 
-// The moves of an assignment that satisfies the formula, by train and interval, or the number of its first false clause.
-fn judge(space: &Space, sizes: &Sizes, values: &[u8]) -> Result<Table<u16>, usize> {
-    let (book, mut before) = (&space.book, 0);
+// Finds the moves of an assignment that satisfies the formula; or the number of its first false clause.
+fn judge(space: &mut Space, sizes: &Sizes, values: &[u8]) -> Result<(), usize> {
+    let Space { book, lists, meets, meet_count, moves, claims, .. } = space;
     let (t, m) = (book.intervals, book.trains);
-    let mut moves = [[ABSENT; 32]; TRAINS];
-    let mut claims: Table<u64> = [[0; 32]; TRAINS];
+    let mut before = 0;
     for (&kind, &border) in book.kinds[..book.nodes].iter().zip(values) {
         before += (kind != 1) as usize;
         if kind != 1 && border != kind / 2 {
@@ -99,9 +95,9 @@ fn judge(space: &Space, sizes: &Sizes, values: &[u8]) -> Result<Table<u16>, usiz
     }
     let mut first = [book.nodes; TRAINS + 1];
     for i in 0..m {
-        first[i + 1] = first[i] + t * width(book, &space.lists[book.train[i].list]);
+        first[i + 1] = first[i] + t * width(book, &lists[book.train[i].list]);
     }
-    let each = || book.train[..m].iter().enumerate().map(|(i, train)| (i, train, &space.lists[train.list]));
+    let each = || book.train[..m].iter().enumerate().map(|(i, train)| (i, train, &lists[train.list]));
     for (i, train, list) in each() {
         for interval in 0..train.departure {
             let from = first[i] + interval * width(book, list);
@@ -109,6 +105,7 @@ fn judge(space: &Space, sizes: &Sizes, values: &[u8]) -> Result<Table<u16>, usiz
             if set <= list.count {
                 return Err(before + set + 1);
             }
+            moves[i][interval] = ABSENT;
             before += list.count + 1;
         }
     }
@@ -169,27 +166,27 @@ fn judge(space: &Space, sizes: &Sizes, values: &[u8]) -> Result<Table<u16>, usiz
             before += all;
         }
     }
-    let (found, n) = groups(space, values);
+    let (found, n) = groups(book, values);
     for (i, _, _) in each() {
         for &claimed in &claims[i][..t] {
             if found[..n].iter().any(|g| claimed & g != 0 && !claimed & g != 0) {
                 let is_false = |&[s, border, u, _]: &[i32; 4]| claimed >> -s & 1 == 1 && values[border as usize - 1] == 0 && claimed >> u & 1 == 0;
-                return Err(before + space.meets[..space.meet_count].iter().position(is_false).unwrap() + 1);
+                return Err(before + meets[..*meet_count].iter().position(is_false).unwrap() + 1);
             }
-            before += space.meet_count;
+            before += *meet_count;
         }
     }
     for interval in 0..t {
         let mut all = 0;
         for x in 0..m {
             if all & claims[x][interval] != 0 {
-                return Err(before + first_shared(&claims, interval, m, book.segments));
+                return Err(before + first_shared(claims, interval, m, book.segments));
             }
             all |= claims[x][interval];
         }
         before += sizes.clauses[8] / t;
     }
-    Ok(moves)
+    Ok(())
 }
 
 // The number, among an interval's clauses of I, of the first false one.
@@ -217,7 +214,7 @@ fn goes_on(list: &List, goal: u8, was: u16, is: u16) -> bool {
 }
 
 // F: whether a call is met after the departure.
-fn served(list: &List, moves: &[u16; 32], departure: usize, c: Call) -> bool {
+fn served(list: &List, moves: &[u16; INTERVALS], departure: usize, c: Call) -> bool {
     let mut times = (c.first as usize).max(departure + 1)..c.last as usize + 1;
     times.any(|time| {
         let r = moves[time - 1] as usize;
@@ -233,10 +230,10 @@ pub fn check_assignment(s: &[u8], values: &[u8], out: &mut [u8], space: &mut Spa
     if values.len() != sizes.totals.variables || values.iter().fold(0, |all, v| all | v) > 1 {
         return Err((13, 0));
     }
-    let moves = judge(space, &sizes, values).map_err(|clause| (14, clause))?;
+    judge(space, &sizes, values).map_err(|clause| (14, clause))?;
     let (borders, codes) = out.split_at_mut(space.book.nodes);
     borders.copy_from_slice(&values[..borders.len()]);
-    for (row, moves) in codes.chunks_exact_mut(2 * space.book.intervals).zip(&moves) {
+    for (row, moves) in codes.chunks_exact_mut(2 * space.book.intervals).zip(&space.moves) {
         for (code, m) in row.chunks_exact_mut(2).zip(moves) {
             code.copy_from_slice(&m.to_le_bytes());
         }
@@ -245,9 +242,8 @@ pub fn check_assignment(s: &[u8], values: &[u8], out: &mut [u8], space: &mut Spa
 }
 
 // Rules 2 to 5 of one train: the least that is broken, or 7.
-fn broken_by_train(space: &Space, i: usize, moves: &[u16; 32]) -> usize {
-    let (train, t) = (&space.book.train[i], space.book.intervals);
-    let (list, d) = (&space.lists[train.list], train.departure);
+fn broken_by_train(book: &Book, train: &Train, list: &List, moves: &[u16; INTERVALS]) -> usize {
+    let (t, d) = (book.intervals, train.departure);
     let given = list.place(train.l, train.place);
     let at_departure = moves[d] as usize;
     if (0..t).any(|k| (moves[k] == ABSENT) != (k < d)) || at_departure >= list.count || list.start[at_departure] != given {
@@ -267,16 +263,16 @@ fn broken_by_train(space: &Space, i: usize, moves: &[u16; 32]) -> usize {
 // Checks a plan and writes it as an assignment; answers the assignment's length.
 pub fn check_plan(s: &[u8], plan: &[u8], out: &mut [u8], space: &mut Space) -> Verdict<usize> {
     let sizes = prepare(s, space).map_err(|n| (n, 0))?;
-    let (book, variables) = (&space.book, sizes.totals.variables);
+    let variables = sizes.totals.variables;
     let Some(out) = out.get_mut(..variables) else { return Err((12, 0)) };
     if plan.len() != plan_length(space) {
         return Err((15, 0));
     }
+    let Space { book, lists, moves, claims, .. } = space;
     let (borders, codes) = plan.split_at(book.nodes);
     let mut wrong = borders.iter().any(|&b| b > 1);
-    let mut moves = [[ABSENT; 32]; TRAINS];
     for (i, row) in codes.chunks_exact(2 * book.intervals).enumerate() {
-        let count = space.lists[book.train[i].list].count;
+        let count = lists[book.train[i].list].count;
         for (m, code) in moves[i].iter_mut().zip(row.chunks_exact(2)) {
             *m = u16::from_le_bytes([code[0], code[1]]);
             wrong |= *m as usize >= count && *m < ABSENT;
@@ -288,37 +284,36 @@ pub fn check_plan(s: &[u8], plan: &[u8], out: &mut [u8], space: &mut Space) -> V
     if book.kinds.iter().zip(borders).any(|(&kind, &border)| kind != 1 && border != kind / 2) {
         return Err((16, 1));
     }
-    let broken = (0..book.trains).map(|i| broken_by_train(space, i, &moves[i])).min().unwrap();
+    let by_train = book.train[..book.trains].iter().zip(&*moves);
+    let broken = by_train.map(|(train, moves)| broken_by_train(book, train, &lists[train.list], moves)).min().unwrap();
     if broken < 7 {
         return Err((16, broken));
     }
     // by segment: the segments of its section
     let mut section: [u64; SEGMENTS] = std::array::from_fn(|s| 1 << s);
-    let (found, n) = groups(space, borders);
+    let (found, n) = groups(book, borders);
     for &group in &found[..n] {
         let all = bits(group).fold(0, |all, s| all | section[s]);
         bits(all).for_each(|s| section[s] = all);
     }
-    let mut claims: Table<u64> = [[0; 32]; TRAINS];
-    let mut taken = [0; 32];
+    let mut taken = [0; INTERVALS];
     for i in 0..book.trains {
-        let list = &space.lists[book.train[i].list];
+        let list = &lists[book.train[i].list];
         for k in 0..book.intervals {
             let r = moves[i][k] as usize;
-            if r < list.count {
-                let touched = bits(list.masks[r]).fold(0, |all, s| all | section[s]);
-                if taken[k] & touched != 0 {
-                    return Err((16, 6));
-                }
-                taken[k] |= touched;
-                claims[i][k] = touched;
+            let run = if r < list.count { list.masks[r] } else { 0 };
+            let touched = bits(run).fold(0, |all, s| all | section[s]);
+            if taken[k] & touched != 0 {
+                return Err((16, 6));
             }
+            taken[k] |= touched;
+            claims[i][k] = touched;
         }
     }
     let (first, mut rest) = out.split_at_mut(book.nodes);
     first.copy_from_slice(borders);
     for i in 0..book.trains {
-        let count = space.lists[book.train[i].list].count;
+        let count = lists[book.train[i].list].count;
         for k in 0..book.intervals {
             let (runs, behind) = rest.split_at_mut(count + 1);
             let (claimed, behind) = behind.split_at_mut(book.segments);

@@ -7,7 +7,7 @@
  *
  * Every answer begins with `number` and `detail`: 0 and 0, or the refusal's. Every function first reads the book, and refuses it by
  * 1 to 11; further refusals are named at each. Beside a refusal every other field is 0 and every output (`out`) is as it was. No
- * function keeps or allocates anything.
+ * function keeps or allocates anything. Times in a book have two bytes; gentupag_upgrade_book alone reads old books, whose times have one.
  */
 #ifndef GENTUPAG_H
 #define GENTUPAG_H
@@ -113,6 +113,10 @@ gentupag_run gentupag_show_run(const uint8_t *book, size_t book_length, size_t t
 
 /* What a variable stands for, counted from 1 as in the formula's text. */
 gentupag_variable gentupag_explain_variable(const uint8_t *book, size_t book_length, size_t variable);
+
+/* An old book, with times of one byte and at most 32 intervals, rewritten as a book. Refuses what is no old book by 1 to 11, and by 12,
+ * too short an output: the new book has one byte more for its Head, one a train and two a call. */
+gentupag_output gentupag_upgrade_book(const uint8_t *old, size_t old_length, uint8_t *GENTUPAG_APART out, size_t out_length);
 
 #undef GENTUPAG_APART
 #ifdef __cplusplus

@@ -7,8 +7,8 @@ from .books import border_bytes
 from .inputs import split_plan
 from .reference import ABSENT, GONE
 
-# the most plans tried for a book, and the most rows of moves for a train
-MOST_PLANS, MOST_ROWS = 3000, 300
+# the most plans tried for a book, the most rows of moves for a train, and the most intervals of a book whose rows are listed
+MOST_PLANS, MOST_ROWS, MOST_INTERVALS = 3000, 300, 32
 
 
 def product_of_choices(book):
@@ -70,7 +70,7 @@ def plans_to_try(book):
     """How the plans were listed, and the list; None where they are too many."""
     if product_of_choices(book) <= MOST_PLANS:
         return "every choice", all_plans(book)
-    plans = plans_by_rows(book)
+    plans = plans_by_rows(book) if book.T <= MOST_INTERVALS else None
     return None if plans is None else ("rows", plans)
 
 

@@ -1,17 +1,18 @@
 """What the reference, document 01 once more in plain Python, says of a book and a second input: the lines that the commands of the
-built program print, and the result in the third file, where one is named and the input is accepted.
+built program print, and the result in the last file, where one is named and the input is accepted.
 
   print_formula [BOOK]                      the formula in DIMACS CNF; without a name the book comes from standard input
   check_assignment BOOK ASSIGNMENT [PLAN]
   check_plan BOOK PLAN [ASSIGNMENT]
   check_refutation BOOK REFUTATION
+  upgrade_book OLD NEW                      an old book, of times of one byte, rewritten
 
 Exit status: 0 answered, accepted or refused; 2 wrong usage, or a file can't be read.
 """
 import sys
 
 from . import reference
-from .program import COMMANDS
+from .program import CHECKS, COMMANDS
 from .repository import read_bytes, write_bytes
 
 
@@ -22,17 +23,18 @@ def arguments(parser):
 
 
 def check(command, names):
-    """The verdict's line; an accepted input's result goes to the third file."""
-    answer = reference.check_two(command, *map(read_bytes, names[:2]))
-    if len(names) == 3 and answer[0] == "accepted":
-        write_bytes(names[2], answer[1])
+    """The verdict's line; an accepted input's result goes to the file behind the inputs."""
+    count = COMMANDS[command].inputs
+    given = map(read_bytes, names[:count])
+    answer = reference.check_two(command, *given) if command in CHECKS else reference.rewrite(*given)
+    if len(names) > count and answer[0] == "accepted":
+        write_bytes(names[count], answer[1])
     return reference.verdict_line(answer)
 
 
 def least_and_most(command):
     """How many names there may be: as the program takes, but for the book of print_formula, which may be named here."""
-    _, least, most = COMMANDS[command]
-    return least, max(most, 1)
+    return COMMANDS[command].least, max(COMMANDS[command].most, 1)
 
 
 def run(options):

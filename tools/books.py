@@ -1,7 +1,7 @@
 """Books as bytes: a book's fields before they are frames, its frames, and the frames of bytes."""
 import struct
 
-from .reference import CALL, END, HEAD, JOIN, NODE, SEGMENT, TRAIN, UNBREAKABLE, two_bytes
+from .reference import CALL, END, FIELDS, HEAD, JOIN, NEW, NODE, SEGMENT, TIME, TRAIN, UNBREAKABLE, fields_bytes, two_bytes, widths
 
 # Each border kind: the words that are shown for it, and the bytes that a plan may have at such a node. Besides the reference, which says it
 # from document 01 by itself, the kinds stand nowhere else; random books have all of them, and books that are known by name what they need.
@@ -41,19 +41,19 @@ class Spec:
         self.unbreakable = []
 
 
-def train_payload(length, speed, departure, place, n=None):
+def train_payload(length, speed, departure, place, n=None, form=NEW):
     n = len(place) if n is None else n
-    return struct.pack("<HHBB", length, speed, departure, n) + bytes(place)
+    return fields_bytes(TRAIN, (length, speed, departure, n), form) + bytes(place)
 
 
-def frames_of(spec):
-    """The book's frames as [kind, payload] pairs, in order."""
-    frames = [[HEAD, struct.pack("<HHB", spec.rs, spec.rt, spec.T)]]
+def frames_of(spec, form=NEW):
+    """The book's frames as [kind, payload] pairs, in order; in the format in force, or in the old one."""
+    frames = [[HEAD, fields_bytes(HEAD, (spec.rs, spec.rt, spec.T), form)]]
     frames += [[NODE, bytes([kind])] for kind in spec.nodes]
     frames += [[SEGMENT, bytes(s)] for s in spec.segments]
     frames += [[JOIN, bytes(j)] for j in spec.joins]
-    frames += [[TRAIN, train_payload(*t)] for t in spec.trains]
-    frames += [[CALL, bytes(c)] for c in spec.calls]
+    frames += [[TRAIN, train_payload(*t, form=form)] for t in spec.trains]
+    frames += [[CALL, fields_bytes(CALL, c, form)] for c in spec.calls]
     frames += [[UNBREAKABLE, bytes([t])] for t in spec.unbreakable]
     return frames + [[END, b""]]
 
@@ -63,8 +63,17 @@ def encode(frames):
                     for kind, payload in frames)
 
 
-def spec_bytes(spec):
-    return encode(frames_of(spec))
+def spec_bytes(spec, form=NEW):
+    return encode(frames_of(spec, form))
+
+
+def time_bytes(kind, form=NEW):
+    """The places of a payload's bytes that are a time's."""
+    places, at = [], 0
+    for width, field in zip(widths(kind, form), FIELDS[kind]):
+        places += range(at, at + width) if field == TIME else ()
+        at += width
+    return places
 
 
 def split(data):

@@ -1,5 +1,5 @@
 """Holds the definitions of crates/spec, evaluated by the checker, against the reference: BOOKS random and damaged books from SEED, with
-assignments, plans and refutations for those that pass. Both sides are asked the same questions, and it prints how many answers of each
+assignments, plans and refutations for those that pass, and as many old books. Both sides are asked the same questions, and it prints how many answers of each
 kind agreed, or which did not. A question's answer is a row of numbers: 0 and the result, or the refusal's number and detail. The questions
 become a table of a small crate beside a copy of crates/spec, and the checker (`rt dev`) decides it; a table that it refuses is halved until
 the question is found.
@@ -17,7 +17,7 @@ from collections import Counter
 
 from . import library, reference
 from .crates import Listed, below
-from .random_books import damaged_book, random_book
+from .random_books import book_to_rewrite, damaged_book, random_book
 from .random_inputs import random_assignments, random_borders, random_plans, random_refutations
 from .repository import ROOT, read_text, write_text
 
@@ -65,6 +65,9 @@ encoding s p n = answered (checkPlan s p n) λ a. a
 refuting′ : Bytes → Bytes → ℕ → ℕ → ℕ → ℕ → List ℕ
 refuting′ s r w c v t = answered (checkRefutation s r (record { words = w; clauses = c; values = v; trail = t })) λ _. []
 
+rewriting : Bytes → ℕ → List ℕ
+rewriting s n = answered (upgradeBook s n) λ b. b
+
 measuring : Bytes → List ℕ
 measuring s = answered (measureBook s) λ z.
     z .intervals ∷ z .nodes ∷ z .freeNodes ∷ z .segments ∷ z .trains ∷ z .variableCount ∷ z .clauseCount ∷ z .wordCount ∷ z .planBytes ∷ []
@@ -98,7 +101,7 @@ failing : ℕ → List Case → List ℕ
 failing n [] = []
 failing n (c ∷ cs) = only (mathlib.Core.Bool.not (same (c .asked) (c .answer))) (n ∷ []) ++ failing (suc n) cs
 """
-HELPERS = "answered code rows lists grouped words textOf decoding encoding refuting′ measuring labelling showing running meant meaning′ failing"
+HELPERS = "answered code rows lists grouped words textOf decoding encoding refuting′ rewriting measuring labelling showing running meant meaning′ failing"
 # the constructors that the tables name, by the module that has them
 MAKERS = {"Lists": ["accepted", "refused"], "Library": ["noTrain", "noRun", "shown", "border", "run", "gone", "claim", "noVariable"]}
 
@@ -130,9 +133,9 @@ def coded(literal):
     return 2 * literal if literal >= 0 else 2 * (-literal - 1) + 1
 
 
-def listed(data):
+def listed(data, form=reference.NEW):
     try:
-        book = reference.read_book(data)
+        book = reference.read_book(data, form)
     except reference.Refused as r:
         return [r.number, r.detail]
     out = [0, len(book.nodes), len(book.segments), len(book.joins)]
@@ -209,13 +212,27 @@ def input_questions(rng, data, book, each):
         yield "refutation", asked, answer_of(reference.entry_check_refutation(data, s, *lent))
 
 
-def explodes(data):
+def old_questions(rng, old):
+    """An old book, with room for a new one of this length, or around it where it is one."""
+    answer = reference.entry_upgrade_book(old, 2 * len(old))
+    n = len(answer[1]) - rng.choice((0, 0, 1)) if answer[0] == "accepted" else len(old)
+    yield "old book", "rewriting %s %d" % (row(old), n), answer_of(reference.entry_upgrade_book(old, n))
+
+
+def explodes(data, form=reference.NEW):
     """A book whose run list passes 256 by far: the definition lists all of it, and the checker's steps run out."""
-    return listed(data)[0] == 11 and data.count(bytes([3, 0, 3, 0])) > 6
+    return listed(data, form)[0] == 11 and data.count(bytes([3, 0, 3, 0])) > 6
 
 
 def questions(rng, books):
     for n in range(books):
+        if n % 8 == 3:
+            # many intervals: the formula has too many words for a table
+            data = random_book(rng, "long")
+            yield "book", "lists %s" % row(data), listed(data)
+        old = book_to_rewrite(rng)
+        if len(old) <= 900 and not explodes(old, reference.OLD):
+            yield from old_questions(rng, old)
         data = random_book(rng, "tiny") if n % 4 == 0 else damaged_book(rng)
         if len(data) > 900 or explodes(data):
             continue
@@ -272,7 +289,7 @@ def run_table(scratch, names, table):
         return first[0] + second[0], first[1] + second[1]
     if "error: `agree`: expected type" in text:
         return table, []
-    if "stopped at the step limit" in text:
+    if "stopped at the step limit" in text or "ran out of stack" in text:
         return [], table
     sys.exit("the checker refused the table's form:\n" + text)
 

@@ -17,6 +17,7 @@ from .program import CABINET
 from .repository import EXAMPLES, PROGRAMS, ROOT, TOOLS, read_bytes, write_bytes
 from .show import plan_lines
 from .solver import SOLVERS
+from .text import old_words
 
 BOOKS = ("following.book", "uncut.book")
 DONE = re.compile(r"rt: (\w+) proved \((.*)\)$")
@@ -75,9 +76,10 @@ def cabinet(programs, *words, stdin=b""):
 
 def print_formula(programs, book, formula):
     """The formula into a file; says its size."""
-    text = cabinet(programs, "print_formula", stdin=read_bytes(book))
+    data = read_bytes(book)
+    text = cabinet(programs, "print_formula", stdin=data)
     if not text.startswith(b"p cnf "):
-        raise Failed(f"print_formula refuses the book: {text.decode().strip()}")
+        raise Failed(f"print_formula refuses the book: {text.decode().strip()}{old_words(data)}")
     write_bytes(formula, text)
     variables, clauses = map(int, text.split(b"\n")[0].split()[2:])
     return f"{variables:,} variables, {clauses:,} clauses", None

@@ -4,8 +4,9 @@ SEED makes that book of the seed alone.
 Of each book: the formula's text is the reference's; the solver script decides it, and one of Debian's solvers that are installed, in turns;
 what they answer is accepted, and turned into a plan and back; spoiled assignments, plans and refutations get the reference's line and
 result; no book has both a plan and a refutation accepted. Where the plans are few, all are tried by the reference's rules: there is one
-that keeps them exactly where there is an accepted assignment, and otherwise there is an accepted refutation. Prints a summary and every
-difference; the files of those stay in a folder that it names.
+that keeps them exactly where there is an accepted assignment, and otherwise there is an accepted refutation. With each book goes an old one,
+good or damaged, which is rewritten as the reference does it; what comes of it has the formula that the old book had. Prints a summary and
+every difference; the files of those stay in a folder that it names.
 
 Exit status: 0 no difference, 1 a difference, 2 wrong usage, or the program is missing.
 """
@@ -28,6 +29,7 @@ from .features import features, on, parallel_tracks
 from .inputs import TooLong, plan_bytes, read_steps, step_frame
 from .passing_books import make_book
 from .program import CABINET, CHECKS, built, has_result
+from .random_books import book_to_rewrite
 from .random_inputs import damaged_refutation, honest_steps, nearly_assignment, nearly_plan, walked_plan
 from .repository import PROGRAMS, TOOLS, Stop
 from .solve import Failure
@@ -61,6 +63,7 @@ def all_features(book):
         "two trains": trains == 2,
         "three trains": trains == 3,
         "four trains or more": trains > 3,
+        "more than 32 intervals": book.T > ref.OLD.greatest_T,
         "trains that must pass each other": any(swapped(book, x, y) for x, y in itertools.combinations(range(trains), 2)),
     }
     return [name for name, has in there.items() if has]
@@ -173,6 +176,29 @@ class Trial:
         written = self.must_accept("check_plan", plan, what)
         if written is not None and self.must_accept("check_assignment", written, what) != plan:
             self.differ(f"{what}: the plan's assignment decodes to another plan", plan=plan, assignment=written)
+
+    # ---- an old book
+
+    def rewrite(self):
+        """An old book, or what is none; the line, the new book, and its formula beside the old one's."""
+        old = book_to_rewrite(self.rng)
+        self.write("old", old)
+        self.remove("result")
+        line, result = self.run("upgrade_book", "old", "result"), self.read("result")
+        found = ref.rewrite(old)
+        expected = ref.verdict_line(found), found[1] if found[0] == "accepted" else None
+        if (line, result) != expected:
+            told = f"upgrade_book: printed {line!r} and result {shown(result)}, the reference has {expected[0]!r} and {shown(expected[1])}"
+            self.differ(told, old=old, result=result or b"", expected=expected[1] or b"")
+        self.count["upgrade_book"][line_name(line)] += 1
+        if result is not None and found[0] == "accepted":
+            self.same_formula(old, result)
+
+    def same_formula(self, old, new):
+        """Clause for clause, where the program prints it."""
+        text = self.run("print_formula", stdin=new)
+        if text.startswith(b"p cnf ") and text != ref.dimacs(ref.read_book(old, ref.OLD)):
+            self.differ("upgrade_book: the new book has another formula than the old one had", old=old, new=new)
 
     # ---- the formula and the solvers
 
@@ -300,6 +326,10 @@ class Trial:
             self.count["features with a plan"][name] += some is True
 
     def all(self):
+        self.all_of_book()
+        self.rewrite()
+
+    def all_of_book(self):
         if not self.read_book():
             for program in CHECKS:
                 self.check(program, self.rng.randbytes(self.rng.randrange(40)))
@@ -371,7 +401,7 @@ def summary(session, seconds):
     count = session.count
     books, accepted = sum(count["books"].values()), count["books"].pop("accepted", 0)
     say(f"seed {session.seed}, {seconds:.0f} s: {books} books, {accepted} accepted; refused by {listed(count['books'])}")
-    for name in ("formula", "decided", "solvers", "refutations of solvers", "enumerated", *CHECKS):
+    for name in ("formula", "decided", "solvers", "refutations of solvers", "enumerated", *CHECKS, "upgrade_book"):
         say(f"{name}: {listed(count[name])}")
     missing = [name for name in SOLVERS if name not in session.solvers]
     say(f"real solvers: {', '.join(session.solvers) or 'none'}; not used: {', '.join(missing) or 'none'}")

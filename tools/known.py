@@ -1,14 +1,19 @@
-"""Books that are known by name: document 01's, rows, stars and rings, books on each limit, and books as long as a slice; with the
-inputs of some that were worked out by hand."""
+"""Books that are known by name: document 01's, rows, stars and rings, books on each limit, books with many intervals, and books as long as a
+slice; with the inputs of some that were worked out by hand."""
 from . import reference as ref
 from .books import Spec, spec_bytes
 from .inputs import plan_bytes, step_frame
+from .reference import NEW, OLD
 
 # -------------------------------------------------------- document 01's books
 
-BOOK_L = bytes.fromhex(
+# Document 01's books L and M are old books; BOOK_L and book_m are the same with times of two bytes.
+OLD_L = bytes.fromhex(
     "050001006400 0a0001 0100020000 0100020000 03000300000100"
     "07000500500024 00000100 0400060000000001 00000800")
+BOOK_L = bytes.fromhex(
+    "060001006400 0a000100 0100020000 0100020000 03000300000100"
+    "08000500500024 0000000100 06000600000000000100 00000800")
 
 FORMULA_L = b"""p cnf 6 10
 -1 0
@@ -28,15 +33,25 @@ FORMULA_L = b"""p cnf 6 10
 ASSIGNMENT_L, PLAN_L = bytes.fromhex("000001000001"), bytes(4)
 
 
-def book_m(first, last):
+def spec_l():
+    spec = Spec(100, 10, 1)
+    spec.nodes, spec.segments = [0, 0], [(0, 1, 0)]
+    spec.trains, spec.calls = [(80, 36, 0, [0])], [(0, 0, 0, 1)]
+    return spec
+
+
+def spec_m(first, last, segment=1):
     """Text: "L with a third node of kind 0, the unjoined segment 1 (nodes 1, 2) in
     TTD 0 and the call on segment 1"."""
-    spec = Spec(100, 10, 1)
-    spec.nodes = [0, 0, 0]
-    spec.segments = [(0, 1, 0), (1, 2, 0)]
-    spec.trains = [(80, 36, 0, [0])]
-    spec.calls = [(0, 1, first, last)]
-    return spec_bytes(spec)
+    spec = spec_l()
+    spec.nodes.append(0)
+    spec.segments.append((1, 2, 0))
+    spec.calls = [(0, segment, first, last)]
+    return spec
+
+
+def book_m(first, last, form=NEW):
+    return spec_bytes(spec_m(first, last), form)
 
 
 # the empty step that document 01 gives for book M with its window open
@@ -191,19 +206,50 @@ def great_ring(intervals):
 # ------------------------------------------------- inputs as long as a slice
 
 
-def padded(call):
-    """Document 01's book M, its call on this segment, with as many Unbreakable frames as make 65,536 bytes; they change nothing else."""
-    spec = Spec(100, 10, 1)
-    spec.nodes, spec.segments = [0, 0, 0], [(0, 1, 0), (1, 2, 0)]
-    spec.trains, spec.calls = [(80, 36, 0, [0])], [(0, call, 0, 1)]
-    spec.unbreakable = [0] * ((ref.LENT_BYTES - len(spec_bytes(spec))) // 5)
-    data = spec_bytes(spec)
-    assert len(data) == ref.LENT_BYTES
-    return data
+def filled(spec, form):
+    """The book with as many Unbreakable frames as make 65,536 bytes in this format; they change nothing else."""
+    spec.unbreakable = [0] * ((ref.LENT_BYTES - len(spec_bytes(spec, form))) // 5)
+    assert len(spec_bytes(spec, form)) == ref.LENT_BYTES
+    return spec
 
 
-# Of that book with the call on segment 0: no borders, run 0, and the claims of both segments, which are one section.
-ASSIGNMENT_PADDED, PLAN_PADDED = bytes.fromhex("00000001000000000101"), bytes(5)
+def padded(call, form=NEW):
+    """Document 01's book M, its call on this segment, with three tracks more in a TTD of their own, so that Unbreakable frames can fill the
+    65,536 bytes that it has in the format in force; it is 4 bytes shorter as an old book."""
+    spec = spec_m(0, 1, call)
+    spec.segments += [(0, 1, 1)] * 3
+    return spec_bytes(filled(spec, NEW), form)
+
+
+# Of that book with the call on segment 0: no borders, run 0, and the claims of both segments of TTD 0, which are one section.
+ASSIGNMENT_PADDED, PLAN_PADDED = bytes.fromhex("000000" + "01" + 9 * "00" + "00" + "0101000000"), bytes(5)
+# Of that book with the call on segment 1: three clauses deny the borders, 56 are of one move, 9 deny the runs that start elsewhere, one denies
+# gone; of these 61 and 62 deny runs 2 and 3, and 70 asks for one of the two.
+REFUTATION_PADDED = step_frame([], [61, 62, 70])
+
+
+def outgrowing():
+    """An old book of 65,536 bytes, document 01's book M; rewritten it has 4 more."""
+    return spec_bytes(filled(spec_m(0, 1, 0), OLD), OLD)
+
+
+# ---------------------------------------------------------- many intervals
+
+
+def lone_spec(T, departure, first, last):
+    """A train on the one segment that there is: 2 runs, so that the formula of 256 intervals fits the slices."""
+    spec = spec_l()
+    spec.T = T
+    spec.trains, spec.calls = [(80, 36, departure, [0])], [(0, 0, first, last)]
+    return spec
+
+
+def late_m(T):
+    """Book M with so many intervals; the train departs in the last one, and its call is at the time behind that."""
+    spec = spec_m(T, T)
+    spec.T = T
+    spec.trains = [(80, 36, T - 1, [0])]
+    return spec_bytes(spec)
 
 
 def standing(nodes):

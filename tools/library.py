@@ -13,7 +13,7 @@ import tempfile
 from collections import Counter
 
 from . import reference
-from .random_books import damaged_book, random_book
+from .random_books import book_to_rewrite, damaged_book, random_book, random_size
 from .random_inputs import random_assignments, random_borders, random_plans, random_refutations
 from .repository import ROOT, Stop, write_text
 
@@ -40,6 +40,7 @@ FUNCTIONS = {
     "label_sections": ("output", "BBb"),
     "show_run": ("run", "Buu"),
     "explain_variable": ("variable", "Bu"),
+    "upgrade_book": ("output", "Bb"),
 }
 
 # what `kind` says of a variable
@@ -47,6 +48,8 @@ NO_VARIABLE, IS_BORDER, IS_RUN, IS_GONE, IS_CLAIM = range(5)
 ELEMENTS = {"B": ctypes.c_uint8, "b": ctypes.c_uint8, "w": ctypes.c_int32, "n": WORD}
 # what an output holds before a call
 OLD = 7
+# the most clauses of a book that assignments, plans and refutations are made for
+MOST_CLAUSES = 8000
 
 
 def struct(name, fields):
@@ -263,13 +266,25 @@ def input_questions(rng, data, book):
         yield "check_refutation", (data, refutation, *lent), said("verdict", verdict, lambda: ()), [[0] * n for n in lent]
 
 
+def rewriting_questions(rng):
+    """An old book, or what is none, with room for the new one, a byte less, more, and none."""
+    old = book_to_rewrite(rng)
+    verdict = reference.entry_upgrade_book(old, 2 ** 32)
+    length = len(verdict[1]) if verdict[0] == "accepted" else len(old)
+    for room in (length, length - 1, length + rng.randrange(1, 40), 0):
+        verdict = reference.entry_upgrade_book(old, max(room, 0))
+        written = verdict[1] if verdict[0] == "accepted" else b""
+        yield "upgrade_book", (old, max(room, 0)), said("output", verdict, lambda new: (len(new),)), [after(max(room, 0), written)]
+
+
 def questions(rng, count):
     for _ in range(count):
-        data = rng.choice((random_book, random_book, damaged_book))(rng)
+        data = damaged_book(rng) if rng.random() < 1 / 3 else random_book(rng, random_size(rng))
         yield from book_questions(rng, data)
         book, refusal = book_or_refusal(data)
-        if not refusal:
+        if not refusal and len(reference.formula(book)[1]) <= MOST_CLAUSES:
             yield from input_questions(rng, data, book)
+        yield from rewriting_questions(rng)
 
 
 def arguments(parser):

@@ -169,6 +169,8 @@ def make_book(rng):
     style = rng.random()
     if style < 0.08:
         return random_books.damaged_book(rng)
+    if style < 0.11:
+        return random_books.random_book(rng, "long")
     if style < 0.35:
         return random_books.random_book(rng, "tiny")
     if style < 0.45:

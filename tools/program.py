@@ -7,22 +7,24 @@ from .repository import Stop
 # the program with all commands
 CABINET = "cabinet"
 
-# A command: its letter in the records of stored cases, and the least and the most names of files that it takes.
-Command = namedtuple("Command", "letter least most")
+# A command: its letter in the records of stored cases, how many of its names are inputs, and the least and the most names that it takes; the
+# name behind the inputs is the result's.
+Command = namedtuple("Command", "letter inputs least most")
 COMMANDS = {
-    "print_formula": Command("f", 0, 0),
-    "check_assignment": Command("a", 2, 3),
-    "check_plan": Command("p", 2, 3),
-    "check_refutation": Command("n", 2, 2),
+    "print_formula": Command("f", 0, 0, 0),
+    "check_assignment": Command("a", 2, 2, 3),
+    "check_plan": Command("p", 2, 2, 3),
+    "check_refutation": Command("n", 2, 2, 2),
+    "upgrade_book": Command("u", 1, 2, 2),
 }
 # those that take a book and a second input
-CHECKS = tuple(name for name, command in COMMANDS.items() if command.least == 2)
+CHECKS = tuple(name for name, command in COMMANDS.items() if command.inputs == 2)
 BY_LETTER = {command.letter: name for name, command in COMMANDS.items()}
 
 
 def has_result(name):
     """Whether a command takes the name of a file for its result."""
-    return COMMANDS[name].most == 3
+    return COMMANDS[name].most > COMMANDS[name].inputs
 
 
 def built(folder, name):

@@ -1,11 +1,14 @@
-"""Random and damaged books, from a random.Random and nothing else, so that one seed always gives the same books."""
+"""Random and damaged books, in the format in force and as old books, from a random.Random and nothing else, so that one seed always gives the
+same books."""
+import functools
 import itertools
 import struct
 
 from . import reference as ref
-from .books import BORDER_KINDS, MAY_BE_SET, NEVER, Spec, bordered_kinds, encode, frames_of, put, spec_bytes, train_payload
+from .books import (BORDER_KINDS, MAY_BE_SET, NEVER, Spec, bordered_kinds, encode, frames_of, put, spec_bytes, split, time_bytes,
+                    train_payload)
 from .known import LIMITS
-from .reference import CALL, END, HEAD, JOIN, NODE, SEGMENT, TRAIN, UNBREAKABLE
+from .reference import CALL, END, HEAD, JOIN, NEW, NODE, OLD, SEGMENT, TRAIN, UNBREAKABLE
 
 # -------------------------------------------------------------- topologies
 
@@ -165,21 +168,39 @@ def random_calls(rng, spec, book):
     rng.shuffle(spec.calls)
 
 
-# the most segments, intervals and trains tried, and the range of clauses
-SIZES = {"tiny": (4, 3, 2, 1, 300), "small": (8, 6, 4, 200, 3000)}
+# the most segments, intervals and trains tried, and the range of clauses; a long book has more intervals than the others, and little else
+SIZES = {"tiny": (4, 3, 2, 1, 300), "small": (8, 6, 4, 200, 3000), "long": (2, None, 1, 1, 3000)}
 
 
-def random_spec(rng, size):
+def random_spec(rng, size, form=NEW):
     most_segments, most_intervals, most_trains, _, _ = SIZES[size]
     rs, rt = rng.choice(((100, 10), (100, 10), (1, 1), (250, 30), (7, 13),
                          (500, 15), (8191, 3000)))
-    spec = Spec(rs, rt, rng.randint(1, most_intervals))
-    random_track(rng, spec, rng.randint(1, most_segments))
+    spec = Spec(rs, rt, random_intervals(rng, form) if size == "long" else rng.randint(1, most_intervals))
+    random_track(rng, spec, rng.randint(1, most_segments), (row,) if size == "long" else TOPOLOGIES)
     book = track_of(spec)
     for _ in range(rng.randint(1, most_trains)):
         random_train(rng, spec, book)
     random_calls(rng, spec, book)
+    if size == "long":
+        set_late(rng, spec)
     return spec
+
+
+def random_intervals(rng, form):
+    """More intervals than other books have; in the format in force more than old books can have, at times as many as there may be."""
+    least, most = 7 if form == OLD else OLD.greatest_T + 1, form.greatest_T
+    return rng.choice((least, most - 1, most, most, rng.randint(least, most), rng.randint(least, min(2 * least, most))))
+
+
+def set_late(rng, spec):
+    """A departure in one of the last intervals, mostly, which keeps the formula short; and windows about the last times."""
+    if rng.random() < 0.7:
+        spec.trains = [(length, speed, max(spec.T - rng.choice((1, 1, 2, 3)), 0), place) for length, speed, _, place in spec.trains]
+    for at, (tr, segment, first, last) in enumerate(spec.calls):
+        if rng.random() < 0.6:
+            first, last = sorted(rng.choices((spec.T, spec.T, spec.T - 1, spec.T - 2, first), k=2))
+        spec.calls[at] = (tr, segment, first, last)
 
 
 def track_of(spec):
@@ -190,13 +211,13 @@ def track_of(spec):
     return book
 
 
-def random_book(rng, size="tiny"):
+def random_book(rng, size="tiny", form=NEW):
     """A small book that looks well-formed; some of them are refused."""
     least, most = SIZES[size][3:]
     while True:
-        data = spec_bytes(random_spec(rng, size))
+        data = spec_bytes(random_spec(rng, size, form), form)
         try:
-            book = ref.read_book(data)
+            book = ref.read_book(data, form)
         except ref.Refused:
             if rng.random() < 0.2:
                 return data
@@ -205,6 +226,11 @@ def random_book(rng, size="tiny"):
                                                 most + 1))
         if least <= count <= most:
             return data
+
+
+def random_size(rng):
+    """Mostly tiny, few with many intervals."""
+    return rng.choice(("tiny",) * 12 + ("small",) * 2 + ("long",))
 
 
 # ------------------------------------------------------------ damaged books
@@ -222,21 +248,27 @@ def rich_spec(rng):
     return spec
 
 
-def wrong_fields(T):
-    """(kind, which of its frames, payload) of fields wrong by one."""
+def wrong_fields(T, form=NEW):
+    """(kind, which of its frames, payload) of fields wrong by one; of a time of two bytes either may be wrong."""
     def train(length=150, speed=72, d=0, place=(0, 2), n=None):
-        return (TRAIN, 0, train_payload(length, speed, d, place, n))
+        return (TRAIN, 0, train_payload(length, speed, d, place, n, form))
 
-    heads = ((0, 10, 1), (100, 0, 1), (100, 10, 0), (100, 10, 33),
-             (100, 10, 255), (65535, 65535, 32))
-    wrong = [(HEAD, 0, struct.pack("<HHB", *head)) for head in heads]
+    def held(numbers):
+        """Those that a time's field holds."""
+        return [number for number in numbers if number < 256 ** form.time_width]
+
+    most = form.greatest_T
+    heads = [(0, 10, 1), (100, 0, 1), (65535, 65535, most)]
+    heads += [(100, 10, t) for t in held((0, most + 1, 255 if form == OLD else 511, 512, 256 + T, 256 * T, 65535)) if not 0 < t <= most]
+    wrong = [(HEAD, 0, ref.fields_bytes(HEAD, head, form)) for head in heads]
     wrong += [(NODE, 2, [kind]) for kind in (max(BORDER_KINDS) + 1, 255)]
     wrong += [(SEGMENT, 1, p) for p in (
         (1, 1, 3), (5, 2, 3), (1, 5, 3), (255, 1, 3), (1, 2, 64), (1, 2, 255))]
     wrong += [(JOIN, 1, p) for p in (
         (5, 2, 1), (2, 2, 2), (2, 4, 1), (2, 2, 4), (2, 255, 255), (2, 0, 1),
         (2, 1, 3), (1, 0, 1), (1, 1, 0), (0, 2, 1))]
-    wrong += [train(length=0), train(d=T), train(d=T - 1), train(d=255),
+    wrong += [train(d=d) for d in held((T, T - 1, 255, 256, 256 + T - 1, 256 * (T - 1), 65535))]
+    wrong += [train(length=0),
               train(place=(0, 8)), train(place=(9, 2)), train(place=(0, 255)),
               train(length=801), train(length=65535), train(speed=35),
               train(speed=0), train(speed=324), train(speed=323),
@@ -246,17 +278,28 @@ def wrong_fields(T):
               train(place=(2, 0)), train(place=(3, 1)), train(place=(0, 4)),
               train(place=(4, 6)), train(n=1), train(n=3), train(n=0),
               train(n=255), train(length=0, speed=0, place=(8,))]
-    wrong += [(CALL, 1, p) for p in (
-        (2, 3, 1, T), (255, 3, 1, T), (1, 4, 1, T), (1, 255, 1, T),
-        (1, 3, 2, 1), (1, 3, 0, T + 1), (1, 3, T, T), (1, 3, T + 1, T + 1),
-        (0, 3, 0, T))]
+    calls = [(2, 3, 1, T), (255, 3, 1, T), (1, 4, 1, T), (1, 255, 1, T),
+             (1, 3, 2, 1), (1, 3, 0, T + 1), (1, 3, T, T), (1, 3, T + 1, T + 1),
+             (0, 3, 0, T)]
+    calls += [(1, 3, first, T) for first in held((256, 256 + T, 65535))]
+    calls += [(1, 3, 1, last) for last in held((256, 256 + T, 256 * T, 65535))]
+    calls += [(1, 3, 256 + 1, last) for last in held((256 + T,))]
+    wrong += [(CALL, 1, ref.fields_bytes(CALL, call, form)) for call in calls]
     wrong += [(UNBREAKABLE, 1, [t]) for t in (4, 64, 255, 0)]
     return wrong
 
 
-def damage_field(rng, frames):
-    T = min(max(frames[0][1][4], 1), 32)
-    put(frames, *rng.choice(wrong_fields(T)))
+def damage_field(rng, frames, form):
+    T = ref.fields_of(HEAD, frames[0][1], form)[2]
+    put(frames, *rng.choice(wrong_fields(min(max(T, 1), form.greatest_T), form)))
+
+
+def damage_time(rng, frames, form):
+    """Any byte of a time gets any value, or one that is off by one."""
+    frame = rng.choice([f for f in frames if f[0] in (HEAD, TRAIN, CALL)])
+    payload, at = bytearray(frame[1]), rng.choice(time_bytes(frame[0], form))
+    payload[at] = rng.choice((payload[at] + 1, payload[at] - 1, 1, rng.randrange(256))) % 256
+    frame[1] = bytes(payload)
 
 
 def damage_join_copy(rng, frames):
@@ -326,9 +369,12 @@ def damage_missing(rng, frames):
         frames[:] = [f for f in frames if f[0] != CALL or f[1][:1] != bytes([tr])]
 
 
-FRAME_DAMAGES = (damage_field,) * 5 + (
-    damage_join_copy, damage_unbreakable, damage_unjoined, damage_kind,
-    damage_order, damage_length, damage_missing)
+def frame_damages(form):
+    """The ways to damage a book's frames; fields most often."""
+    field, time = (functools.partial(damage, form=form) for damage in (damage_field, damage_time))
+    return (field,) * 5 + (
+        time, damage_join_copy, damage_unbreakable, damage_unjoined, damage_kind,
+        damage_order, damage_length, damage_missing)
 
 
 def damaged_bytes(rng, data):
@@ -353,19 +399,19 @@ def damaged_bytes(rng, data):
     return data[:at] + bytes([new]) + data[at + 1:]
 
 
-def damaged_book(rng):
+def damaged_book(rng, form=NEW):
     """A book with one or two things wrong; a few are only at a limit."""
     style = rng.random()
     if style < 0.01:
         return rng.choice((b"", b"\0", bytes(4), rng.randbytes(40)))
     if style < 0.08:
         spec = rng.choice(LIMITS)(rng.choice((0, 1, 1)))
-        data = spec_bytes(spec)
+        data = spec_bytes(spec, form)
         return data if rng.random() < 0.9 else damaged_bytes(rng, data)
-    frames = frames_of(rich_spec(rng))
+    frames = frames_of(rich_spec(rng), form)
     for _ in range(rng.choice((0, 1, 1, 1, 1, 2))):
         try:
-            rng.choice(FRAME_DAMAGES)(rng, frames)
+            rng.choice(frame_damages(form))(rng, frames)
         except (IndexError, ValueError):
             pass                # the frame to damage is gone already
     data = encode(frames)
@@ -381,3 +427,49 @@ def refused_books(rng, each):
         if found[0] != "accepted" and left[found[1]]:
             left[found[1]] -= 1
             yield found[1], data
+
+
+# --------------------------------------------------------- for the rewriter
+
+
+def repeated(rng, data):
+    """The book with its Unbreakable frames repeated, in any order."""
+    frames, rest = split(data)
+    last = [frame for frame in frames if frame[0] == UNBREAKABLE]
+    more = rng.choices(last, k=rng.randint(1, 5)) if last else []
+    end = [at for at, frame in enumerate(frames) if frame[0] == END]
+    for frame in more if end else []:
+        frames.insert(end[0], frame)
+    return encode(frames) + rest
+
+
+def random_old_book(rng):
+    """An old book that looks well-formed; some of them are refused."""
+    data = random_book(rng, random_size(rng), OLD) if rng.random() < 0.7 else spec_bytes(rich_spec(rng), OLD)
+    return repeated(rng, data) if rng.random() < 0.4 else data
+
+
+def other_format(rng):
+    """No old book: one of the format in force, or an old one whose T is too great, or that has a frame of the format in force."""
+    style = rng.randrange(4)
+    if style == 0:
+        return random_book(rng, random_size(rng))
+    if style == 1:
+        return damaged_book(rng)
+    if style == 2:
+        frames = frames_of(rich_spec(rng), OLD)
+        frames[0][1] = ref.fields_bytes(HEAD, (100, 10, OLD.greatest_T + 1), OLD)
+        return encode(frames)
+    spec = rich_spec(rng)
+    frames, new = frames_of(spec, OLD), frames_of(spec)
+    at = rng.choice([at for at, frame in enumerate(frames) if frame[0] in (HEAD, TRAIN, CALL)])
+    frames[at] = new[at]
+    return encode(frames)
+
+
+def book_to_rewrite(rng):
+    """What the rewriter may be given: good old books, damaged ones, and what is no old book."""
+    style = rng.random()
+    if style < 0.45:
+        return random_old_book(rng)
+    return damaged_book(rng, OLD) if style < 0.9 else other_format(rng)

@@ -1,7 +1,8 @@
 #!/usr/bin/env python3
-"""A plain reference of document 01: book, plan, formula, verdict.
+"""A plain reference of document 01: book, plan, formula, verdict; with
+document 02's request P1: times of two bytes, and old books rewritten.
 
-Every function states sentences of document 01 as simply as it can.  Nothing
+Every function states sentences of the documents as simply as it can.  Nothing
 here is fast on purpose; the only care taken is that no input can make a
 listing explode.
 """
@@ -15,9 +16,18 @@ GONE = 65535
 # "Head ... Node ... Segment ... Join ... Train ... Call ... Unbreakable ... End"
 HEAD, NODE, SEGMENT, JOIN, TRAIN, CALL, UNBREAKABLE, END = range(1, 9)
 
-# "payload length belong to the kind"; a train has n more bytes than this.
-PAYLOAD = {HEAD: 5, NODE: 1, SEGMENT: 3, JOIN: 3, TRAIN: 6, CALL: 4,
-           UNBREAKABLE: 1, END: 0}
+# P1: T, a train's departure and a call's first and last "become two bytes
+# each, little-endian, and T may be 1 to 256".  In old books they have one
+# byte, and T is 1 to 32.
+Format = namedtuple("Format", "time_width greatest_T")
+NEW, OLD = Format(2, 256), Format(1, 32)
+
+# The widths of each kind's fields; a time is as wide as the format says.  A
+# train has n more bytes behind its last field, which is n.
+TIME = "time"
+FIELDS = {HEAD: (2, 2, TIME), NODE: (1,), SEGMENT: (1, 1, 1), JOIN: (1, 1, 1),
+          TRAIN: (2, 2, TIME, 1), CALL: (1, 1, TIME, TIME), UNBREAKABLE: (1,),
+          END: ()}
 
 # "At most 96 ... 64 ... 128 ... 8", "one to four a train", "at most 256 a train"
 MOST_NODES, MOST_SEGMENTS, MOST_JOINS, MOST_TRAINS = 96, 64, 128, 8
@@ -63,7 +73,8 @@ class Train:
 class Book:
     """What the frames say; "numbers from 0 in file order"."""
 
-    def __init__(self):
+    def __init__(self, form=NEW):
+        self.form = form
         self.rs = self.rt = self.T = 0
         self.nodes = []
         self.segments = []
@@ -90,9 +101,9 @@ def rounded_up(a, b):
 # ---------------------------------------------------------------- the book
 
 
-def read_book(data):
+def read_book(data, form=NEW):
     """Frames in file order, each by rising number; then the book."""
-    book = Book()
+    book = Book(form)
     at, last = 0, None
     while last != END:
         refuse_if(len(data) - at < 4, 1)
@@ -103,7 +114,7 @@ def read_book(data):
         refuse_if(not HEAD <= kind <= END, 2)
         refuse_if(out_of_order(last, kind), 3)
         refuse_if(kind == END and at < len(data), 3)
-        refuse_if(length != payload_length(kind, payload), 4)
+        refuse_if(length != payload_length(kind, payload, form), 4)
         if kind != END:
             TAKE[kind](book, payload)
         last = kind
@@ -118,17 +129,46 @@ def out_of_order(last, kind):
     return kind == HEAD or kind < last
 
 
-def payload_length(kind, payload):
+def widths(kind, form):
+    """The width of each field of a kind."""
+    return [form.time_width if width == TIME else width
+            for width in FIELDS[kind]]
+
+
+def fields_length(kind, form):
+    """Text: "payload length belong to the kind"; a train's row not counted."""
+    return sum(widths(kind, form))
+
+
+def payload_length(kind, payload, form):
     """The length the kind asks for; of a train "count n, then n directed"."""
-    if kind == TRAIN and len(payload) >= PAYLOAD[TRAIN]:
-        return PAYLOAD[TRAIN] + payload[5]
-    return PAYLOAD[kind]
+    length = fields_length(kind, form)
+    if kind == TRAIN and len(payload) >= length:
+        return length + payload[length - 1]
+    return length
+
+
+def fields_of(kind, payload, form):
+    """The fields as numbers, "all little-endian"; a train's row not among
+    them."""
+    numbers, at = [], 0
+    for width in widths(kind, form):
+        numbers.append(int.from_bytes(payload[at:at + width], "little"))
+        at += width
+    return numbers
+
+
+def fields_bytes(kind, numbers, form):
+    """The same the other way: the bytes of the fields."""
+    return b"".join(number.to_bytes(width, "little")
+                    for number, width in zip(numbers, widths(kind, form)))
 
 
 def take_head(book, p):
-    """Text: "rs, rt at least 1; T 1 to 32"."""
-    book.rs, book.rt, book.T = two_bytes(p, 0), two_bytes(p, 2), p[4]
-    refuse_if(book.rs < 1 or book.rt < 1 or not 1 <= book.T <= 32, 6)
+    """Text: "rs, rt at least 1", "T may be 1 to 256", in old books 1 to 32."""
+    book.rs, book.rt, book.T = fields_of(HEAD, p, book.form)
+    refuse_if(book.rs < 1 or book.rt < 1, 6)
+    refuse_if(not 1 <= book.T <= book.form.greatest_T, 6)
 
 
 def take_node(book, p):
@@ -163,8 +203,8 @@ def take_join(book, p):
 
 def take_train(book, p):
     """The train's fields, then l and k, then its row."""
-    length, speed, departure = two_bytes(p, 0), two_bytes(p, 2), p[4]
-    place = list(p[6:])
+    length, speed, departure, _ = fields_of(TRAIN, p, book.form)
+    place = list(p[fields_length(TRAIN, book.form):])
     refuse_if(len(book.trains) == MOST_TRAINS, 5)
     refuse_if(length < 1 or departure >= book.T, 6)
     refuse_if(any(x // 2 >= len(book.segments) for x in place), 6)
@@ -179,7 +219,7 @@ def take_train(book, p):
 
 def take_call(book, p):
     """Text: "train, segment, first, last, with first <= last <= T. One to four"."""
-    train, segment, first, last = p
+    train, segment, first, last = fields_of(CALL, p, book.form)
     known = train < len(book.trains)
     refuse_if(known and len(book.trains[train].calls) == MOST_CALLS, 5)
     refuse_if(not known or segment >= len(book.segments), 6)
@@ -211,6 +251,34 @@ def finish_book(book):
         runs = list_runs(book, train)
         refuse_if(len(runs) > MOST_RUNS, 11)
         book.runs.append(runs)
+
+
+# ------------------------------------------------- old books and new ones
+
+
+def each_frame(data):
+    """The frames of a book that passes, as pairs of kind and payload."""
+    at = 0
+    while at < len(data):
+        end = at + 4 + two_bytes(data, at)
+        yield two_bytes(data, at + 2), data[at + 4:end]
+        at = end
+
+
+def upgrade_book(old):
+    """P1: "With the old lengths and T to 32, the program refuses as the book's
+    reader does at the time"; then "every time must read as the number it was,
+    and every other payload field keeps its bytes"."""
+    read_book(old, OLD)
+    return b"".join(upgraded_frame(kind, p) for kind, p in each_frame(old))
+
+
+def upgraded_frame(kind, p):
+    """A frame whose times are as wide as in the new format."""
+    row = p[fields_length(kind, OLD):]
+    payload = fields_bytes(kind, fields_of(kind, p, OLD), NEW) + row
+    return (len(payload).to_bytes(2, "little") + kind.to_bytes(2, "little")
+            + payload)
 
 
 # ------------------------------------------------------- paths and the runs
@@ -764,6 +832,14 @@ def entry_read_book(book_bytes):
     return verdict(check)
 
 
+def entry_upgrade_book(old_bytes, new_len):
+    def check():
+        new = upgrade_book(old_bytes)
+        refuse_if(new_len < len(new), 12)
+        return (new,)
+    return verdict(check)
+
+
 def entry_write_formula(book_bytes, words_len):
     def check():
         book = read_book(book_bytes)
@@ -849,6 +925,11 @@ def check_two(name, book_bytes, second):
                                   LENT_CLAUSES, LENT_VALUES, LENT_TRAIL)
 
 
+def rewrite(old_bytes):
+    """The verdict of the program that rewrites an old book."""
+    return longer_input(old_bytes) or entry_upgrade_book(old_bytes, LENT_BYTES)
+
+
 def read_file(name):
     with open(name, "rb") as file:
         return file.read()
@@ -857,19 +938,24 @@ def read_file(name):
 def main(arguments):
     usage = ("usage: print_formula < BOOK | check_assignment BOOK ASSIGNMENT "
              "[PLAN] | check_plan BOOK PLAN [ASSIGNMENT] | check_refutation "
-             "BOOK REFUTATION")
-    names = ("check_assignment", "check_plan", "check_refutation")
-    if arguments == ["print_formula"]:
+             "BOOK REFUTATION | upgrade_book OLD NEW")
+    # the least and the most words, and how many name inputs
+    counts = {"print_formula": (1, 1, 0), "check_assignment": (3, 4, 2),
+              "check_plan": (3, 4, 2), "check_refutation": (3, 3, 2),
+              "upgrade_book": (3, 3, 1)}
+    name = arguments[0] if arguments else None
+    if name not in counts:
+        sys.exit(usage)
+    least, most, inputs = counts[name]
+    if not least <= len(arguments) <= most:
+        sys.exit(usage)
+    if name == "print_formula":
         sys.stdout.buffer.write(print_formula(sys.stdin.buffer.read()))
         return 0
-    if not arguments or arguments[0] not in names:
-        sys.exit(usage)
-    most = 3 if arguments[0] == "check_refutation" else 4
-    if not 3 <= len(arguments) <= most:
-        sys.exit(usage)
-    answer = check_two(arguments[0], *map(read_file, arguments[1:3]))
-    if len(arguments) == 4 and answer[0] == "accepted":
-        with open(arguments[3], "wb") as file:
+    given = [read_file(file) for file in arguments[1:1 + inputs]]
+    answer = rewrite(*given) if inputs == 1 else check_two(name, *given)
+    if len(arguments) > 1 + inputs and answer[0] == "accepted":
+        with open(arguments[1 + inputs], "wb") as file:
             file.write(answer[1])
     sys.stdout.buffer.write(verdict_line(answer))
     return 0

@@ -1,6 +1,7 @@
-"""Tests the reference by itself, on inputs made from SEED: document 01's examples ("On each edge", starred or not); random and damaged
-books, with every refusal of the book among them; assignments, plans and refutations, with every rule broken; and brute force: on tiny
-books every plan is enumerated, and a plan that keeps the rules exists exactly where the formula is satisfiable. Prints counts.
+"""Tests the reference by itself, on inputs made from SEED: document 01's examples ("On each edge", starred or not), whose books L and M are
+rewritten; random and damaged books, with every refusal of the book among them; old books, good and damaged, rewritten: the formula stays, and
+so does every number; assignments, plans and refutations, with every rule broken; and brute force: on tiny books every plan is enumerated, and a
+plan that keeps the rules exists exactly where the formula is satisfiable. Prints counts.
 
 Exit status: 0 all held, 1 something did not (an assertion says what), 2 wrong usage.
 """
@@ -10,11 +11,11 @@ from collections import Counter
 
 from . import reference as ref
 from .all_plans import keeping, plans_to_try
-from .books import Spec, spec_bytes
+from .books import Spec, spec_bytes, split
 from .counts import answer_name, listed
 from .inputs import TooLong, encode_steps, plan_bytes, step_frame
-from .known import BOOK_L, FORMULA_L, add_train, book_m, row_spec
-from .random_books import damaged_book, random_book
+from .known import BOOK_L, FORMULA_L, OLD_L, add_train, book_m, lone_spec, outgrowing, padded, row_spec, spec_l
+from .random_books import book_to_rewrite, damaged_book, random_book
 from .random_inputs import random_assignments, random_plans, random_refutations, solved
 from .small_solver import Solver
 
@@ -70,6 +71,75 @@ def check_books_l_and_m():
     assert check(shut, step_frame([], [19]), *lent) == ("accepted",)
     assert check(shut, good, *lent) == ("accepted",)
     assert check(shut, bad, *lent) == ("refused", 20, 1)
+
+
+# ------------------------------------------------- old books and new ones
+
+
+def check_lengths():
+    """P1: "Head payloads are now 6 bytes, train payloads 7 + n, call payloads 6", and T 1 to 256; an old book has 5, 6 + n and 4, and T
+    to 32."""
+    for form, lengths, most in ((ref.NEW, (6, 7, 6), 256), (ref.OLD, (5, 6, 4), 32)):
+        assert tuple(ref.fields_length(kind, form) for kind in (ref.HEAD, ref.TRAIN, ref.CALL)) == lengths
+        for T in (0, 1, most, most + 1):
+            data = spec_bytes(lone_spec(T, 0, 0, T), form)
+            answer = verdict_in(data, form)
+            assert answer == (("accepted",) if 0 < T <= most else ("refused", 6, 0))
+    book = ref.read_book(spec_bytes(lone_spec(256, 255, 256, 256)))
+    assert (book.T, book.trains[0].departure, book.trains[0].calls) == (256, 255, [(0, 256, 256)])
+
+
+def verdict_in(data, form):
+    """What the book's reader says of bytes in a format."""
+    def check():
+        ref.read_book(data, form)
+        return ()
+    return ref.verdict(check)
+
+
+def check_rewritten_l_and_m():
+    """P1: "document 01's books L and M are old books", and "An old book is refused by 4 at its Head"."""
+    assert spec_bytes(spec_l(), ref.OLD) == OLD_L and spec_bytes(spec_l()) == BOOK_L
+    assert ref.entry_upgrade_book(OLD_L, len(BOOK_L)) == ("accepted", BOOK_L)
+    assert ref.entry_upgrade_book(OLD_L, len(BOOK_L) - 1) == ("refused", 12, 0)
+    assert ref.entry_upgrade_book(OLD_L[:-1], 0) == ("refused", 1, 0)
+    for last in (0, 1):
+        assert ref.upgrade_book(book_m(0, last, ref.OLD)) == book_m(0, last)
+    for old in (OLD_L, book_m(0, 1, ref.OLD)):
+        assert ref.entry_read_book(old) == ("refused", 4, 0)
+        assert ref.entry_upgrade_book(ref.upgrade_book(old), 10 ** 6) == ("refused", 4, 0)
+    assert ref.rewrite(padded(0, ref.OLD)) == ("accepted", padded(0))
+    assert ref.rewrite(outgrowing()) == ref.rewrite(outgrowing() + b"\0") == ("refused", 12, 0)
+    assert ref.entry_upgrade_book(outgrowing(), 10 ** 6)[0] == "accepted"
+
+
+def check_rewriting(rng, count):
+    """Old books, and what may be given for one: refused as the reader does, or with the formula and every field that they had."""
+    tally = Counter()
+    for _ in range(count):
+        old = book_to_rewrite(rng)
+        answer = ref.entry_upgrade_book(old, 10 ** 6)
+        tally[answer_name(answer)] += 1
+        assert answer[:3] == verdict_in(old, ref.OLD) or answer[0] == "accepted" == verdict_in(old, ref.OLD)[0]
+        if answer[0] == "accepted":
+            check_rewritten(old, answer[1])
+    print(f"old books: {listed(tally)}")
+    assert {str(x) for x in range(1, 12)} <= set(tally)
+
+
+def check_rewritten(old, new):
+    """The same frames, each with the same numbers and the same row; and "the same formula, clause for clause"."""
+    assert ref.dimacs(ref.read_book(new)) == ref.dimacs(ref.read_book(old, ref.OLD))
+    frames, again = split(old)[0], split(new)[0]
+    assert [kind for kind, _ in frames] == [kind for kind, _ in again]
+    for (kind, one), (_, two) in zip(frames, again):
+        assert ref.fields_of(kind, one, ref.OLD) == ref.fields_of(kind, two, ref.NEW)
+        assert one[ref.fields_length(kind, ref.OLD):] == two[ref.fields_length(kind, ref.NEW):]
+        assert kind in (ref.HEAD, ref.TRAIN, ref.CALL) or one == two
+    added = sum({ref.HEAD: 1, ref.TRAIN: 1, ref.CALL: 2}.get(kind, 0) for kind, _ in frames)
+    assert len(new) == len(old) + added
+    for room in (len(new) - 1, len(new)):
+        assert ref.entry_upgrade_book(old, room) == (("accepted", new) if room == len(new) else ("refused", 12, 0))
 
 
 # --------------------------------------------------------------- self-test
@@ -147,9 +217,9 @@ def check_refuted(data, book, clauses, steps):
 
 def check_books(rng, count):
     """Random and damaged books, counted by refusal."""
-    tally = {"tiny": Counter(), "small": Counter(), "damaged": Counter()}
+    tally = {"tiny": Counter(), "small": Counter(), "long": Counter(), "damaged": Counter()}
     for _ in range(count):
-        for name in ("tiny", "small"):
+        for name in ("tiny", "small", "long"):
             answer = ref.entry_read_book(random_book(rng, name))
             tally[name][answer_name(answer)] += 1
         for _ in range(4):
@@ -166,7 +236,7 @@ def check_second_inputs(rng, count):
              "refutations": Counter(), "rules broken": Counter()}
     done = 0
     while done < count:
-        data = random_book(rng, "tiny" if done % 4 else "small")
+        data = random_book(rng, "long" if done % 15 == 7 else "tiny" if done % 4 else "small")
         try:
             book = ref.read_book(data)
         except ref.Refused:
@@ -202,12 +272,15 @@ def run(options):
     check_figures()
     check_shapes()
     check_books_l_and_m()
+    check_lengths()
+    check_rewritten_l_and_m()
     print("the document's examples hold")
     check_books(rng, 400)
+    check_rewriting(rng, 1000)
     check_second_inputs(rng, 150)
     meaning, tried = Counter(), 0
     while tried < 500:
-        data = random_book(rng, "tiny" if tried % 10 else "small")
+        data = random_book(rng, "long" if tried % 25 == 9 else "tiny" if tried % 10 else "small")
         if ref.entry_read_book(data)[0] == "accepted":
             check_meaning(data, meaning)
             tried += 1

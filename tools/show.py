@@ -19,7 +19,7 @@ from . import reference
 from .books import kind_words, split
 from .reference import ABSENT, GONE, STEP, two_bytes
 from .repository import read_bytes
-from .text import book_lines, row, verdict_words
+from .text import book_lines, old_words, row, verdict_words
 
 KINDS = ("book", "plan", "assignment", "refutation")
 
@@ -181,7 +181,7 @@ def shown(data, book_data, kind, runs):
         return book_lines(data) + (run_lines(data) if runs and accepted else [])
     answer = reference.entry_read_book(book_data)
     if answer[0] != "accepted":
-        raise Unclear("the book is " + verdict_words(answer))
+        raise Unclear("the book is " + verdict_words(answer) + old_words(book_data))
     book = reference.read_book(book_data)
     kind = kind or kind_of(data, book)
     return book_lines(data) if kind == "book" else lines_for(kind, data, book_data, book)

@@ -6,23 +6,22 @@ its lines, and the lines give the very file.
 """
 import difflib
 import re
-import struct
 
 from . import reference
 from .books import BORDER_KINDS, encode, kind_words, split
-from .reference import CALL, END, HEAD, JOIN, NODE, SEGMENT, TRAIN, UNBREAKABLE
+from .reference import CALL, END, HEAD, JOIN, NEW, NODE, OLD, SEGMENT, TRAIN, UNBREAKABLE
 
-# The line of each kind and the form of its payload: {} is a field, # the frame's number among those of its kind. A train's row of
-# directed segments stands behind its fields.
+# The line of each kind: {} is a field, in the payload's order, # the frame's number among those of its kind. A train's row of directed segments
+# stands behind its fields, and says how many there are.
 LINES = {
-    HEAD: ("head: {} metres a segment, {} seconds an interval, {} intervals", "<HHB"),
-    NODE: ("node #: border kind {}", "<B"),
-    SEGMENT: ("segment #: nodes {} {}, TTD {}", "<BBB"),
-    JOIN: ("join: node {}, segments {} {}", "<BBB"),
-    TRAIN: ("train #: {} metres, {} km/h, departs at {}, stands on", "<HHB"),
-    CALL: ("call: train {}, segment {}, at some time from {} to {}", "<BBBB"),
-    UNBREAKABLE: ("unbreakable: TTD {}", "<B"),
-    END: ("end", "<"),
+    HEAD: "head: {} metres a segment, {} seconds an interval, {} intervals",
+    NODE: "node #: border kind {}",
+    SEGMENT: "segment #: nodes {} {}, TTD {}",
+    JOIN: "join: node {}, segments {} {}",
+    TRAIN: "train #: {} metres, {} km/h, departs at {}, stands on",
+    CALL: "call: train {}, segment {}, at some time from {} to {}",
+    UNBREAKABLE: "unbreakable: TTD {}",
+    END: "end",
 }
 FRAME, REST = "frame of kind ", "rest: "
 
@@ -66,16 +65,15 @@ def read_row(words):
 
 def payload_fits(kind, payload):
     """Whether the payload has the fields of its kind, and nothing else."""
-    return kind in LINES and len(payload) == reference.payload_length(kind, payload)
+    return kind in LINES and len(payload) == reference.payload_length(kind, payload, NEW)
 
 
 def frame_line(kind, payload, number):
     """The line of one frame; number counts those of its kind."""
     if not payload_fits(kind, payload):
         return f"{FRAME}{kind}: {payload.hex(' ')}".rstrip()
-    form, fields = LINES[kind]
-    line = form.replace("#", str(number)).format(*struct.unpack_from(fields, payload))
-    return f"{line} {row(payload[6:])}" if kind == TRAIN else line
+    line = LINES[kind].replace("#", str(number)).format(*reference.fields_of(kind, payload, NEW))
+    return f"{line} {row(payload[reference.fields_length(TRAIN, NEW):])}" if kind == TRAIN else line
 
 
 def remark(kind, payload, number, book):
@@ -92,12 +90,19 @@ def verdict_words(answer):
     return "accepted" if answer[0] == "accepted" else "refused: {} {}".format(*answer[1:])
 
 
+def old_words(data):
+    """What to do with an old book, told by its Head; nothing of any other bytes."""
+    frames, _ = split(data)
+    old = frames and frames[0][0] == HEAD and len(frames[0][1]) == reference.fields_length(HEAD, OLD)
+    return "; an old book, which bin/upgrade_book rewrites" if old else ""
+
+
 def book_lines(data):
     """The lines of a book, or of any bytes."""
     frames, rest = split(data)
     answer = reference.entry_read_book(data)
     book, counts = reference.read_book(data) if answer[0] == "accepted" else None, {}
-    lines = [f"# {verdict_words(answer)}"]
+    lines = [f"# {verdict_words(answer)}{old_words(data)}"]
     for kind, payload in frames:
         number = counts.get(kind, 0)
         # a frame with another length than its kind's is no node, segment or train
@@ -112,7 +117,7 @@ def book_lines(data):
 
 def pattern(kind):
     """What a line of this kind looks like."""
-    form = re.escape(LINES[kind][0]).replace(re.escape("{}"), "([0-9]+)").replace(re.escape("#"), "(?P<number>[0-9]+)")
+    form = re.escape(LINES[kind]).replace(re.escape("{}"), "([0-9]+)").replace(re.escape("#"), "(?P<number>[0-9]+)")
     return re.compile(form + (r" (?P<row>.+)" if kind == TRAIN else ""))
 
 
@@ -130,13 +135,11 @@ def packed(kind, found):
     """The payload that a line's fields say."""
     fields = [int(word) for name, word in zip(group_names(found), found.groups()) if name is None]
     try:
-        payload = struct.pack(LINES[kind][1], *fields)
-        if kind == TRAIN:
-            place = read_row(found["row"].split())
-            payload += bytes([len(place), *place])
-    except (struct.error, ValueError):
+        place = read_row(found["row"].split()) if kind == TRAIN else []
+        numbers = [*fields, len(place)] if kind == TRAIN else fields
+        return reference.fields_bytes(kind, numbers, NEW) + bytes(place)
+    except (OverflowError, ValueError):
         raise BadText("a number is larger than its field holds") from None
-    return payload
 
 
 def group_names(found):
@@ -169,7 +172,7 @@ def frame_payload(payload):
 
 def forms():
     """Every line that there is, with N for a number."""
-    for kind, (form, _) in LINES.items():
+    for kind, form in LINES.items():
         yield form.replace("#", "N").replace("{}", "N") + (" N> N<" if kind == TRAIN else "")
     yield from (FRAME + "N: 01 02", REST + "01 02")
 

@@ -13,8 +13,8 @@ from collections import namedtuple
 
 from . import reference
 from .inputs import encode_steps, step_frame
-from .known import (ASSIGNMENT_L, ASSIGNMENT_PADDED, BOOK_L, FORMULA_L, PLAN_L, PLAN_PADDED, REFUTATION_M, book_m, padded,
-                    standing)
+from .known import (ASSIGNMENT_L, ASSIGNMENT_PADDED, BOOK_L, FORMULA_L, OLD_L, PLAN_L, PLAN_PADDED, REFUTATION_M, REFUTATION_PADDED, book_m,
+                    outgrowing, padded, standing)
 from .program import CABINET, COMMANDS, built
 from .repository import PROGRAMS, ROOT, write_bytes
 
@@ -334,10 +334,10 @@ def long_books(good, line):
 
 def try_book_lengths(t):
     text = reference.print_formula(padded(0))
-    t.expect("the reference accepts a book of 65,536 bytes", text.startswith(b"p cnf 10 "), text)
+    t.expect("the reference accepts a book of 65,536 bytes", text.startswith(b"p cnf 19 "), text)
     for what, book, line in long_books(padded(0), text):
         t.verdict(f"print_formula, {what}", line, t.run("print_formula", stdin=book))
-    for check, second, call in zip(CHECKS, (ASSIGNMENT_PADDED, PLAN_PADDED, REFUTATION_M), (0, 0, 1)):
+    for check, second, call in zip(CHECKS, (ASSIGNMENT_PADDED, PLAN_PADDED, REFUTATION_PADDED), (0, 0, 1)):
         for what, book, line in long_books(padded(call), ACCEPTED):
             t.verdict(f"{check.program}, book of {what}", line, t.run(check.program, t.file(book), t.file(second)))
 
@@ -479,6 +479,76 @@ def try_pipes(t):
         t.verdict("print_formula, a book without end", TOO_LONG, t.run("print_formula", stdin=zeros.fileno()))
 
 
+# ---- old books
+
+OLD_M = book_m(0, 1, reference.OLD)
+
+
+def refused_old_books():
+    """What upgrade_book refuses, with its line."""
+    yield "nothing", b"", b"1 0\n"
+    yield "a cut old book", OLD_L[:-1], b"1 0\n"
+    yield "an old book with a byte behind", OLD_L + b"\0", b"3 0\n"
+    yield "a book of the format in force", BOOK_L, b"4 0\n"
+    # the ninth byte is T
+    yield "33 intervals", OLD_L[:8] + b"\x21" + OLD_L[9:], b"6 0\n"
+    yield "a plan", PLAN_L, b"2 0\n"
+    yield "65,537 bytes", bytes(MOST + 1), TOO_LONG
+    yield "a new book of 65,540 bytes", outgrowing(), TOO_LONG
+
+
+def try_old_books(t):
+    """An old book is refused by the other commands, and rewritten by upgrade_book; what it writes they take."""
+    t.verdict("print_formula, old book L", b"4 0\n", t.run("print_formula", stdin=OLD_L))
+    t.verdict("check_assignment, old book L", b"4 0\n", t.run("check_assignment", t.file(OLD_L), t.file(ASSIGNMENT_L)))
+    for what, old, book in (("book L", OLD_L, BOOK_L), ("book M", OLD_M, BOOK_M), ("65,532 bytes", padded(0, reference.OLD), padded(0))):
+        for how, new in (("new", t.unused()), ("longer before", t.file(b"x" * 100000)), ("empty before", t.file(b""))):
+            name = t.file(old)
+            t.verdict(f"upgrade_book, {what}, {how}", ACCEPTED, t.run("upgrade_book", name, new))
+            t.expect(f"upgrade_book, {what}, {how}: exactly the new book", read(new) == book, read(new))
+            t.expect(f"upgrade_book, {what}, {how}: the old book untouched", read(name) == old, None)
+    t.verdict("print_formula, rewritten book L", FORMULA_L, t.run("print_formula", stdin=read_rewritten(t, OLD_L)))
+
+
+def read_rewritten(t, old):
+    """What upgrade_book writes of an old book."""
+    new = t.unused()
+    t.run("upgrade_book", t.file(old), new)
+    return read(new) or b""
+
+
+def try_refused_old_books(t):
+    """A refusal neither makes the second file nor touches it."""
+    for what, data, line in refused_old_books():
+        name, there, new = t.file(data), t.file(b"kept"), t.unused()
+        before = stamp(there)
+        t.verdict(f"upgrade_book, {what}", line, t.run("upgrade_book", name, there))
+        t.expect(f"upgrade_book, {what}: the second file untouched", stamp(there) == before, read(there))
+        t.verdict(f"upgrade_book, {what}", line, t.run("upgrade_book", name, new))
+        t.expect(f"upgrade_book, {what}: no file made", not os.path.exists(new), read(new))
+
+
+def try_old_book_names(t):
+    """Wrong numbers of names, files that can't be read or written, one file in both places, input by a pipe or without an end."""
+    old, kept = t.file(OLD_L), t.file(b"kept")
+    for names in ((), (old,), (old, kept, t.unused()), (old, kept, t.unused(), t.unused())):
+        try_usage(t, f"upgrade_book, {len(names)} names", "upgrade_book", t.run("upgrade_book", *names, stdin=OLD_L))
+    for name in (t.path("missing"), t.folder, ""):
+        t.no_verdict(f"upgrade_book, unreadable {name!r}", os.fsencode(name) + b": ", t.run("upgrade_book", name, kept))
+    t.expect("upgrade_book, wrong names: files untouched", (read(old), read(kept)) == (OLD_L, b"kept"), None)
+    for new in (t.folder, t.path("missing/x"), "/dev/full", ""):
+        if new != "/dev/full" or os.path.exists(new):
+            stands(t, f"upgrade_book, second name {new!r}", new, t.run("upgrade_book", old, new))
+    t.verdict("upgrade_book, in place", ACCEPTED, t.run("upgrade_book", old, old))
+    t.expect("upgrade_book, in place: the new book", read(old) == BOOK_L, read(old))
+    t.verdict("upgrade_book, in place again", b"4 0\n", t.run("upgrade_book", old, old))
+    t.expect("upgrade_book, in place again: untouched", read(old) == BOOK_L, read(old))
+    new = t.unused()
+    t.verdict("upgrade_book, an old book by a pipe", ACCEPTED, in_pieces(t, "upgrade_book", ("/dev/stdin", new), OLD_L, 1))
+    t.expect("upgrade_book, an old book by a pipe: the new book", read(new) == BOOK_L, read(new))
+    t.verdict("upgrade_book, an old book without end", TOO_LONG, t.run("upgrade_book", "/dev/zero", kept))
+
+
 # ---- the scripts
 
 
@@ -502,6 +572,11 @@ def try_scripts(t):
     formula = os.path.join(scripts, "print_formula")
     t.verdict("bin/print_formula", FORMULA_L, t.run_words((), BOOK_L, formula))
     t.no_verdict("bin/print_formula, a name", b"usage", t.run_words((t.file(BOOK_L),), BOOK_L, formula))
+    rewriting, new = os.path.join(scripts, "upgrade_book"), t.unused()
+    t.verdict("bin/upgrade_book", ACCEPTED, t.run_words((t.file(OLD_L), new), program=rewriting))
+    t.expect("bin/upgrade_book: the new book", read(new) == BOOK_L, read(new))
+    t.verdict("bin/upgrade_book, refused", b"4 0\n", t.run_words((t.file(BOOK_L), new), program=rewriting))
+    t.no_verdict("bin/upgrade_book, one name", b"usage", t.run_words((t.file(OLD_L),), program=rewriting))
     for check in CHECKS:
         script = os.path.join(scripts, check.program)
         names, third = (t.file(check.book), t.file(check.good)), t.unused()
@@ -522,7 +597,7 @@ def try_scripts(t):
 GROUPS = (
     try_examples, try_results, try_commands, try_name_counts, try_unreadable, try_unreadable_standard_input, try_without_permission,
     try_unwritable_third, try_same_names, try_odd_names, try_book_lengths, try_second_lengths, try_full_output, try_full_refutation, try_empty,
-    try_closed_output, try_pipes, try_scripts)
+    try_closed_output, try_pipes, try_old_books, try_refused_old_books, try_old_book_names, try_scripts)
 
 
 def copied(program, folder):

@@ -246,7 +246,8 @@ def is_own(function, line):
 def verdict(function, output):
     """What the prover says of a wrong function: the words, and what they mean: a fact, proved, unfit, or held up by another function."""
     name, held = full_name(function), None
-    for line in output.split("\n"):
+    # what an error says goes on in the lines that are indented below it
+    for line in re.sub(r"\n  +", " ", output).split("\n"):
         if line == f"fn {name}: proved":
             return "proved", "proved"
         if line.startswith(f"fn {name}: no proof"):

@@ -1,11 +1,11 @@
 """Assignments and plans: book L with its assignment and its plan cut, lengthened and spoiled at each byte; book M; books on each limit; as
-much lent as there is, and one byte too little; more variables than a slice holds, and nearly as many; damaged books; then random books, each
-with assignments and plans that satisfy or keep all, that nearly do, and hostile ones; each refusal of a book."""
+much lent as there is, and one byte too little; more variables than a slice holds, and nearly as many; more than 32 intervals; damaged books;
+then random books, each with assignments and plans that satisfy or keep all, that nearly do, and hostile ones; each refusal of a book."""
 import struct
 
 from .. import reference
 from ..books import spec_bytes
-from ..known import ASSIGNMENT_L, BOOK_L, LIMITS, PLAN_L, book_m, great_ring
+from ..known import ASSIGNMENT_L, BOOK_L, LIMITS, PLAN_L, book_m, great_ring, lone_spec
 from ..random_books import damaged_book, random_book, refused_books
 from ..random_inputs import random_assignments, random_plans, solved
 from .records import Record, lending
@@ -60,9 +60,9 @@ def lent_cases(data, assignment, plan):
 def great_ring_cases():
     """More variables than a slice holds (12), and nearly as many: trains that stand, their assignment with a claim changed, and a byte too
     little lent for it. That a result which fills the slice is written is a case of the commands."""
-    data = great_ring(32)
-    yield Record("A", data, b"", b"", "13 0")
-    yield Record("P", data, b"", b"", "12 0")
+    for intervals in (32, 256):
+        yield Record("A", great_ring(intervals), b"", b"", "13 0")
+        yield Record("P", great_ring(intervals), b"", b"", "12 0")
     data = great_ring(24)
     plan = bytes(64) + b"".join(
         struct.pack("<H", 65534 if t < train % 3 else 2 * train) for train in range(8) for t in range(24))
@@ -73,6 +73,30 @@ def great_ring_cases():
     yield Record("A", data, changed(good, len(good) - 70))
 
 
+def absent_before(T, departure):
+    """A plan of the lone train: no border, absent, and then it stands."""
+    return bytes(2) + b"\xfe\xff" * departure + bytes(2 * (T - departure))
+
+
+def long_cases():
+    """A train that departs late, and a call that only the last time meets: the plan, a plan with a wrong move, gone at the end, and what is
+    lent one byte too little."""
+    for T, departure, first in ((33, 31, 33), (256, 255, 256), (256, 0, 256)):
+        data, plan = spec_bytes(lone_spec(T, departure, first, T)), absent_before(T, departure)
+        good = reference.check_two("check_plan", data, plan)[1]
+        yield Record("P", data, plan, b"", "accepted")
+        yield Record("A", data, good, b"", "accepted")
+        yield Record("P", data, plan[:-2] + b"\xff\xff", b"", "16 5" if departure + 1 < T else "16 2")
+        yield Record("P", data, plan[:-2] + b"\1\0", b"", "16 4" if departure + 1 < T else "16 2")
+        yield Record("P", data, plan[:-2], b"", "15 0")
+        yield Record("P", data, plan, lending("P", len(good) - 1), "12 0")
+        yield Record("A", data, changed(good, len(good) - 1))
+        yield Record("A", data, good, lending("A", len(plan) - 1), "12 0")
+    # the window ends before the train is there
+    data = spec_bytes(lone_spec(256, 255, 0, 254))
+    yield Record("P", data, absent_before(256, 255), b"", "16 5")
+
+
 def random_cases(rng):
     done = 0
     while done < BOOKS:
@@ -80,7 +104,8 @@ def random_cases(rng):
             yield Record("A", damaged_book(rng), b"\0")
             yield Record("P", damaged_book(rng), b"\0")
             continue
-        data = random_book(rng, "small" if rng.random() < 0.3 else "tiny")
+        size = "long" if done == 30 else "small" if rng.random() < 0.3 else "tiny"
+        data = random_book(rng, size)
         try:
             book = reference.read_book(data)
         except reference.Refused:
@@ -100,6 +125,7 @@ def records(rng, note):
     yield from limit_cases()
     yield from lent_cases(BOOK_L, ASSIGNMENT_L, PLAN_L)
     yield from great_ring_cases()
+    yield from long_cases()
     yield from random_cases(rng)
     for number, data in refused_books(rng, 3):
         yield Record("A", data, ASSIGNMENT_L, lending("A", 0), f"{number} 0")

@@ -1,18 +1,18 @@
 """Formulas: the empty input, document 01's books, books on each limit, a text of more than 64 KiB, rings whose formulas have just as many
-words as the programs lend, one more and far more, smaller rings, random and damaged books. A text of more than a thousand bytes is
-stored as its length and checksum; of one ring, and of the text that is printed in pieces, it is stored whole as well. Then as many words
-lent as there are, and one too few; and each refusal of a book, with no word lent."""
+words as the programs lend, one more and far more, smaller rings, books with up to 256 intervals, random and damaged books. A text of more than
+a thousand bytes is stored as its length and checksum; of one ring, and of the text that is printed in pieces, it is stored whole as well. Then
+as many words lent as there are, and one too few; and each refusal of a book, with no word lent."""
 import itertools
 
 from .. import reference
 from ..books import spec_bytes
-from ..known import BOOK_L, LIMITS, RINGS, SMALL_RINGS, add_train, book_m, ring, star
+from ..known import BOOK_L, LIMITS, OLD_L, RINGS, SMALL_RINGS, add_train, book_m, great_ring, late_m, lone_spec, ring, star
 from ..random_books import damaged_book, random_book, refused_books
 from .records import Record, formula_answer, lending
 
 NAME, SEED = "formula.cases", 5
 # how many random books there are, and the most bytes of a text that is stored whole
-BOOKS, WHOLE = 260, 1000
+BOOKS, WHOLE = 270, 1000
 
 
 def word_count(data):
@@ -31,8 +31,17 @@ def long_text():
     return data
 
 
+def long_books():
+    """Many intervals: T above 32, a departure and a window that need two bytes, and a formula that is too long."""
+    for times in ((33, 0, 0, 33), (33, 32, 33, 33), (255, 254, 0, 255), (256, 0, 0, 256), (256, 0, 256, 256), (256, 255, 256, 256),
+                  (256, 255, 0, 254)):
+        yield spec_bytes(lone_spec(*times))
+    yield from (late_m(33), late_m(256), great_ring(256))
+
+
 def made_books():
     yield b""
+    yield OLD_L
     yield BOOK_L
     for last in (0, 1):
         yield book_m(0, last)
@@ -46,6 +55,7 @@ def made_books():
         yield data
     for shape in SMALL_RINGS:
         yield ring(*shape)
+    yield from long_books()
 
 
 def random_books(rng):
@@ -54,7 +64,7 @@ def random_books(rng):
         if kind < 0.2:
             yield damaged_book(rng)
         else:
-            yield random_book(rng, "tiny" if kind < 0.8 else "small")
+            yield random_book(rng, "long" if kind < 0.25 else "tiny" if kind < 0.8 else "small")
 
 
 def short(data):
@@ -79,6 +89,8 @@ def records(rng, note):
         yield from just_enough(data, "F" if short(data) else "D")
     for shape in SMALL_RINGS:
         yield from just_enough(ring(*shape), "D")
+    for data in (late_m(33), late_m(256), spec_bytes(lone_spec(256, 0, 0, 256))):
+        yield from just_enough(data, "D")
     # the book before 12
     for number, data in refused_books(rng, 3):
         yield Record("F", data, b"", lending("F", 0), f"{number} 0")

@@ -1,8 +1,11 @@
 """The commands' own code on stored files: each check with an input that it accepts and inputs that it refuses; results that are new, that
-replace a file, that must not be written, and that are not named; inputs of 65,536 and of 65,537 bytes in either place; missing files."""
+replace a file, that must not be written, and that are not named; inputs of 65,536 and of 65,537 bytes in either place; missing files. Old books
+that are rewritten, in place too; one whose new book fills the slice, and one whose new book is too long for it."""
+from ..books import spec_bytes
 from ..inputs import step_frame
-from ..known import (ASSIGNMENT_L, ASSIGNMENT_PADDED, BOOK_L, PLAN_L, PLAN_PADDED, REFUTATION_M, book_m, padded, standing)
-from ..reference import LENT_BYTES
+from ..known import (ASSIGNMENT_L, ASSIGNMENT_PADDED, BOOK_L, OLD_L, PLAN_L, PLAN_PADDED, REFUTATION_M, REFUTATION_PADDED, book_m, lone_spec,
+                     outgrowing, padded, standing)
+from ..reference import LENT_BYTES, OLD
 from .records import Record
 
 NAME, SEED = "programs.cases", 0
@@ -24,7 +27,11 @@ def files():
         "refutation": REFUTATION_M, "cut_refutation": REFUTATION_M[:-1], "wrong_kind": step_frame([], [16, 17, 19], kind=21),
         "far_literal": step_frame([11], [16]), "far_hint": step_frame([], [100]), "unproved": step_frame([], [19, 16, 17]),
         "unfinished": step_frame([6], [19, 17]),
+        "full_refutation": REFUTATION_PADDED,
         "large_book": large_book, "large_plan": large_plan,
+        # old books, which only upgrade_book takes
+        "book_before": OLD_L, "no_plan_before": book_m(0, 1, OLD), "cut_before": OLD_L[:-1], "more_before": OLD_L + b"\0",
+        "late_before": spec_bytes(lone_spec(33, 0, 0, 33), OLD), "full_before": padded(0, OLD), "outgrowing_before": outgrowing(),
     }
 
 
@@ -54,7 +61,7 @@ def listed():
     yield from two_inputs("n", "no_plan", "refutation", ("cut_refutation", "wrong_kind", "far_literal", "far_hint", "unproved", "unfinished"))
     yield "a", "full_book", "full_book_assignment", "new_plan"
     yield "p", "full_book", "full_book_plan", "new_assignment"
-    yield "n", "full_no_plan", "refutation", KEPT
+    yield "n", "full_no_plan", "full_refutation", KEPT
     # the result fills the slice, and is the next case's input
     yield "p", "large_book", "large_plan", "large_assignment"
     yield "a", "large_book", "large_assignment", "old"
@@ -63,6 +70,32 @@ def listed():
     yield "p", "book", "assignment", "book"
 
 
+def rewritten():
+    """The cases of upgrade_book: question, old book, nothing, result."""
+    # a new book that is made, that replaces a shorter file, and that the other commands take; an old one is none for them
+    yield "u", "book_before", "", "upgraded_book"
+    yield "f", "upgraded_book", "", ""
+    yield "a", "upgraded_book", "assignment", "upgraded_plan"
+    yield "u", "no_plan_before", "", "upgraded_plan"
+    yield "n", "upgraded_plan", "refutation", KEPT
+    yield "f", "book_before", "", ""
+    yield "p", "book_before", "plan", KEPT
+    for other in ("cut_before", "more_before", "late_before", "outgrowing_before", "book", "upgraded_book", "plan", "empty", "zeros", "long",
+                  MISSING):
+        yield "u", other, "", KEPT
+    yield "u", "long_book", "", "none"
+    yield "u", MISSING, "", "none"
+    # the result fills the slice, and is the next case's input
+    yield "u", "full_before", "", "upgraded_full"
+    yield "p", "upgraded_full", "full_book_plan", "upgraded_plan"
+    # a longer file is replaced
+    yield "u", "book_before", "", "upgraded_full"
+    # in place; then it is no old book
+    yield "u", "book_before", "", "book_before"
+    yield "u", "book_before", "", "book_before"
+    yield "f", "book_before", "", ""
+
+
 def records(rng, note):
-    for question, *names in listed():
+    for question, *names in (*rewritten(), *listed()):
         yield Record(question, *(name.encode() for name in names))

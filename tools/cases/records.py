@@ -7,10 +7,11 @@ where one is missing, it is as much as the programs lend.
   B  read the book: its counts                        A  check an assignment: the verdict, and an accepted one's plan
   R  its run lists                                    P  check a plan: the verdict, and an accepted one's assignment
   F  its formula's text                               N  check a refutation: the verdict
-  D  that text's length and checksum
+  D  that text's length and checksum                  U  rewrite an old book: the verdict, and an accepted one's new book
 
-For a small letter the parts are the names of stored files: the book's, the second input's and the result's, which may be empty. f, a, p
-and n are print_formula and the three checks; the answer is what the command prints, and then the file that has the result's name by then.
+For a small letter the parts are the names of stored files: the book's, the second input's and the result's, which may be empty. f, a, p, n
+and u are print_formula, the three checks and upgrade_book, which has no second input; the answer is what the command prints, and then the
+file that has the result's name by then.
 """
 import struct
 from collections import namedtuple
@@ -20,7 +21,7 @@ from ..program import BY_LETTER, CHECKS
 from ..reference import LENT_BYTES, LENT_CLAUSES, LENT_TRAIL, LENT_VALUES, LENT_WORDS
 
 # what the programs lend, by question
-LENT = {"F": (LENT_WORDS,), "D": (LENT_WORDS,), "A": (LENT_BYTES,), "P": (LENT_BYTES,),
+LENT = {"F": (LENT_WORDS,), "D": (LENT_WORDS,), "A": (LENT_BYTES,), "P": (LENT_BYTES,), "U": (LENT_BYTES,),
         "N": (LENT_WORDS, LENT_CLAUSES, LENT_VALUES, LENT_TRAIL)}
 NO_FILE = b"no file\n"
 ACCEPTED = "accepted"
@@ -171,14 +172,18 @@ def refutation_answer(record, files):
     return verdict_answer(reference.entry_check_refutation(*record.parts[:2], *lent(record)))
 
 
+def upgrade_answer(record, files):
+    return verdict_answer(reference.entry_upgrade_book(record.parts[0], *lent(record)))
+
+
 def command_says(question, book, second, result, files):
     """What a command prints; an accepted input's result is stored under its name, where it has one."""
     command = BY_LETTER[question]
     if book not in files or command in CHECKS and second not in files:
         return b""
-    if command not in CHECKS:
+    if command == "print_formula":
         return reference.print_formula(files[book])
-    found = reference.check_two(command, files[book], files[second])
+    found = reference.check_two(command, files[book], files[second]) if command in CHECKS else reference.rewrite(files[book])
     if found[0] == "accepted" and len(found) > 1 and result:
         files[result] = found[1]
     return reference.verdict_line(found)
@@ -193,7 +198,7 @@ def command_answer(record, files):
 
 
 ANSWERS = {"B": read_answer, "R": runs_answer, "F": formula_answer, "D": digest_answer, "A": assignment_answer, "P": plan_answer,
-           "N": refutation_answer, **{letter: command_answer for letter in BY_LETTER}}
+           "N": refutation_answer, "U": upgrade_answer, **{letter: command_answer for letter in BY_LETTER}}
 
 
 def answer(record, files):

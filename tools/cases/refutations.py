@@ -1,6 +1,6 @@
 """Refutations: book M with each rule on steps met and missed, slices just long enough and one too short at every step, damaged books,
-refutations with thousands of steps; then random books, most without a plan, with refutations of several steps, and the same spoiled.
-Where the answer was found by hand, it stands with the case, and the reference has to give it."""
+refutations with thousands of steps, books with more than 32 intervals; then random books, most without a plan, with refutations of several
+steps, and the same spoiled. Where the answer was found by hand, it stands with the case, and the reference has to give it."""
 import collections
 import itertools
 import struct
@@ -8,14 +8,14 @@ import struct
 from .. import reference
 from ..books import Spec, encode, spec_bytes
 from ..inputs import TooLong, encode_steps, step_frame
-from ..known import BOOK_L, LIMITS, RINGS, SMALL_RINGS, book_m, great_ring, ring
+from ..known import BOOK_L, LIMITS, OLD_L, RINGS, SMALL_RINGS, book_m, great_ring, late_m, ring
 from ..random_books import random_book, refused_books
 from ..random_inputs import damaged_refutation, honest_steps
 from ..reference import word_count
 from ..small_solver import Solver, refutation_steps
 from .records import ACCEPTED, LENT, Record, lending
 
-NAME, SEED, COUNT = "refutations.cases", 11, 1946
+NAME, SEED, COUNT = "refutations.cases", 11, 1974
 # random books are made as long as there is room; the most that a random refutation may have, and how many spoiled ones stand behind it
 MOST_FILE, EACH = 400, 2
 FULL = LENT["N"]
@@ -243,7 +243,8 @@ def order_cases():
         for which in range(4):
             yield case("12 0", WIDE, second, less(needed(VARIABLES, FORMULA, []), which))
         yield case("1 0", WIDE[:-1], second, (0, 0, 0, 0))
-        yield case("10 0", encode([[1, struct.pack("<HHB", 100, 10, 1)], [8, b""]]), second, (0, 0, 0, 0))
+        yield case("10 0", encode([[1, struct.pack("<HHH", 100, 10, 1)], [8, b""]]), second, (0, 0, 0, 0))
+        yield case("4 0", OLD_L, second, (0, 0, 0, 0))
     # each in the other's place
     yield case("2 0", encode_steps(GOOD), WIDE)
     yield case("17 1", WIDE, WIDE)
@@ -475,6 +476,7 @@ def large_formulas():
             yield case("12 0", data, b"", (FULL[WORDS], count - 1) + FULL[2:])
             yield case("12 0", data, b"", less(FULL, WORDS))
     yield case("12 0", great_ring(32), b"")
+    yield case("12 0", great_ring(256), b"")
     yield case("12 0", great_ring(24), step_frame([], [1]))
     # each slice just long enough for the formula, and one too short
     data = ring(*SMALL_RINGS[3])
@@ -483,6 +485,28 @@ def large_formulas():
     yield case("21 0", data, b"", exact)
     for which in range(4):
         yield case("12 0", data, b"", less(exact, which))
+
+
+def long_timetables():
+    """Book M with many intervals, whose train departs in the last: the same three clauses refute it, under other numbers; the call's
+    clause names runs of the last interval."""
+    for T in (33, 256):
+        data = late_m(T)
+        variables, clauses = formula_of(data)
+        # run 0 of the last interval; runs 2 and 3 are those that the call asks for
+        first = 3 + 7 * (T - 1) + 1
+        call = clauses.index([first + 2, first + 3]) + 1
+        one, two = (clauses.index([-first - r]) + 1 for r in (2, 3))
+        steps = [([first + 2], [call, two]), ([], [len(clauses) + 1, one])]
+        exact = needed(variables, clauses, steps)
+        yield case(ACCEPTED, data, step_frame([], [one, two, call]))
+        yield case("20 1", data, step_frame([], [call, one, two]))
+        yield case(ACCEPTED, data, encode_steps(steps), exact)
+        for which in range(4):
+            yield case("12 0", data, encode_steps(steps), less(exact, which))
+        yield case("19 2", data, encode_steps([steps[0], ([], [len(clauses) + 2, one])]), exact)
+        yield case("18 1", data, step_frame([variables + 1], [one]))
+        yield case("21 0", data, encode_steps(steps[:1]))
 
 
 # ------------------------------------------------------------ random books
@@ -617,7 +641,7 @@ def all_records(rng):
     """The made ones, then random ones for ever."""
     for group in (document_cases(), cut_cases(), frame_cases(), literal_cases(), hint_cases(), state_cases(), ending_cases(), order_cases(),
                   slice_cases(), kept_cases(), book_cases(rng), long_cases(rng), hundreds_cases(rng), broad_cases(rng), large_formulas(),
-                  random_cases(rng)):
+                  long_timetables(), random_cases(rng)):
         yield from group
 
 

@@ -49,7 +49,7 @@ def random_books(rng):
         elif kind < 0.4:
             yield longer_trains(rng)
         else:
-            yield random_book(rng, "tiny" if kind < 0.6 else "small")
+            yield random_book(rng, "long" if kind < 0.42 else "tiny" if kind < 0.6 else "small")
 
 
 def records(rng, note):

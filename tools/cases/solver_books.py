@@ -1,6 +1,6 @@
 """Random books for a solver: trains on one way, or against each other, over loops and junctions; and books nearly alike."""
 from .. import reference
-from ..books import MAY_BE_SET, NEVER, Spec, encode, spec_bytes, split
+from ..books import MAY_BE_SET, NEVER, Spec, encode, put, spec_bytes, split
 from ..random_books import random_lengths, random_path, random_track, ring, row, track_of, turned
 
 # ---------------------------------------------------------------- the track
@@ -147,11 +147,12 @@ def unset(data):
 def shorter(data):
     """The book with one interval less. No reader takes it where a train would depart after the last one."""
     frames, _ = split(data)
-    frames[0][1][4] -= 1
-    last = frames[0][1][4]
-    for kind, payload in frames:
-        if kind == reference.CALL:
-            payload[2:] = bytes(min(time, last) for time in payload[2:])
+    rs, rt, T = reference.fields_of(reference.HEAD, frames[0][1], reference.NEW)
+    put(frames, reference.HEAD, 0, reference.fields_bytes(reference.HEAD, (rs, rt, T - 1), reference.NEW))
+    for frame in frames:
+        if frame[0] == reference.CALL:
+            train, segment, *times = reference.fields_of(*frame, reference.NEW)
+            frame[1] = reference.fields_bytes(reference.CALL, (train, segment, *(min(time, T - 1) for time in times)), reference.NEW)
     return encode(frames)
 
 

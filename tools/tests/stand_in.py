@@ -12,11 +12,12 @@ from ..repository import ROOT, write_text
 CABINET = f'''import os, sys
 sys.path.insert(0, {ROOT!r})
 from tools import reference
+from tools.program import COMMANDS
 from tools.tests.stand_in import USAGE
 words = sys.argv[1:]
 if not words or words[0] not in USAGE:
     sys.stderr.write("".join(USAGE.values()))
-elif words[0] == "print_formula" and len(words) == 1 or words[0] != "print_formula" and 3 <= len(words) <= 4:
+elif COMMANDS[words[0]].least < len(words) <= COMMANDS[words[0]].most + 1:
     reference.main(words)
 else:
     sys.stderr.write(USAGE[words[0]])
@@ -26,6 +27,7 @@ USAGE = {
     "check_assignment": "usage: check_assignment BOOK ASSIGNMENT [PLAN]\n",
     "check_plan": "usage: check_plan BOOK PLAN [ASSIGNMENT]\n",
     "check_refutation": "usage: check_refutation BOOK REFUTATION\n",
+    "upgrade_book": "usage: upgrade_book OLD NEW\n",
 }
 # the same, but every check accepts
 ALWAYS_ACCEPTED = '''import sys

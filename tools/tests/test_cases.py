@@ -7,7 +7,7 @@ from unittest import mock
 from .. import known
 from ..cases import FILES, command, programs
 from ..cases.records import Record, answer, checksum, lending, lent, numbers, split
-from ..known import ASSIGNMENT_L, BOOK_L, FORMULA_L, PLAN_L, REFUTATION_M
+from ..known import ASSIGNMENT_L, BOOK_L, FORMULA_L, OLD_L, PLAN_L, REFUTATION_M
 from ..repository import ROOT, Stop, read_bytes, write_bytes
 from .stand_in import CASES, InFolder, printed, script
 
@@ -31,6 +31,7 @@ class Records(unittest.TestCase):
         self.assertEqual(lent(Record("A", b"", b"", numbers(70000))), (65536,))
         self.assertEqual(lending("N", 7, 8192, 65536, 8192), numbers(7))
         self.assertEqual(lending("F", 16384), b"")
+        self.assertEqual((lent(Record("U", b"")), lending("U", 65536), lending("U", 9)), ((65536,), b"", numbers(9)))
 
     def test_checksum(self):
         self.assertEqual(checksum(b"ab"), 98 * 257 + 99)
@@ -48,6 +49,14 @@ class Answers(unittest.TestCase):
         self.says(Record("B", b""), "1", b"1 0\n")
         self.says(Record("R", BOOK_L), "accepted", b"train 0: 2 runs\n0 | 0 2\n1 | 1 2\n")
         self.says(Record("R", BOOK_L + b"\0"), "3", b"3 0\n")
+        self.says(Record("B", OLD_L), "4", b"4 0\n")
+
+    def test_rewriting(self):
+        self.says(Record("U", OLD_L), "accepted", b"accepted\n" + BOOK_L + b"\n")
+        self.says(Record("U", OLD_L, b"", numbers(53)), "accepted", b"accepted\n" + BOOK_L + b"\n")
+        self.says(Record("U", OLD_L, b"", numbers(52)), "12", b"12 0\n")
+        self.says(Record("U", OLD_L[:-1], b"", numbers(0)), "1", b"1 0\n")
+        self.says(Record("U", BOOK_L), "4", b"4 0\n")
 
     def test_formula(self):
         self.says(Record("F", BOOK_L), "accepted", FORMULA_L)
@@ -78,6 +87,12 @@ class Answers(unittest.TestCase):
         self.says(Record("p", b"book", b"long", b"kept"), "12", b"12 0\nkept\n", files)
         self.says(Record("n", b"no_plan", b"refutation", b"kept"), "accepted", b"accepted\nkept\n", files)
         self.says(Record("a", b"missing", b"long", b"none"), "nothing", b"no file\n", files)
+        self.says(Record("u", b"book_before", b"", b"new"), "accepted", b"accepted\n" + BOOK_L + b"\n", files)
+        self.assertEqual(files["new"], BOOK_L)
+        self.says(Record("u", b"new", b"", b"kept"), "4", b"4 0\nkept\n", files)
+        self.says(Record("u", b"missing", b"", b"none"), "nothing", b"no file\n", files)
+        for long in (b"long", b"outgrowing_before"):
+            self.says(Record("u", long, b"", b"kept"), "12", b"12 0\nkept\n", files)
 
     def test_an_answer_that_was_worked_out_is_held_to(self):
         with self.assertRaisesRegex(AssertionError, "13 0 was worked out"):

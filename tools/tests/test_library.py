@@ -1,5 +1,6 @@
 """The library's comparison: what the header has to say, and what the reference answers in the library's form."""
 import os
+import random
 import tempfile
 import unittest
 
@@ -39,6 +40,19 @@ class Headers(unittest.TestCase):
 
 
 class Answers(unittest.TestCase):
+    def test_rewriting(self):
+        """What is asked of an old book: outputs of its length, one byte less, more, and none."""
+        rng, seen = random.Random(2), set()
+        for _ in range(60):
+            for name, (old, room), answer, (output,) in library.rewriting_questions(rng):
+                seen.add(answer[0])
+                self.assertEqual((name, len(output)), ("upgrade_book", room))
+                length = answer[2]
+                self.assertEqual(output[length:], [library.OLD] * (room - length))
+                if answer[0] == 0:
+                    self.assertEqual(bytes(output[:length]), reference.upgrade_book(old))
+        self.assertLessEqual({0, 1, 4, 6, 12}, seen)
+
     def test_sizes(self):
         self.assertEqual(library.measured(book())[2:7], (1, 3, 1, 2, 1))
 

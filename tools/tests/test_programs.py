@@ -96,10 +96,25 @@ class Reference(InFolder):
         self.assertEqual(ask.check("check_assignment", names), b"accepted\n")
         self.assertEqual(read_bytes(self.path("plan")), known.PLAN_L)
 
+    def test_ask_of_an_old_book(self):
+        write_bytes(self.path("old"), known.OLD_L)
+        names = [self.path(name) for name in ("old", "new")]
+        self.assertEqual(ask.check("upgrade_book", names), b"accepted\n")
+        self.assertEqual(read_bytes(self.path("new")), known.BOOK_L)
+        self.assertEqual(ask.check("upgrade_book", names[::-1]), b"4 0\n")
+        self.assertEqual(read_bytes(self.path("old")), known.OLD_L)
+
     def test_documents_examples(self):
         samples.check_figures()
         samples.check_shapes()
         samples.check_books_l_and_m()
+
+    def test_old_books(self):
+        samples.check_lengths()
+        samples.check_rewritten_l_and_m()
+        with printed() as out:
+            samples.check_rewriting(random.Random(1), 300)
+        self.assertIn("accepted: ", out.getvalue())
 
 
 class Example(InFolder):
@@ -169,7 +184,8 @@ class Trials(InFolder):
         return tries, out.getvalue()
 
     def test_good(self):
-        tries, said = self.tries(CABINET, try_programs.try_examples, try_programs.try_commands, try_programs.try_scripts)
+        tries, said = self.tries(CABINET, try_programs.try_examples, try_programs.try_commands, try_programs.try_old_books,
+                                 try_programs.try_refused_old_books, try_programs.try_scripts)
         self.assertEqual((tries.failed, said), (0, ""))
         self.assertGreater(tries.tried, 30)
 
@@ -226,8 +242,9 @@ class Bench(InFolder):
         names = sorted(os.listdir(self.folder))
         self.assertEqual(names, sorted(
             ["big_star.book", "big_ring.book", "big_lanes.book", "small_l.book", "shut.book", "ring_8.book", "ring_16.book", "ring_32.book",
-             "stand_16.book", "stand_16.plan", "stand_64.book", "stand_64.plan"]))
-        self.assertEqual(out.getvalue().count("\n"), 10)
+             "stand_16.book", "stand_16.plan", "stand_64.book", "stand_64.plan", "scale_line.book", "scale_ring.book", "scale_ring.plan",
+             "scale_tracks.book", "scale_tracks.plan", "scale_long.book", "scale_shut_ring.book", "scale_shut_long.book"]))
+        self.assertEqual(out.getvalue().count("\n"), 16)
         book, plan = (read_bytes(self.path("stand_16." + kind)) for kind in ("book", "plan"))
         self.assertEqual(reference.check_two("check_plan", book, plan)[0], "accepted")
 
@@ -250,7 +267,8 @@ class Commands(InFolder):
             self.assertEqual((status, said.count("\n"), said.startswith(f"tools test: no test {name};")), (2, 1, True), said)
 
     def test_how_many_names(self):
-        for words, many in ((("check_refutation", "a"), "2"), (("check_plan", "a"), "2 or 3"), (("print_formula", "a", "b"), "0 or 1")):
+        for words, many in ((("check_refutation", "a"), "2"), (("check_plan", "a"), "2 or 3"), (("print_formula", "a", "b"), "0 or 1"),
+                            (("upgrade_book", "a"), "2"), (("upgrade_book", "a", "b", "c"), "2")):
             status, said = self.said("reference", *words)
             self.assertEqual((status, said.split(" takes ")[-1]), (2, f"{many} names\n"))
 

@@ -169,6 +169,7 @@ class Verdicts(Repository):
         self.assertEqual(self.says("track::wide", "fn track::wide: proved\n"), "proved")
         self.assertEqual(self.says("track::wide", proof % ("wide", "`returns`: the two types differ")), "fact")
         self.assertEqual(self.says("track::wide", proof % ("wide", "`c` has no field that can be named from here")), "unfit")
+        self.assertEqual(self.says("track::wide", proof % ("wide", "record `X`") + "\n  has no field `args`"), "unfit")
         self.assertEqual(self.says("track::wide", proof % ("scan/wide", "`returns`: the two types differ")), "held up")
         self.assertEqual(self.says("track::scan::wide", proof % ("scan/wide", "`returns`: the two types differ")), "fact")
         self.assertEqual(self.says("track::first", proof % ("+first", "`keep`: the two types differ")), "fact")

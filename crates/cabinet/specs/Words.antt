@@ -3,7 +3,7 @@ use mathlib.Core.Path.{_≡_}
 use mathlib.Core.List.{[], _∷_}
 use Rattle.spec.specs.Lists.{Bytes}
 use Rattle.cabinet.specs.declared.commands.Command.{Command}
-use Rattle.cabinet.specs.declared.commands.Command.the-variants.{PrintFormula, CheckAssignment, CheckPlan, CheckRefutation, Unknown}
+use Rattle.cabinet.specs.declared.commands.Command.the-variants.{PrintFormula, CheckAssignment, CheckPlan, CheckRefutation, UpgradeBook, Unknown}
 
 -- "print_formula"
 abbrev pub printFormulaWord : Bytes
@@ -21,11 +21,17 @@ checkPlanWord = 99 ∷ 104 ∷ 101 ∷ 99 ∷ 107 ∷ 95 ∷ 112 ∷ 108 ∷ 97 
 abbrev pub checkRefutationWord : Bytes
 checkRefutationWord = 99 ∷ 104 ∷ 101 ∷ 99 ∷ 107 ∷ 95 ∷ 114 ∷ 101 ∷ 102 ∷ 117 ∷ 116 ∷ 97 ∷ 116 ∷ 105 ∷ 111 ∷ 110 ∷ []
 
+-- "upgrade_book"
+abbrev pub upgradeBookWord : Bytes
+upgradeBookWord = 117 ∷ 112 ∷ 103 ∷ 114 ∷ 97 ∷ 100 ∷ 101 ∷ 95 ∷ 98 ∷ 111 ∷ 111 ∷ 107 ∷ []
+
 -- a word names the command that has it, and none where no command has
 abbrev pub Names : Bytes → Command → Type 0
 Names word PrintFormula = word ≡ printFormulaWord
 Names word CheckAssignment = word ≡ checkAssignmentWord
 Names word CheckPlan = word ≡ checkPlanWord
 Names word CheckRefutation = word ≡ checkRefutationWord
+Names word UpgradeBook = word ≡ upgradeBookWord
 Names word Unknown =
     (word ≡ printFormulaWord → ⊥) × (word ≡ checkAssignmentWord → ⊥) × (word ≡ checkPlanWord → ⊥) × (word ≡ checkRefutationWord → ⊥)
+    × (word ≡ upgradeBookWord → ⊥)

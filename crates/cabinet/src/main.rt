@@ -4,9 +4,10 @@
 //   check_assignment BOOK ASSIGNMENT [PLAN]   an accepted assignment's plan goes to the third file
 //   check_plan BOOK PLAN [ASSIGNMENT]         an accepted plan is written as an assignment
 //   check_refutation BOOK REFUTATION
+//   upgrade_book OLD NEW                      an old book is rewritten in the format in force
 //
-// A check prints accepted; every command prints a refusal as its number, a blank and its detail. A slice
-// has at most 64 KiB: longer input is refused by 12 first.
+// A check and the rewriter print accepted; every command prints a refusal as its number, a blank and its
+// detail. A slice has at most 64 KiB: longer input is refused by 12 first.
 mod commands;
 
 use commands::Command;
@@ -16,6 +17,7 @@ use libc::STDIN_FILENO;
 use programs::printing::print_formula_from;
 use programs::verdicts::Check;
 use programs::verdicts::judge_files;
+use programs::verdicts::upgrade_file;
 
 fn complain(message: &[u8]) {
     io::write_all(STDERR_FILENO, message);
@@ -48,6 +50,18 @@ fn judge(check: Check, most: usize, usage: &[u8]) {
     judge_files(check, &book[..n], &second[..m], &result[..k], words == 5);
 }
 
+fn upgrade() {
+    if os::arg_count() != 4 {
+        complain(b"usage: upgrade_book OLD NEW\n");
+        return;
+    }
+    let mut old = io::buffer();
+    let mut new = io::buffer();
+    let n = os::arg(2, &mut old);
+    let m = os::arg(3, &mut new);
+    upgrade_file(&old[..n], &new[..m]);
+}
+
 fn main() {
     let mut word = io::buffer();
     let n = os::arg(1, &mut word);
@@ -71,11 +85,13 @@ fn main() {
                 b"usage: check_refutation BOOK REFUTATION\n",
             )
         }
+        Command::UpgradeBook => upgrade(),
         Command::Unknown => {
             complain(b"usage: cabinet print_formula < BOOK\n");
             complain(b"       cabinet check_assignment BOOK ASSIGNMENT [PLAN]\n");
             complain(b"       cabinet check_plan BOOK PLAN [ASSIGNMENT]\n");
             complain(b"       cabinet check_refutation BOOK REFUTATION\n");
+            complain(b"       cabinet upgrade_book OLD NEW\n");
         }
     }
 }

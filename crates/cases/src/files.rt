@@ -6,6 +6,7 @@ use programs::printing::print;
 use programs::printing::print_formula_from;
 use programs::verdicts::Check;
 use programs::verdicts::judge_files;
+use programs::verdicts::upgrade_file;
 
 fn print_file(name: &[u8]) {
     let fd = os::open_read(name);
@@ -31,5 +32,11 @@ pub fn print_formula(book: &[u8], result: &[u8]) {
 // A check; the result is named where its name is not empty.
 pub fn judge(check: Check, book: &[u8], second: &[u8], result: &[u8]) {
     judge_files(check, book, second, result, 0 < result.len());
+    print_file(result);
+}
+
+// The rewriter.
+pub fn upgrade(old: &[u8], result: &[u8]) {
+    upgrade_file(old, result);
     print_file(result);
 }

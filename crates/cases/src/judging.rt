@@ -1,10 +1,11 @@
-// The verdicts on assignments, plans and refutations. What is lent holds something already.
+// The verdicts on assignments, plans, refutations and old books. What is lent holds something already.
 use crate::lent::lent;
 use libc::STDOUT_FILENO;
 use programs::printing::print;
 use programs::verdicts::Check;
 use programs::verdicts::Said;
 use programs::verdicts::refutation_text;
+use programs::verdicts::upgrade_text;
 use programs::verdicts::verdict_text;
 ghost use mathlib.Core.Path.{_≡_};
 ghost use lib.ListN.{length};
@@ -24,16 +25,36 @@ fn verdict(
     verdict_text(check, book, second, false, &mut out[..n], line)
 }
 
-// The verdict's line and, where it is accepted, its result on a line.
+// A verdict's line and, where it is accepted, its result on a line.
+fn print_said(said: Said, line: &[u8], out: &[u8]) {
+    print(line, said.len);
+    if 0 < said.result {
+        print(out, said.result);
+        io::write_all(STDOUT_FILENO, b"\n");
+    }
+}
+
 pub fn judge(check: Check, book: &[u8], second: &[u8], numbers: &[u8]) {
     let mut out = [7u8; 65536];
     let mut line = [0u8; 64];
     let said = verdict(check, book, second, numbers, &mut out, &mut line);
-    print(&line, said.len);
-    if 0 < said.result {
-        print(&out, said.result);
-        io::write_all(STDOUT_FILENO, b"\n");
-    }
+    print_said(said, &line, &out);
+}
+
+// The verdict on an old book, with as much of the output lent as the numbers say.
+fn upgraded(old: &[u8], numbers: &[u8], out: &mut [u8], line: &mut [u8]) -> Said
+    requires { ⌜ length (now line) ≡ 64 ⌝ }
+{
+    let n = lent(numbers, 0, out.len());
+    upgrade_text(old, false, &mut out[..n], line)
+}
+
+// Its line and, where it is accepted, the new book on a line.
+pub fn upgrade(old: &[u8], numbers: &[u8]) {
+    let mut out = [7u8; 65536];
+    let mut line = [0u8; 64];
+    let said = upgraded(old, numbers, &mut out, &mut line);
+    print_said(said, &line, &out);
 }
 
 // The verdict on a refutation, with as much of the slices lent as the numbers say.

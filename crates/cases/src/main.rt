@@ -4,10 +4,10 @@
 // input, and numbers of four bytes that say how much is lent; where one is missing, as much as the
 // commands lend. For a small letter they are the names of files.
 //
-//   B  a book's counts             A  an assignment's verdict     f a p n  what print_formula and the
-//   R  its run lists               P  a plan's                             three checks do with files
-//   F  its formula                 N  a refutation's
-//   D  a digest of the formula
+//   B  a book's counts             A  an assignment's verdict     f a p n u  what print_formula, the three
+//   R  its run lists               P  a plan's                               checks and upgrade_book do
+//   F  its formula                 N  a refutation's                         with files
+//   D  a digest of the formula     U  an old book's, rewritten
 mod books;
 mod files;
 mod formulas;
@@ -27,10 +27,12 @@ fn answer(question: u8, first: &[u8], second: &[u8], third: &[u8]) {
         b'A' => judging::judge(Check::Assignment, first, second, third),
         b'P' => judging::judge(Check::Plan, first, second, third),
         b'N' => judging::refute(first, second, third),
+        b'U' => judging::upgrade(first, third),
         b'f' => files::print_formula(first, third),
         b'a' => files::judge(Check::Assignment, first, second, third),
         b'p' => files::judge(Check::Plan, first, second, third),
         b'n' => files::judge(Check::Refutation, first, second, third),
+        b'u' => files::upgrade(first, third),
         _ => {
             io::write_all(STDOUT_FILENO, b"no such question\n");
         }

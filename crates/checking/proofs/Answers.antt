@@ -1,6 +1,6 @@
 -- What the checks answer and leave in their outputs, from what their parts answer: room, the judgement, and what is then written.
 -- Assumes nothing.
-use mathlib.Core.Path.{_≡_, refl, sym, ap, _∙_}
+use mathlib.Core.Path.{_≡_, refl, sym, ap}
 use mathlib.Core.Bool.{Bool}
 use Prim.Native.Nat.{ℕ, _≤_, _<_}
 use native.Mathlib.Omega.{arith}
@@ -20,9 +20,10 @@ use Rattle.reader.specs.declared.reading.Answer.{Answer}
 use Rattle.reader.specs.declared.reading.Answer.the-variants as judged
 use Rattle.reader.specs.BookAnswers.{answerOf}
 use Rattle.plan_rules.proofs.Admitted.{after-refused, after-goes}
-use Rattle.checking.specs.declared.OutputAnswer.{OutputAnswer}
-use Rattle.checking.specs.declared.OutputAnswer.the-variants.{Wrote, Refused}
-use Rattle.checking.specs.OutputAnswers.{outputAnswer}
+use Rattle.reader.specs.declared.reading.OutputAnswer.{OutputAnswer}
+use Rattle.reader.specs.declared.reading.OutputAnswer.the-variants.{Wrote, Refused}
+use Rattle.reader.specs.OutputAnswers.{outputAnswer}
+use Rattle.reader.proofs.Outputs.{left-stopped, left-same}
 
 -- ---- a row of checks
 
@@ -62,16 +63,6 @@ module _ (need : ℕ) (out old : Bytes) where
   unfolding demand andThen written
   left-accepted (accepted u) h e f g = rw (le-leb need (length old) h) (ap {B = OutputAnswer} Wrote f, g)
   left-accepted (refused k c) h e f g = not-both e
-
--- a verdict that stopped with a refusal
-pub left-stopped : {v : Verdict Bytes} {n d : ℕ} (old : Bytes) → v ≡ refused n d → (Refused n d ≡ outputAnswer v) × (old ≡ overwrite old (written v))
-unfolding overwrite written
-left-stopped old e = (ap outputAnswer (sym e), ap (λ (v : Verdict Bytes). overwrite old (written v)) (sym e))
-
--- the same verdict, by another name
-pub left-same : {v v′ : Verdict Bytes} {answer : OutputAnswer} (old : Bytes) {new : Bytes} → v ≡ v′
-    → (answer ≡ outputAnswer v) × (new ≡ overwrite old (written v)) → (answer ≡ outputAnswer v′) × (new ≡ overwrite old (written v′))
-left-same old e h = (h .0 ∙ ap outputAnswer e, h .1 ∙ ap (λ (v : Verdict Bytes). overwrite old (written v)) e)
 
 -- ---- the two checks
 

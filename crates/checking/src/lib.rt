@@ -13,6 +13,7 @@ use plan_coding::decoding::decode;
 use plan_coding::encoding::encode;
 use plan_rules::judging::admit_plan;
 use reader::reading::Answer;
+use reader::reading::OutputAnswer;
 use sections::labels::label_sections;
 use tables::chains::ALL_CHAINS;
 use tables::meets::MEET_BYTES;
@@ -29,13 +30,7 @@ ghost use Rattle.spec.specs.Assignment as assignment;
 ghost use Rattle.spec.specs.Held.{held};
 ghost use Rattle.spec.specs.Entry.{overwrite, written, decodedFor, encodedFor, checkAssignment, checkPlan, planOutput, assignmentOutput};
 ghost use Rattle.tables.specs.Ready.{RunsReady, ChainsReady, MeetsReady};
-ghost use Rattle.checking.specs.OutputAnswers.{outputAnswer};
-
-// Accepted, with so many bytes of the output written, or a refusal's number and detail.
-pub enum OutputAnswer {
-    Wrote(usize),
-    Refused(usize, usize),
-}
+ghost use Rattle.reader.specs.OutputAnswers.{outputAnswer};
 
 // 12, then the verdict on an assignment, then its plan, by the tables of a book.
 fn decode_by(

@@ -142,16 +142,16 @@ module _ (f : Format) where
           (field-past 1 (c .train) _ (1 + w) _ w (omega arith) ∙ field-past 1 (c .segment) _ w _ w (omega arith)
           ∙ field-past w (c .first) _ 0 w w (omega arith) ∙ field-alone w (c .last) m)
 
-  call-length : (c : Call) → length (callPayload f c) ≡ 2 + 2 * f .timeWidth
+  pub call-length : (c : Call) → length (callPayload f c) ≡ 2 + 2 * f .timeWidth
   unfolding callPayload
   call-length c = simp (length-append, length-littleEndian) (omega arith)
 
-  head-length : (b : Book) → length (headPayload f b) ≡ 4 + f .timeWidth
+  pub head-length : (b : Book) → length (headPayload f b) ≡ 4 + f .timeWidth
   unfolding headPayload
   head-length b = simp (length-append, length-littleEndian) (omega arith)
 
   -- a train's payload is as long as its count says
-  train-length : (t : Train) → length (t .place) < 256
+  pub train-length : (t : Train) → length (t .place) < 256
       → (length (trainPayload f t) ≡ trainFixed f + length (t .place)) × T (lengthFits f trainKind (trainPayload f t))
   unfolding trainPayload lengthFits
   train-length t h = (long, simp (and-iff, leb-iff, eqb-iff) (rw long (omega arith), long ∙ ap (λ (n : ℕ). trainFixed f + n) (sym count)))
@@ -170,7 +170,7 @@ module _ (f : Format) where
 -- ---- one frame
 
 -- the number of a kind is that kind's, is known, and fits two bytes
-kind-back : (k : Kind) → (findKind (kindNumber k) kindOrder ≡ some k) × T (not (unknownKind (kindNumber k))) × (kindNumber k < 256 ^ 2)
+pub kind-back : (k : Kind) → (findKind (kindNumber k) kindOrder ≡ some k) × T (not (unknownKind (kindNumber k))) × (kindNumber k < 256 ^ 2)
 unfolding findKind kindNumber kindOrder unknownKind any
 kind-back headKind = (refl, tt, omega arith)
 kind-back nodeKind = (refl, tt, omega arith)

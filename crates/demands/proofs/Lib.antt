@@ -5,6 +5,8 @@ pub mod Growing
 pub mod Reading
 pub mod Building
 pub mod Exact
+pub mod Widening
+pub mod Upgrading
 pub mod RunLists
 -- The formula and the plan rules say the same
 pub mod Sections

@@ -13,9 +13,9 @@ use Rattle.laws.proofs.Tests.{neither-iff, and-iff, or-iff, leb-iff, decide, tr
 use Rattle.laws.proofs.Rows.{all-append}
 use Rattle.laws.proofs.Frames.{length-behind}
 use Rattle.spec.specs.Lists.{Bytes, all, empty, Fault, firstFault, Verdict, accepted, refused, andThen}
-use Rattle.spec.specs.Frames.{bookFormat, Kind, headKind, nodeKind, segmentKind, joinKind, trainKind, callKind, unbreakableKind, endKind, kindField, kindOrder, findKind, payloadOf, behind, cutShort}
+use Rattle.spec.specs.Frames.{Format, bookFormat, Kind, headKind, nodeKind, segmentKind, joinKind, trainKind, callKind, unbreakableKind, endKind, kindField, kindOrder, findKind, payloadOf, behind, cutShort}
 use Rattle.spec.specs.Book.{Book}
-use Rattle.spec.specs.Read.{between, readBook, frameFaults, kindFaults, contentFaults, bookFaults}
+use Rattle.spec.specs.Read.{between, readAs, readBook, frameFaults, kindFaults, contentFaults, bookFaults}
 use Rattle.spec.specs.Instance.{Instance, instanceOf}
 use Rattle.spec.specs.Plan.{planFits, planOf, planLength, brokenRule}
 use Rattle.spec.specs.Formula.{Clause, formula, variables, wordsOf}
@@ -24,7 +24,7 @@ use Rattle.spec.specs.Refutation.{Lent, clauseAt, stepFaults, checkSteps, check
 use Rattle.spec.specs.Entry.{demand, findNone, readInstance, writeFormula, formulaText, judgeAssignment, judgePlan, decodedFor, checkAssignment, checkPlan, checkRefutation, refutedFor, formulaFits, writtenFor}
 pub use Rattle.demands.specs.Reasons.{Refusal, ofBook, ofRoom, ofInput, LeastFalse, AssignmentFault, assignmentUnfit, clauseFalse, PlanFault, planUnfit, ruleBroken, StepsTo, firstStep, nextStep, RefutationFault, stepFault, noEnding, bytesAfter, Within}
 use Rattle.demands.proofs.Faults.{passes, FirstHolds, first-none, first-some}
-use Rattle.demands.proofs.Reading.{refusal-has-reason}
+use Rattle.demands.proofs.Reading.{as-refused, refusal-has-reason}
 use Rattle.demands.proofs.Refuting.{stepAt, added}
 use Rattle.demands.proofs.Entries.{accepted≢refused, demand-iff, instance-read, plan-checked}
 
@@ -234,17 +234,17 @@ numbered p n fs h r =
     let q = rw (r .split, all-append) at h in
     and-iff (p n) _ .0 (and-iff (all (λ f. p (f .number)) (r .before)) _ .0 q .1) .0
 
--- A book is refused by 1 to 11.
-pub read-number : (book : Bytes) (k d : ℕ) → readBook book ≡ refused k d → Within 1 11 k
+-- A book is refused by 1 to 11, in every format.
+pub as-number : (F : Format) (book : Bytes) (k d : ℕ) → readAs F book ≡ refused k d → Within 1 11 k
 unfolding frameFaults kindFaults contentFaults bookFaults between all
-read-number book k d e =
-    let r = refusal-has-reason book k d e .1 in
+as-number F book k d e =
+    let r = as-refused F book k d e .1 in
     bounds (elim (r .3) [
       | inl h ↦ numbered (between 1 11) k _ (kinds (r .0 .book) (findKind (kindField (r .1)) kindOrder) (payloadOf (r .1))) h
       | inr h ↦ numbered (between 1 11) k _ tt (h .2)
     ])
   where
-    kinds : (b : Book) (o : Option Kind) (p : Bytes) → T (all (λ f. between 1 11 (f .number)) (kindFaults bookFormat b o p))
+    kinds : (b : Book) (o : Option Kind) (p : Bytes) → T (all (λ f. between 1 11 (f .number)) (kindFaults F b o p))
     kinds b none p = tt
     kinds b (some headKind) p = tt
     kinds b (some nodeKind) p = tt
@@ -257,6 +257,10 @@ read-number book k d e =
 
     bounds : T (between 1 11 k) → Within 1 11 k
     bounds t = simp (and-iff, leb-iff) at t
+
+pub read-number : (book : Bytes) (k d : ℕ) → readBook book ≡ refused k d → Within 1 11 k
+unfolding readBook
+read-number book k d e = as-number bookFormat book k d e
 
 -- by book and room: 1 to 12; the rest is the second input's
 number-of : {book : Bytes} {Short : Instance → Type 0} {Input : Instance → ℕ → ℕ → Type 0} {k d : ℕ} → Refusal book Short Input k d

@@ -5,12 +5,19 @@ use Prim.Native.Nat.{ℕ}
 use lib.Dec.{ltb, eqb}
 use Rattle.spec.specs.Lists.{Bytes}
 use Rattle.spec.specs.Frames.{Kind, headKind, nodeKind, segmentKind, joinKind, trainKind, callKind, unbreakableKind, endKind}
-use Rattle.spec.specs.Frames.{cutShort, kindField, payloadLength, rank}
+use Rattle.spec.specs.Frames.{Format, bookFormat, oldFormat, cutShort, kindField, payloadLength, rank}
 use Rattle.spec.specs.Read.{isHead, isEnd}
+use Rattle.frames.specs.declared.Format.{Format as FormatCase}
+use Rattle.frames.specs.declared.Format.the-variants.{Now, Old}
 use Rattle.frames.specs.declared.Kind.{Kind as KindCase}
 use Rattle.frames.specs.declared.Kind.the-variants.{Head, Node, Segment, Join, Train, Call, Unbreakable, End, Unknown}
 use Rattle.frames.specs.declared.Framed.{Framed}
 use Rattle.frames.specs.declared.Framed.the-variants.{Whole, Cut}
+
+-- the format that a case stands for
+abbrev pub formatOf : FormatCase → Format
+formatOf Now = bookFormat
+formatOf Old = oldFormat
 
 abbrev pub wholeOr : Bool → Framed → Framed
 wholeOr true f = Cut

@@ -1,9 +1,11 @@
-// Bytes: one as a number, and scans of them. Assumes nothing.
+// Bytes: one as a number, scans of them, and stores. Assumes nothing.
 ghost use mathlib.Core.Path.{_≡_};
 ghost use Prim.Native.Nat.{_+_, _≤_, _<_};
-ghost use lib.ListN.{length, drop};
+ghost use lib.ListN.{length, drop, set};
+ghost use lib.Seq.{sets};
 ghost use lib.Dec.{ltb};
 ghost use Rattle.spec.specs.Lists as lists;
+ghost use Rattle.spec.specs.Numbers.{littleEndian};
 ghost use Rattle.spec.specs.Held.{padded};
 
 // A byte as a number.
@@ -40,4 +42,35 @@ pub fn place_of(p: &[u8], from: usize) -> [u8; 8]
         i += 1;
     }
     place
+}
+
+// Stores a byte where the buffer has room.
+pub fn put(buf: &mut [u8], at: usize, x: u8)
+    ensures { λ _. ⌜ now (buf .exit) ≡ set (now (buf .entry)) at x ⌝ }
+{
+    if at < buf.len() {
+        buf[at] = x;
+    }
+}
+
+// Stores bytes from a place on, as far as the buffer has room; answers where they end.
+pub fn put_bytes(buf: &mut [u8], at: usize, s: &[u8]) -> usize
+    requires { ⌜ at + length (now s) < 0x1_0000_0000_0000_0000 ⌝ }
+    ensures { λ r. ⌜ (r ≡ at + length (now (s .entry))) × (now (buf .exit) ≡ sets (now (buf .entry)) at (now (s .entry))) ⌝ }
+{
+    let mut i = 0;
+    while i < s.len() {
+        put(buf, at + i, s[i]);
+        i += 1;
+    }
+    at + i
+}
+
+// Stores a number in two bytes from a place on, the lower one first.
+pub fn put_pair(buf: &mut [u8], at: usize, n: usize)
+    requires { ⌜ (at + 2 ≤ length (now buf)) × (n < 65536) ⌝ }
+    ensures { λ _. ⌜ now (buf .exit) ≡ sets (now (buf .entry)) at (littleEndian 2 n) ⌝ }
+{
+    buf[at] = (n % 256) as u8;
+    buf[at + 1] = (n / 256) as u8;
 }

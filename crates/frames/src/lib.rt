@@ -1,16 +1,17 @@
 // Frames: the number and the payload length of each kind, the numbers in a file, and the frame at a
 // place of a file. Each kind is a type whose associated constants are its number and the length of its
-// payload; its constructor `cursor` gives the stretch of a file that the payload's fixed part takes.
-// Assumes nothing.
+// payload; its constructor `cursor` gives the stretch of a file that the payload's fixed part takes. The
+// Head, Train and Call of an old book have other lengths, so they are types of their own. A time is the
+// Head's T, a train's departure, a call's first or last. Assumes nothing.
 pub mod bytes;
 
 ghost use mathlib.Core.Path.{_≡_};
-ghost use Prim.Native.Nat.{ℕ, _+_, _≤_, _<_};
+ghost use Prim.Native.Nat.{ℕ, _+_, _*_, _≤_, _<_};
 ghost use lib.ListN.{length, drop};
 ghost use Rattle.spec.specs.Frames as frames;
 ghost use Rattle.spec.specs.Lists.{one, _when_, firstFault};
 ghost use Rattle.spec.specs.Numbers.{field};
-ghost use Rattle.frames.specs.Framed.{framedAt, framedRefusal, kindSaid, outOfOrderBy};
+ghost use Rattle.frames.specs.Framed.{formatOf, framedAt, framedRefusal, kindSaid, outOfOrderBy};
 
 // How many bytes a frame has ahead of its payload: the payload's length and the kind.
 pub const OPENING: usize = 4;
@@ -18,8 +19,26 @@ pub const OPENING: usize = 4;
 // How many bytes a literal or a hint has.
 pub const NUMBER: usize = 4;
 
-// How many bytes a time has.
-pub const TIME: usize = 1;
+// The formats of book files: the one in force, and the one before it, which is still read to be rewritten.
+pub enum Format {
+    Now,
+    Old,
+}
+
+// How many bytes a time has, and had in an old book.
+pub const TIME: usize = 2;
+
+pub const OLD_TIME: usize = 1;
+
+// How many bytes a time has in a format.
+pub fn time_width(format: Format) -> usize
+    ensures { λ r. ⌜ r ≡ formatOf format .timeWidth ⌝ }
+{
+    match format {
+        Format::Now => TIME,
+        Format::Old => OLD_TIME,
+    }
+}
 
 // The stretch of a file from `at` up to `end`.
 pub struct Cursor {
@@ -111,9 +130,6 @@ impl TrainFrame {
 
     pub const LEN: usize = 5 + TIME;
 
-    // Where the count n stands: the fixed part's last byte.
-    pub const COUNT_AT: usize = 4 + TIME;
-
     // The stretch of the payload's fixed part, from the payload's place on.
     pub fn cursor(at: usize) -> Cursor
         requires { do ⌜ at + (← ⟦TrainFrame::LEN⟧) < 0x1_0000_0000_0000_0000 ⌝ }
@@ -183,6 +199,99 @@ impl EndFrame {
     }
 }
 
+// The Head of an old book.
+pub struct OldHeadFrame {}
+
+impl OldHeadFrame {
+    pub const KIND: usize = HeadFrame::KIND;
+
+    pub const LEN: usize = 4 + OLD_TIME;
+
+    // The stretch of the payload, from the payload's place on.
+    pub fn cursor(at: usize) -> Cursor
+        requires { do ⌜ at + (← ⟦OldHeadFrame::LEN⟧) < 0x1_0000_0000_0000_0000 ⌝ }
+        ensures { λ r. do ⌜ (r .at ≡ at) × (r .end ≡ at + (← ⟦OldHeadFrame::LEN⟧ .entry)) ⌝ }
+    {
+        Cursor {
+            at,
+            end: at + Self::LEN,
+        }
+    }
+}
+
+// A Train of an old book.
+pub struct OldTrainFrame {}
+
+impl OldTrainFrame {
+    pub const KIND: usize = TrainFrame::KIND;
+
+    pub const LEN: usize = 5 + OLD_TIME;
+
+    // The stretch of the payload's fixed part, from the payload's place on.
+    pub fn cursor(at: usize) -> Cursor
+        requires { do ⌜ at + (← ⟦OldTrainFrame::LEN⟧) < 0x1_0000_0000_0000_0000 ⌝ }
+        ensures { λ r. do ⌜ (r .at ≡ at) × (r .end ≡ at + (← ⟦OldTrainFrame::LEN⟧ .entry)) ⌝ }
+    {
+        Cursor {
+            at,
+            end: at + Self::LEN,
+        }
+    }
+}
+
+// A Call of an old book.
+pub struct OldCallFrame {}
+
+impl OldCallFrame {
+    pub const KIND: usize = CallFrame::KIND;
+
+    pub const LEN: usize = 2 + 2 * OLD_TIME;
+
+    // The stretch of the payload, from the payload's place on.
+    pub fn cursor(at: usize) -> Cursor
+        requires { do ⌜ at + (← ⟦OldCallFrame::LEN⟧) < 0x1_0000_0000_0000_0000 ⌝ }
+        ensures { λ r. do ⌜ (r .at ≡ at) × (r .end ≡ at + (← ⟦OldCallFrame::LEN⟧ .entry)) ⌝ }
+    {
+        Cursor {
+            at,
+            end: at + Self::LEN,
+        }
+    }
+}
+
+// Where a Head's payload ends that begins at a place, by its format.
+pub fn head_end(format: Format, at: usize) -> usize
+    requires { ⌜ at < 0x8000_0000_0000_0000 ⌝ }
+    ensures { λ r. ⌜ r ≡ at + (4 + formatOf format .timeWidth) ⌝ }
+{
+    match format {
+        Format::Now => HeadFrame::cursor(at).end,
+        Format::Old => OldHeadFrame::cursor(at).end,
+    }
+}
+
+// Where a Train's fixed part ends.
+pub fn train_end(format: Format, at: usize) -> usize
+    requires { ⌜ at < 0x8000_0000_0000_0000 ⌝ }
+    ensures { λ r. ⌜ r ≡ at + frames.trainFixed (formatOf format) ⌝ }
+{
+    match format {
+        Format::Now => TrainFrame::cursor(at).end,
+        Format::Old => OldTrainFrame::cursor(at).end,
+    }
+}
+
+// Where a Call's payload ends.
+pub fn call_end(format: Format, at: usize) -> usize
+    requires { ⌜ at < 0x8000_0000_0000_0000 ⌝ }
+    ensures { λ r. ⌜ r ≡ at + (2 + 2 * formatOf format .timeWidth) ⌝ }
+{
+    match format {
+        Format::Now => CallFrame::cursor(at).end,
+        Format::Old => OldCallFrame::cursor(at).end,
+    }
+}
+
 // A step of a refutation. LEN is the fixed part; the literals and the hints stand behind it.
 pub struct StepFrame {}
 
@@ -213,12 +322,15 @@ pub fn pair(s: &[u8], at: usize) -> usize
     low + 256 * high
 }
 
-// The time at a place.
-pub fn time(s: &[u8], at: usize) -> usize
-    requires { ⌜ at + frames.bookFormat .timeWidth ≤ length (now s) ⌝ }
-    ensures { λ r. ⌜ (r ≡ field (now (s .entry)) at (frames.bookFormat .timeWidth)) × (r < 65536) ⌝ }
+// The time at a place of a payload, in as many bytes as its format has for it.
+pub fn time(format: Format, s: &[u8], at: usize) -> usize
+    requires { ⌜ at + formatOf format .timeWidth ≤ length (now s) ⌝ }
+    ensures { λ r. ⌜ (r ≡ field (now (s .entry)) at (formatOf format .timeWidth)) × (r < 65536) ⌝ }
 {
-    s[at] as usize
+    match format {
+        Format::Now => pair(s, at),
+        Format::Old => s[at] as usize,
+    }
 }
 
 // What stands at a place of a file: a whole frame, with its kind and its payload's length, or no

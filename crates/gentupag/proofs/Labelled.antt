@@ -4,11 +4,10 @@ use borrow.Author.Tests.{eq-eqb, ne-eqb, lt-leb, le-leb}
 use mathlib.Core.Path.{_≡_, refl, sym, ap, _∙_}
 use mathlib.Core.Bool.{Bool, true, false}
 use Prim.Native.Nat.{ℕ, _≤_, _<_}
-use native.Mathlib.Nat.{zero-add}
 use native.Mathlib.Omega.{arith}
-use mathlib.Core.List.{List, _++_}
-use lib.ListN.{length, getD, take, drop, length-map}
-use lib.Seq.{sets, sets-eq, length-sets}
+use mathlib.Core.List.{List}
+use lib.ListN.{length, getD, take, length-map}
+use lib.Seq.{sets, length-sets}
 use lib.Dec.{ltb}
 use Rattle.model.specs.declared.Book.{Book as BookStruct}
 use Rattle.spec.specs.Lists.{Bytes, all, upTo, Verdict, refused, andThen}
@@ -74,12 +73,6 @@ module _ (b : BookStruct) (p : Passed b) (borders : Bytes) (old : List ℕ) (roo
   labels-small s l =
       let below = plan-labelled b p borders old room e .below s (omega (arith, segments-is b p)) in
       omega (arith, segments-is b p, p .packed .counts .segments)
-
--- ---- bytes stored from the start on
-
-pub stored-first : (old new : Bytes) → length new ≤ length old → sets old 0 new ≡ overwrite old new
-unfolding overwrite
-stored-first old new h = sets-eq new old 0 (omega arith) ∙ ap (λ (n : ℕ). new ++ drop n old) (zero-add (length new))
 
 -- ---- what is answered and left in the output
 

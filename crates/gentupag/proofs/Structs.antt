@@ -4,7 +4,7 @@ use Rattle.spec.specs.Lists.{Bytes, Verdict, accepted, refused}
 use Rattle.spec.specs.Book.{Book}
 use Rattle.spec.specs.Entry.{Written}
 use Rattle.reader.specs.BookAnswers.{answerOf, bookReadOf}
-use Rattle.checking.specs.OutputAnswers.{outputAnswer}
+use Rattle.reader.specs.OutputAnswers.{outputAnswer}
 use Rattle.writing.specs.FormulaAnswers.{formulaAnswer}
 use Rattle.gentupag.specs.Answers.{verdictShown, outputShown, totalsShown, verdictOf, outputOf, totalsOf}
 

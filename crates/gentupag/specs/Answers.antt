@@ -7,8 +7,8 @@ use Rattle.spec.specs.Library as library
 use Rattle.spec.specs.Held.{padded}
 use Rattle.reader.specs.declared.reading.Answer.{Answer}
 use Rattle.reader.specs.declared.reading.Answer.the-variants as answers
-use Rattle.checking.specs.declared.OutputAnswer.{OutputAnswer}
-use Rattle.checking.specs.declared.OutputAnswer.the-variants as outputs
+use Rattle.reader.specs.declared.reading.OutputAnswer.{OutputAnswer}
+use Rattle.reader.specs.declared.reading.OutputAnswer.the-variants as outputs
 use Rattle.writing.specs.declared.FormulaAnswer.{FormulaAnswer}
 use Rattle.writing.specs.declared.FormulaAnswer.the-variants as formulas
 use Rattle.gentupag.specs.declared.answers.Verdict.{Verdict as VerdictStruct}

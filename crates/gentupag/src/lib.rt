@@ -13,15 +13,16 @@ use answers::Sizes;
 use answers::Totals;
 use answers::Variable;
 use answers::Verdict;
-use checking::OutputAnswer;
 use checking::check_assignment;
 use checking::check_plan;
 use labels::label_book;
 use reader::reading::Answer;
+use reader::reading::OutputAnswer;
 use reader::reading::read_book;
 use refutations::check_refutation;
 use runs::run_of;
 use sizes::measure_book;
+use upgrading::upgrade_book;
 use variables::variable_of;
 use writing::FormulaAnswer;
 use writing::write_formula;
@@ -30,6 +31,7 @@ ghost use lib.ListN.{length};
 ghost use lib.IntN.{pos};
 ghost use Rattle.spec.specs.Read.{readBook};
 ghost use Rattle.spec.specs.Entry.{zeroed, writeFormula, formulaOutput, checkAssignment, planOutput, checkPlan, assignmentOutput, checkRefutation};
+ghost use Rattle.spec.specs.Upgrade.{upgradeBook, upgradeOutput};
 ghost use Rattle.spec.specs.Library.{measureBook, labelSections, labelsOutput, askRun, askVariable};
 ghost use Rattle.refutations.specs.Lent.{lengths};
 ghost use Rattle.gentupag.specs.Answers.{verdictShown, outputShown, totalsShown, verdictOf, outputOf, totalsOf, sizesAnswer, runAnswer, variableAnswer};
@@ -183,4 +185,14 @@ pub extern "C" fn gentupag_explain_variable(book: &[u8], variable: usize) -> Var
     ensures { λ r. ⌜ r ≡ variableAnswer (askVariable (now (book .entry)) variable) ⌝ }
 {
     variable_of(book, variable)
+}
+
+// An old book rewritten in the format in force, in the output.
+#[no_mangle]
+pub extern "C" fn gentupag_upgrade_book(old: &[u8], out: &mut [u8]) -> Output
+    ensures { λ r. ⌜ (r ≡ outputOf (upgradeBook (now (old .entry)) (length (now (out .entry)))))
+        × (now (out .exit) ≡ upgradeOutput (now (old .entry)) (now (out .entry))) ⌝ }
+{
+    let answer = upgrade_book(old, out);
+    output_from(answer)
 }

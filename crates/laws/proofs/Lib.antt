@@ -6,3 +6,4 @@ pub mod Parts
 pub mod Arrays
 pub mod Loops
 pub mod Least
+pub mod Stores

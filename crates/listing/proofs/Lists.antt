@@ -4,13 +4,11 @@ use mathlib.Core.Path.{_≡_, refl, sym, ap, ap₂, _∙_, subst}
 use mathlib.Core.Logic.{_⊎_, inl, inr, ⊎-elim}
 use mathlib.Core.Bool.{Bool, true, false}
 use Prim.Native.Nat.{ℕ, zero, suc, _+_, _-_, _≤_, _<_}
-use native.Mathlib.Nat.{add-zero, add-suc, suc-add}
 use native.Mathlib.Omega.{arith}
 use native.Mathlib.Numerals.{add-one}
 use mathlib.Core.List.{List, [], _∷_, _++_, map, append-nil}
-use lib.ListN.{length, getD, set, take, replicate, length-append, length-set, length-replicate}
-use lib.Seq.{sets, length-sets, length-take-le, take-append-seam, take-all, take-nil, take-append-le, take-append-add}
-use lib.Seq.{getD-set-same, getD-set-other}
+use lib.ListN.{length, take, replicate, length-append, length-replicate}
+use lib.Seq.{length-sets, length-take-le, take-append-seam, take-all, take-nil, take-append-le, take-append-add}
 use lib.Dec.{T, leb, leb→le, le→leb}
 use Rattle.spec.specs.Lists.{Bytes, count, upTo, range, each, one, all, has, lastOr}
 use Rattle.model.specs.declared.Book.{Book as BookStruct}
@@ -20,32 +18,11 @@ use Rattle.spec.specs.Held.{padded, held, CountsFit}
 use Rattle.laws.proofs.Tests.{and-iff, leb-iff, all-iff, all-upTo, le-or-lt}
 use Rattle.laws.proofs.Rows.{all-one, all-each}
 use Rattle.laws.proofs.Parts.{upTo-split, upTo-suc, each-append}
+use Rattle.laws.proofs.Stores.{sets-append}
 use Rattle.listing.specs.declared.Path.{Path}
 use Rattle.listing.specs.Listed.{pathOf, packedPath, successorsBy, extendBy}
 use Rattle.listing.specs.Listed.{entryBytes, entryAt, entryOf, keptOf, runsAfter, countAfter}
 use Rattle.listing.proofs.Leaves.{runs-full}
-
--- ---- stores in a row
-
-module _ {ℓ} {A : Type ℓ} where
-  pub sets-append : (l : List A) (i : ℕ) (us vs : List A) → sets l i (us ++ vs) ≡ sets (sets l i us) (i + length us) vs
-  sets-append l i [] vs = simp add-zero
-  sets-append l i (u ∷ us) vs = sets-append (set l i u) (suc i) us vs ∙ simp (add-suc, suc-add)
-
-  -- what lies before them is as it was
-  pub getD-sets-below : (l : List A) (i : ℕ) (vs : List A) (k : ℕ) (d : A) → k < i → getD (sets l i vs) k d ≡ getD l k d
-  getD-sets-below l i [] k d h = refl
-  getD-sets-below l i (v ∷ vs) k d h =
-      getD-sets-below (set l i v) (suc i) vs k d (omega arith) ∙ getD-set-other l i k v d (omega arith)
-
-  -- what they stored is there
-  pub getD-sets-in : (l : List A) (i : ℕ) (vs : List A) (j : ℕ) (d : A) → j < length vs → i + length vs ≤ length l
-      → getD (sets l i vs) (i + j) d ≡ getD vs j d
-  getD-sets-in l i [] j d h k = let no′ : ⊥ = omega arith in absurd no′
-  getD-sets-in l i (v ∷ vs) zero d h k =
-      simp add-zero (getD-sets-below (set l i v) (suc i) vs i d (omega arith) ∙ getD-set-same l i v d (omega arith))
-  getD-sets-in l i (v ∷ vs) (suc j) d h k =
-      simp (add-suc, ← suc-add) (getD-sets-in (set l i v) (suc i) vs j d (omega arith) (rw length-set (omega arith)))
 
 -- ---- runs that are kept behind runs
 

@@ -2,8 +2,8 @@
 // joins and calls are these very structs; a train's place and the book's rows are, there, lists of
 // the length that stands beside the array here. There are no functions, so nothing is to prove.
 
-// The limits of document 01, each once in code: the contracts of the functions that test them tie them to
-// the specification's. MAX_CALLS is a train's, MAX_REACH the greatest l and k.
+// The limits of document 01, and T's of document 02, each once in code: the contracts of the functions
+// that test them tie them to the specification's. MAX_CALLS is a train's, MAX_REACH the greatest l and k.
 pub const MAX_NODES: usize = 96;
 
 pub const MAX_SEGMENTS: usize = 64;
@@ -14,7 +14,10 @@ pub const MAX_TRAINS: usize = 8;
 
 pub const MAX_CALLS: usize = 4;
 
-pub const MAX_INTERVALS: usize = 32;
+pub const MAX_INTERVALS: usize = 256;
+
+// The greatest T of an old book.
+pub const OLD_INTERVALS: usize = 32;
 
 pub const MAX_TTD: usize = 63;
 

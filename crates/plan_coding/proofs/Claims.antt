@@ -24,7 +24,7 @@ use Rattle.laws.proofs.Rows.{any-map}
 use Rattle.laws.proofs.Parts.{length-each, length-upTo, map-same, each-same}
 use Rattle.demands.proofs.Encoding.{length-encode}
 use Rattle.demands.proofs.Extra.{extra-length}
-use Rattle.listing.proofs.Lists.{sets-append}
+use Rattle.laws.proofs.Stores.{sets-append}
 use Rattle.tables.proofs.Small.{segments-is, all-variables}
 use Rattle.plan_rules.specs.declared.apart.Stretch.{Stretch}
 use Rattle.plan_rules.specs.Marks.{PlanLabelled, stretchOf, labelsOf, isMarked, marking, touched}

@@ -15,7 +15,8 @@ use Rattle.spec.specs.Entry.{overwrite}
 use Rattle.laws.proofs.Numbers.{length-littleEndian}
 use Rattle.laws.proofs.Parts.{length-each, sum-constant, length-upTo}
 use Rattle.demands.proofs.Encoding.{length-plan}
-use Rattle.listing.proofs.Lists.{sets-append, each-next}
+use Rattle.laws.proofs.Stores.{sets-append}
+use Rattle.listing.proofs.Lists.{each-next}
 use Rattle.plan_coding.specs.Decoded.{borderBytes, trainBytes}
 
 -- ---- rows

@@ -2,6 +2,7 @@
 // interval the number of the run whose variable is 1, 65535 where gone is 1, 65534 where neither is.
 // Assumes nothing.
 use clauses::value;
+use frames::bytes::put_pair;
 use layout::blocks::block_at;
 use layout::blocks::train_block;
 use layout::moves::ABSENT;
@@ -14,7 +15,6 @@ ghost use mathlib.Core.Path.{_≡_};
 ghost use Prim.Native.Nat.{_+_, _≤_, _<_};
 ghost use lib.ListN.{length};
 ghost use lib.Seq.{sets};
-ghost use Rattle.spec.specs.Numbers.{littleEndian};
 ghost use Rattle.spec.specs.Read.{maxRuns};
 ghost use Rattle.spec.specs.Instance.{instanceOf};
 ghost use Rattle.spec.specs.Plan.{moveAt, planLength};
@@ -58,15 +58,6 @@ fn code_of(base: usize, n: usize, values: &[u8]) -> usize
     ABSENT
 }
 
-// Stores a number in two bytes, the lower one first.
-fn put_code(at: usize, code: usize, out: &mut [u8])
-    requires { ⌜ (at + 2 ≤ length (now out)) × (code < 65536) ⌝ }
-    ensures { λ _. ⌜ now (out .exit) ≡ sets (now (out .entry)) at (littleEndian 2 code) ⌝ }
-{
-    out[at] = (code % 256) as u8;
-    out[at + 1] = (code / 256) as u8;
-}
-
 // Stores the numbers of a train's intervals, each in its place of the plan.
 fn decode_train(b: Book, counts: Counts, train: usize, values: &[u8], out: &mut [u8])
     requires { ⌜ Counted b counts × (train < b .«train_count») × (planLength (instanceOf (held b)) ≤ length (now out)) ⌝ }
@@ -79,7 +70,8 @@ fn decode_train(b: Book, counts: Counts, train: usize, values: &[u8], out: &mut 
     while interval < intervals {
         let block = block_at(b, first, interval);
         let code = code_of(block.base, block.runs, values);
-        put_code(move_place(b, train, interval), code, out);
+        let at = move_place(b, train, interval);
+        put_pair(out, at, code);
         interval += 1;
     }
 }

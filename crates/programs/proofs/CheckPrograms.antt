@@ -1,12 +1,13 @@
--- What the programs print of a book and a second input is the specification's: from the parts of both that a program holds, and
--- with the slices that it lends. Assumes nothing.
+-- What the programs print of a book and a second input, and of an old book, is the specification's: from the parts of them that a
+-- program holds, and with the slices that it lends. Assumes nothing.
 use mathlib.Core.Path.{_≡_, refl, ap, ap₂, _∙_}
 use mathlib.Core.Bool.{Bool, true, false, _||_}
 use Prim.Native.Nat.{ℕ}
 use native.Mathlib.Omega.{arith}
 use Rattle.spec.specs.Lists.{Bytes, Verdict, accepted, refused, andThen}
 use Rattle.spec.specs.Entry.{checkRefutation}
-use Rattle.spec.specs.Programs.{sliceBytes, sliceOf, programLent, isLong, unlessLong, acceptedLine, printed, printAssignment, printPlan, printRefutation}
+use Rattle.spec.specs.Upgrade.{upgradeBook}
+use Rattle.spec.specs.Programs.{sliceBytes, sliceOf, programLent, isLong, unlessLong, acceptedLine, printed, printAssignment, printPlan, printRefutation, printUpgrade}
 use Rattle.programs.proofs.FormulaProgram.{held, held-whole, unless-same}
 use Rattle.programs.specs.declared.verdicts.Check.{Check}
 use Rattle.programs.specs.declared.verdicts.Check.the-variants.{Assignment, Plan, Refutation}
@@ -56,3 +57,11 @@ module _ (book s : Bytes) where
   pub refutation-printed : printed (λ _. acceptedLine) (verdict Refutation) ≡ printRefutation book s
   unfolding verdictOf printRefutation line
   refutation-printed = ap line (whole Refutation) ∙ bare-line long (checkRefutation book s programLent)
+
+-- what upgrade_book prints of an old book
+pub upgrade-printed : (old : Bytes) → printed (λ _. acceptedLine) (unlessLong (isLong old) (upgradeBook (held old) 65536)) ≡ printUpgrade old
+unfolding printUpgrade line
+upgrade-printed old =
+    ap line
+    (unless-same (isLong old) λ h.
+    ap (λ (s : Bytes). upgradeBook s 65536) (held-whole old h) ∙ ap (upgradeBook old) output-lent)

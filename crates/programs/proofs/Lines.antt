@@ -6,8 +6,8 @@ use lib.Seq.{sets}
 use Rattle.spec.specs.Lists.{Bytes, Verdict, accepted, refused, andThen}
 use Rattle.spec.specs.Entry.{overwrite, written}
 use Rattle.spec.specs.Programs.{acceptedLine, printed}
-use Rattle.checking.specs.declared.OutputAnswer.{OutputAnswer}
-use Rattle.checking.specs.OutputAnswers.{outputAnswer}
+use Rattle.reader.specs.declared.reading.OutputAnswer.{OutputAnswer}
+use Rattle.reader.specs.OutputAnswers.{outputAnswer}
 use Rattle.reader.specs.declared.reading.Answer.{Answer}
 use Rattle.reader.specs.BookAnswers.{answerOf}
 use Rattle.programs.specs.declared.verdicts.Said.{Said}

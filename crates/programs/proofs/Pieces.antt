@@ -14,7 +14,7 @@ use borrow.Author.Tests.{lt-leb, le-leb}
 use Rattle.spec.specs.Lists.{Bytes, one, each}
 use Rattle.laws.proofs.Parts.{each-append}
 use Rattle.programs.specs.Text.{wordText, wordsText, taken}
-use Rattle.programs.proofs.Stores.{Stored, stored-none, stored-behind, stored-same}
+use Rattle.laws.proofs.Stores.{Stored, stored-none, stored-behind, stored-same}
 
 -- ---- how many words are taken
 

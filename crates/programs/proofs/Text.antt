@@ -68,3 +68,7 @@ taken-le room (l ∷ ls) =
     (λ h. omega (arith, taken-next room l ls h, taken-le (room - length (wordText l)) ls))
     (λ h. omega (arith, taken-none room (l ∷ ls) h))
     (le-or-lt 24 room)
+
+-- two numbers on a line
+pub in-line : (front a b : Bytes) → (((front ++ a) ++ one 32) ++ b) ++ one 10 ≡ front ++ (a ++ (32 ∷ (b ++ one 10)))
+in-line front a b = simp append-assoc

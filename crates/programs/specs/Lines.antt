@@ -2,8 +2,8 @@
 use Prim.Native.Nat.{ℕ}
 use Rattle.spec.specs.Lists.{Bytes}
 use Rattle.spec.specs.Programs.{acceptedLine, refusalLine}
-use Rattle.checking.specs.declared.OutputAnswer.{OutputAnswer}
-use Rattle.checking.specs.declared.OutputAnswer.the-variants.{Wrote, Refused}
+use Rattle.reader.specs.declared.reading.OutputAnswer.{OutputAnswer}
+use Rattle.reader.specs.declared.reading.OutputAnswer.the-variants.{Wrote, Refused}
 use Rattle.reader.specs.declared.reading.Answer.{Answer}
 use Rattle.reader.specs.declared.reading.Answer.the-variants as plain
 

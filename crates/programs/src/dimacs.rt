@@ -1,35 +1,15 @@
 // The formula's text and the line of a refusal, written into a buffer. The words' text may be longer
 // than the buffer: it is written in pieces, as many words at a time as fit. Assumes nothing.
+use frames::bytes::put;
+use frames::bytes::put_bytes;
 ghost use mathlib.Core.Path.{_≡_};
 ghost use Prim.Native.Nat.{_+_, _≤_};
-ghost use lib.ListN.{length, set, take, drop};
+ghost use lib.ListN.{length, take, drop};
 ghost use lib.Seq.{sets};
 ghost use lib.IntN.{natAbs};
 ghost use Rattle.spec.specs.Numbers.{decimal};
 ghost use Rattle.spec.specs.Programs.{refusalLine};
 ghost use Rattle.programs.specs.Text.{wordText, wordsText, taken, headerText};
-
-// Stores a byte where the buffer has room.
-fn put(buf: &mut [u8], at: usize, x: u8)
-    ensures { λ _. ⌜ now (buf .exit) ≡ set (now (buf .entry)) at x ⌝ }
-{
-    if at < buf.len() {
-        buf[at] = x;
-    }
-}
-
-// Stores bytes from a place on, as far as the buffer has room; answers where they end.
-pub fn put_bytes(buf: &mut [u8], at: usize, s: &[u8]) -> usize
-    requires { ⌜ (at ≤ 1000000000) × (length (now s) ≤ 1000) ⌝ }
-    ensures { λ r. ⌜ (r ≡ at + length (now (s .entry))) × (now (buf .exit) ≡ sets (now (buf .entry)) at (now (s .entry))) ⌝ }
-{
-    let mut i = 0;
-    while i < s.len() {
-        put(buf, at + i, s[i]);
-        i += 1;
-    }
-    at + i
-}
 
 // Stores a number's figures, base ten; answers where they end.
 fn put_number(buf: &mut [u8], at: usize, n: usize) -> usize

@@ -1,17 +1,18 @@
-// The programs over the checks: their files, and what they print. `verdict_text` makes the line of a
-// verdict, 12 first where an input is too long, and the result where there is one; its contract says that
-// these are the specification's. The other functions only read files by their names, and hand bytes to the
-// output and to a file. A slice has at most 64 KiB.
-use crate::dimacs::put_bytes;
+// The programs over the checks and the rewriter: their files, and what they print. `verdict_text` and
+// `upgrade_text` make the line of a verdict, 12 first where an input is too long, and the result where
+// there is one; their contracts say that these are the specification's. The other functions only read
+// files by their names, and hand bytes to the output and to a file. A slice has at most 64 KiB.
 use crate::dimacs::put_refusal;
 use crate::printing::Loaded;
 use crate::printing::load_from;
 use crate::printing::print;
-use checking::OutputAnswer;
 use checking::check_assignment;
 use checking::check_plan;
+use frames::bytes::put_bytes;
 use reader::reading::Answer;
+use reader::reading::OutputAnswer;
 use refutations::check_refutation;
+use upgrading::upgrade_book;
 ghost use mathlib.Core.Path.{_≡_};
 ghost use Prim.Native.Nat.{_≤_};
 ghost use lib.ListN.{length};
@@ -19,6 +20,7 @@ ghost use lib.Seq.{sets};
 ghost use lib.IntN.{pos};
 ghost use Rattle.io.specs.Counts.{Counts};
 ghost use Rattle.spec.specs.Entry.{overwrite, written, zeroed, checkAssignment, checkPlan, checkRefutation};
+ghost use Rattle.spec.specs.Upgrade.{upgradeBook};
 ghost use Rattle.spec.specs.Programs.{programLent, unlessLong};
 ghost use Rattle.refutations.specs.Lent.{lengths};
 ghost use Rattle.programs.specs.Lines.{answerLine, resultLength};
@@ -151,6 +153,20 @@ pub fn verdict_text(
     }
 }
 
+// What upgrade_book says of an old book: the same, with the new book as the result.
+pub fn upgrade_text(old: &[u8], long: bool, out: &mut [u8], line: &mut [u8]) -> Said
+    requires { ⌜ length (now line) ≡ 64 ⌝ }
+    ensures { λ r. ⌜ Tells (unlessLong long (upgradeBook (now (old .entry)) (length (now (out .entry)))))
+        (now (line .entry)) (now (line .exit)) r
+        × (now (out .exit) ≡ overwrite (now (out .entry)) (written (unlessLong long (upgradeBook (now (old .entry)) (length (now (out .entry))))))) ⌝ }
+{
+    if long {
+        return say(OutputAnswer::Refused(12, 0), line);
+    }
+    let answer = upgrade_book(old, out);
+    say(answer, line)
+}
+
 // Reads the file of this name; where it can't be read, standard error says why.
 fn load(name: &[u8], buf: &mut [u8]) -> Loaded
     ensures { λ r. ⌜ Counts (r .len) (now (buf .exit)) ⌝ }
@@ -212,5 +228,19 @@ pub fn judge_files(check: Check, book: &[u8], second: &[u8], result: &[u8], name
         let long = a.long || b.long;
         let said = verdict_text(check, &bytes[..n], &more[..m], long, &mut out, &mut line);
         hand_out(said, &line, &out, result, named);
+    }
+}
+
+// Rewrites the old book in the file of this name into the file of the other. Where it can't be read,
+// nothing is printed.
+pub fn upgrade_file(old: &[u8], new: &[u8]) {
+    let mut bytes = io::large_buffer();
+    let a = load(old, &mut bytes);
+    if a.read {
+        let mut out = io::large_buffer();
+        let mut line = [0u8; 64];
+        let n = a.len;
+        let said = upgrade_text(&bytes[..n], a.long, &mut out, &mut line);
+        hand_out(said, &line, &out, new, true);
     }
 }

@@ -10,3 +10,5 @@ pub mod Whole
 pub mod Way
 pub mod Accepted
 pub mod Verdicts
+pub mod Formed
+pub mod Outputs

@@ -41,6 +41,14 @@ pub settled-fine : (o : Option ℕ) (b next : Book) → settled o b next .checke
 settled-fine (some m) b next e = never cc
 settled-fine none b next e = (refl, refl)
 
+-- the payload of a whole frame at a place
+pub payload-here : (s : Bytes) (at kind len : ℕ) → framedAt (drop at s) ≡ Whole kind len
+    → take (at + 4 + len - (at + 4)) (drop (at + 4) s) ≡ payloadOf (drop at s)
+unfolding payloadOf
+payload-here s at kind len whole =
+    let size : at + 4 + len - (at + 4) ≡ payloadLength (drop at s) = omega (arith, whole-says (drop at s) kind len whole .2) in
+    ap₂ (λ (n : ℕ) (l : Bytes). take n l) size (sym (drop-drop 4 at s))
+
 module _ (F : Format) (b : BookStruct) (w : Packed b) (last : ℕ) (s : Bytes) (at kind len : ℕ)
     (whole : framedAt (drop at s) ≡ Whole kind len) where
   abbrev here : Reading
@@ -52,13 +60,7 @@ module _ (F : Format) (b : BookStruct) (w : Packed b) (last : ℕ) (s : Bytes) (
   says : (cutShort (drop at s) ≡ false) × (kindField (drop at s) ≡ kind) × (payloadLength (drop at s) ≡ len)
   says = whole-says (drop at s) kind len whole
 
-  -- the payload, and how much stands behind it
-  pub payload-here : take (at + 4 + len - (at + 4)) (drop (at + 4) s) ≡ payloadOf (drop at s)
-  unfolding payloadOf
-  payload-here =
-      let size : at + 4 + len - (at + 4) ≡ payloadLength (drop at s) = omega (arith, says .2) in
-      ap₂ (λ (n : ℕ) (l : Bytes). take n l) size (sym (drop-drop 4 at s))
-
+  -- how much stands behind it
   behind-here : length (behind (drop at s)) ≡ length s - (at + 4 + len)
   unfolding behind
   behind-here = length-drop (4 + payloadLength (drop at s)) (drop at s) ∙ omega (arith, length-drop at s, says .2)
@@ -109,7 +111,7 @@ module _ (F : Format) (b : BookStruct) (w : Packed b) (last : ℕ) (s : Bytes) (
     answered =
         answer
         ∙ ap₂ (addedFound F (held b)) (ap kindIn found ∙ in-said (findKind kind kindOrder) ∙ ap (λ n. findKind n kindOrder) (sym (says .1)))
-        payload-here
+        (payload-here s at kind len whole)
 
     pub refused-here : (n : ℕ) → a .checked ≡ Refused n → firstFault (frameFaults F here (drop at s)) ≡ some n
     unfolding addedFound

@@ -4,12 +4,11 @@ use mathlib.Core.Option.{Option, none, some}
 use Prim.Native.Nat.{ℕ, _≤_, _<_}
 use Rattle.model.specs.declared.Book.{Book as BookStruct}
 use Rattle.model.specs.declared.Train.{Train as TrainStruct}
-use mathlib.Core.List.{List}
-use lib.ListN.{length, drop, replicate}
+use lib.ListN.{length, replicate}
 use lib.Dec.{T, ltb}
 use Rattle.spec.specs.Lists.{Bytes, all, firstFault}
 use Rattle.spec.specs.Numbers.{field}
-use Rattle.spec.specs.Frames.{Format, bookFormat, trainFixed, Kind}
+use Rattle.spec.specs.Frames.{Format, Kind}
 use Rattle.spec.specs.Book.{Book, callsOf}
 use Rattle.spec.specs.Read.{contentFaults, add, maxCalls, maxReach, maxTrains}
 use Rattle.spec.specs.Held.{held, packed, CountsFit, NumbersFit}
@@ -25,10 +24,6 @@ settled (some n) b next = record { checked = Refused n; book = packed b }
 unfoldable pub added : Format → Kind → Book → Bytes → Added
 added f k b p = settled (firstFault (contentFaults f b k p)) b (add f b k p)
 
--- the directed segments that a Train's payload gives, behind its fixed part
-abbrev pub placeSaid : Bytes → List ℕ
-placeSaid p = drop (trainFixed bookFormat) p
-
 -- the struct is the one that holds its book: zeros stand behind each row
 pub record Packed (b : BookStruct) : Type 0 where
   pub same : b ≡ packed (held b)
@@ -42,10 +37,10 @@ pub record CallsFew (b : Book) : Type 0 where
   pub trains : length (b .trains) ≤ maxTrains
 
 -- the train's numbers are those of a Train's payload; its place is still to be read
-pub record NumbersOf (p : Bytes) (t : TrainStruct) : Type 0 where
+pub record NumbersOf (f : Format) (p : Bytes) (t : TrainStruct) : Type 0 where
   pub metres : t .metres ≡ field p 0 2
   pub speed : t .speed ≡ field p 2 2
-  pub departure : t .departure ≡ field p 4 (bookFormat .timeWidth)
+  pub departure : t .departure ≡ field p 4 (f .timeWidth)
   pub metresFit : t .metres < 65536
   pub speedFit : t .speed < 65536
   pub size : t .size ≡ 0

@@ -1,19 +1,18 @@
 // The content of a book's frames: 5 to 9 for each kind, and what the frame adds to the book. Each `add_`
 // takes a payload of its kind's length and answers the refusal's number beside the book unchanged, or
 // the book with what the frame adds. Assumes nothing.
-use frames::CallFrame;
-use frames::HeadFrame;
+use frames::Format;
 use frames::JoinFrame;
 use frames::NodeFrame;
 use frames::SegmentFrame;
-use frames::TIME;
-use frames::TrainFrame;
 use frames::UnbreakableFrame;
 use frames::bytes::all_below;
 use frames::bytes::place_of;
 use frames::bytes::wide;
 use frames::pair;
 use frames::time;
+use frames::time_width;
+use frames::train_end;
 use model::Book;
 use model::Call;
 use model::Join;
@@ -25,6 +24,7 @@ use model::MAX_REACH;
 use model::MAX_SEGMENTS;
 use model::MAX_TRAINS;
 use model::MAX_TTD;
+use model::OLD_INTERVALS;
 use model::Segment;
 use model::Train;
 use network::calls::calls_of;
@@ -37,15 +37,16 @@ use network::track::speed_in_segments;
 use network::track::touches;
 ghost use mathlib.Core.Path.{_≡_};
 ghost use mathlib.Core.Bool.{_&&_};
-ghost use Prim.Native.Nat.{_*_, _≤_, _<_};
+ghost use Prim.Native.Nat.{_+_, _*_, _≤_, _<_};
 ghost use lib.Dec.{T, eqb, ltb};
-ghost use lib.ListN.{length};
+ghost use lib.ListN.{length, drop};
 ghost use Rattle.spec.specs.Runs as runs;
 ghost use Rattle.spec.specs.Lists as lists;
 ghost use Rattle.spec.specs.Frames as frames;
 ghost use Rattle.spec.specs.Read as read;
+ghost use Rattle.frames.specs.Framed.{formatOf};
 ghost use Rattle.spec.specs.Held.{held, heldTrain, CountsFit, NumbersFit};
-ghost use Rattle.reader.specs.Added.{added, placeSaid, Packed, CallsFew, NumbersOf};
+ghost use Rattle.reader.specs.Added.{added, Packed, CallsFew, NumbersOf};
 
 // Whether a frame's content passes, or the number that refuses it.
 pub enum Checked {
@@ -77,15 +78,26 @@ fn fine(b: Book) -> Added
     }
 }
 
-// Head: rs, rt at least 1; T 1 to 32.
-pub fn add_head(b: Book, p: &[u8]) -> Added
-    requires { do ⌜ Packed b × (length (now p) ≡ (← ⟦HeadFrame::LEN⟧)) ⌝ }
-    ensures { λ r. ⌜ r ≡ added frames.bookFormat frames.headKind (held b) (now (p .entry)) ⌝ }
+// The greatest T of a format.
+fn most_intervals(format: Format) -> usize
+    ensures { λ r. ⌜ r ≡ formatOf format .greatestT ⌝ }
+{
+    match format {
+        Format::Now => MAX_INTERVALS,
+        Format::Old => OLD_INTERVALS,
+    }
+}
+
+// Head: rs, rt at least 1; T 1 to the format's most.
+pub fn add_head(format: Format, b: Book, p: &[u8]) -> Added
+    requires { ⌜ Packed b × (length (now p) ≡ 4 + formatOf format .timeWidth) ⌝ }
+    ensures { λ r. ⌜ r ≡ added (formatOf format) frames.headKind (held b) (now (p .entry)) ⌝ }
 {
     let metres = pair(p, 0);
     let seconds = pair(p, 2);
-    let intervals = time(p, 4);
-    if metres < 1 || seconds < 1 || intervals < 1 || MAX_INTERVALS < intervals {
+    let intervals = time(format, p, 4);
+    let most = most_intervals(format);
+    if metres < 1 || seconds < 1 || intervals < 1 || most < intervals {
         return refused(b, 6);
     }
     let mut next = b;
@@ -98,7 +110,7 @@ pub fn add_head(b: Book, p: &[u8]) -> Added
 // Node: border kind 0 to 2, at most 96.
 pub fn add_node(b: Book, p: &[u8]) -> Added
     requires { do ⌜ Packed b × (length (now p) ≡ (← ⟦NodeFrame::LEN⟧)) ⌝ }
-    ensures { λ r. ⌜ r ≡ added frames.bookFormat frames.nodeKind (held b) (now (p .entry)) ⌝ }
+    ensures { λ r. ⌜ ((f : frames.Format) → r ≡ added f frames.nodeKind (held b) (now (p .entry))) ⌝ }
 {
     let at = b.node_count;
     if MAX_NODES <= at {
@@ -127,7 +139,7 @@ fn segment_fits(b: Book, s: Segment) -> bool
 // Segment: at most 64.
 pub fn add_segment(b: Book, p: &[u8]) -> Added
     requires { do ⌜ Packed b × (length (now p) ≡ (← ⟦SegmentFrame::LEN⟧)) ⌝ }
-    ensures { λ r. ⌜ r ≡ added frames.bookFormat frames.segmentKind (held b) (now (p .entry)) ⌝ }
+    ensures { λ r. ⌜ ((f : frames.Format) → r ≡ added f frames.segmentKind (held b) (now (p .entry))) ⌝ }
 {
     let at = b.segment_count;
     if MAX_SEGMENTS <= at {
@@ -164,7 +176,7 @@ fn join_fits(b: Book, j: Join) -> bool
 // Join: at most 128, a pair at one node once.
 pub fn add_join(b: Book, p: &[u8]) -> Added
     requires { do ⌜ Packed b × (length (now p) ≡ (← ⟦JoinFrame::LEN⟧)) ⌝ }
-    ensures { λ r. ⌜ r ≡ added frames.bookFormat frames.joinKind (held b) (now (p .entry)) ⌝ }
+    ensures { λ r. ⌜ ((f : frames.Format) → r ≡ added f frames.joinKind (held b) (now (p .entry))) ⌝ }
 {
     let at = b.join_count;
     if MAX_JOINS <= at {
@@ -211,7 +223,7 @@ fn call_fits(b: Book, c: Call) -> bool
 // Unbreakable TTD: one that some segment has, and that no border may divide. It adds nothing.
 pub fn add_unbreakable(b: Book, p: &[u8]) -> Added
     requires { do ⌜ Packed b × T (lists.all (read.segmentFits (held b)) (held b .segments)) × (length (now p) ≡ (← ⟦UnbreakableFrame::LEN⟧)) ⌝ }
-    ensures { λ r. ⌜ r ≡ added frames.bookFormat frames.unbreakableKind (held b) (now (p .entry)) ⌝ }
+    ensures { λ r. ⌜ ((f : frames.Format) → r ≡ added f frames.unbreakableKind (held b) (now (p .entry))) ⌝ }
 {
     let ttd = wide(p[0]);
     if !some_has(b, ttd) {
@@ -224,15 +236,15 @@ pub fn add_unbreakable(b: Book, p: &[u8]) -> Added
 }
 
 // Call: one to four a train.
-pub fn add_call(b: Book, p: &[u8]) -> Added
-    requires { do ⌜ Packed b × CallsFew (held b) × (length (now p) ≡ (← ⟦CallFrame::LEN⟧)) ⌝ }
-    ensures { λ r. ⌜ r ≡ added frames.bookFormat frames.callKind (held b) (now (p .entry)) ⌝ }
+pub fn add_call(format: Format, b: Book, p: &[u8]) -> Added
+    requires { ⌜ Packed b × CallsFew (held b) × (length (now p) ≡ 2 + 2 * formatOf format .timeWidth) ⌝ }
+    ensures { λ r. ⌜ r ≡ added (formatOf format) frames.callKind (held b) (now (p .entry)) ⌝ }
 {
     let c = Call {
         train: p[0],
         segment: p[1],
-        first: time(p, 2),
-        last: time(p, 2 + TIME),
+        first: time(format, p, 2),
+        last: time(format, p, 2 + time_width(format)),
     };
     if MAX_CALLS <= calls_of(b, wide(c.train)) {
         return refused(b, 5);
@@ -248,60 +260,61 @@ pub fn add_call(b: Book, p: &[u8]) -> Added
 }
 
 // 6 of a Train: at least one metre, a departure below T, and directed segments that were read.
-fn train_fits(b: Book, p: &[u8]) -> bool
-    requires { ⌜ CountsFit b × (frames.trainFixed frames.bookFormat ≤ length (now p)) ⌝ }
-    ensures { λ r. ⌜ r ≡ read.trainFits (held b) (read.trainIn frames.bookFormat (now (p .entry))) ⌝ }
+fn train_fits(format: Format, b: Book, p: &[u8]) -> bool
+    requires { ⌜ CountsFit b × (frames.trainFixed (formatOf format) ≤ length (now p)) ⌝ }
+    ensures { λ r. ⌜ r ≡ read.trainFits (held b) (read.trainIn (formatOf format) (now (p .entry))) ⌝ }
 {
     1 <= pair(p, 0)
-        && time(p, 4) < b.intervals
-        && all_below(p, TrainFrame::LEN, 2 * b.segment_count)
+        && time(format, p, 4) < b.intervals
+        && all_below(p, train_end(format, 0), 2 * b.segment_count)
 }
 
 // A Train's numbers, without its place.
-fn train_numbers(p: &[u8]) -> Train
-    requires { ⌜ frames.trainFixed frames.bookFormat ≤ length (now p) ⌝ }
-    ensures { λ r. ⌜ NumbersOf (now (p .entry)) r ⌝ }
+fn train_numbers(format: Format, p: &[u8]) -> Train
+    requires { ⌜ frames.trainFixed (formatOf format) ≤ length (now p) ⌝ }
+    ensures { λ r. ⌜ NumbersOf (formatOf format) (now (p .entry)) r ⌝ }
 {
     Train {
         metres: pair(p, 0),
         speed: pair(p, 2),
-        departure: time(p, 4),
+        departure: time(format, p, 4),
         size: 0,
         place: [0u8; MAX_REACH],
     }
 }
 
 // 8: what stands behind a Train's fixed part is a path of l directed segments.
-fn place_fits(b: Book, p: &[u8], l: usize) -> bool
-    requires { ⌜ CountsFit b × (frames.trainFixed frames.bookFormat ≤ length (now p)) × (l ≤ read.maxReach)
-        × T (lists.all (λ d. ltb d (2 * b .«segment_count»)) (placeSaid (now p))) ⌝ }
-    ensures { λ r. ⌜ r ≡ (eqb (length (placeSaid (now (p .entry)))) l && runs.isPath (held b) (placeSaid (now (p .entry)))) ⌝ }
+fn place_fits(b: Book, p: &[u8], fixed: usize, l: usize) -> bool
+    requires { ⌜ CountsFit b × (fixed ≤ length (now p)) × (l ≤ read.maxReach)
+        × T (lists.all (λ d. ltb d (2 * b .«segment_count»)) (drop fixed (now p))) ⌝ }
+    ensures { λ r. ⌜ r ≡ (eqb (length (drop fixed (now (p .entry)))) l && runs.isPath (held b) (drop fixed (now (p .entry)))) ⌝ }
 {
-    p.len() - TrainFrame::LEN == l && is_path(b, place_of(p, TrainFrame::LEN), l)
+    p.len() - fixed == l && is_path(b, place_of(p, fixed), l)
 }
 
 // Train: at most 8; its place, behind the fixed part, is a path of l directed segments.
-pub fn add_train(b: Book, p: &[u8]) -> Added
-    requires { ⌜ Packed b × (1 ≤ b .«segment_metres») × (frames.trainFixed frames.bookFormat ≤ length (now p)) ⌝ }
-    ensures { λ r. ⌜ r ≡ added frames.bookFormat frames.trainKind (held b) (now (p .entry)) ⌝ }
+pub fn add_train(format: Format, b: Book, p: &[u8]) -> Added
+    requires { ⌜ Packed b × (1 ≤ b .«segment_metres») × (frames.trainFixed (formatOf format) ≤ length (now p)) ⌝ }
+    ensures { λ r. ⌜ r ≡ added (formatOf format) frames.trainKind (held b) (now (p .entry)) ⌝ }
 {
     let at = b.train_count;
     if MAX_TRAINS <= at {
         return refused(b, 5);
     }
-    if !train_fits(b, p) {
+    if !train_fits(format, b, p) {
         return refused(b, 6);
     }
-    let mut t = train_numbers(p);
+    let mut t = train_numbers(format, p);
     if !reach_fits(b, t) {
         return refused(b, 7);
     }
     let l = length_in_segments(b, t);
-    if !place_fits(b, p, l) {
+    let fixed = train_end(format, 0);
+    if !place_fits(b, p, fixed, l) {
         return refused(b, 8);
     }
     t.size = l;
-    let place = place_of(p, TrainFrame::LEN);
+    let place = place_of(p, fixed);
     t.place = place;
     let mut next = b;
     next.trains[at] = t;

@@ -1,7 +1,7 @@
 // Reading a book: the frames in file order, each through its refusals by rising number, then the
 // book's own. `read_book` is the entry point: it takes any bytes, and answers the book by value or one
-// numbered refusal; `read_runs` leaves the trains' runs, which 11 counts, in a lent table. Assumes
-// nothing.
+// numbered refusal; `read_runs` leaves the trains' runs, which 11 counts, in a lent table; `read_as` does
+// the same for a book of either format. Assumes nothing.
 use crate::content::Added;
 use crate::content::Checked;
 use crate::content::add_call;
@@ -11,23 +11,24 @@ use crate::content::add_node;
 use crate::content::add_segment;
 use crate::content::add_train;
 use crate::content::add_unbreakable;
-use frames::CallFrame;
 use frames::EndFrame;
+use frames::Format;
 use frames::Framed;
-use frames::HeadFrame;
 use frames::JoinFrame;
 use frames::Kind;
 use frames::NO_RANK;
 use frames::NodeFrame;
 use frames::OPENING;
 use frames::SegmentFrame;
-use frames::TrainFrame;
 use frames::UnbreakableFrame;
 use frames::bytes::wide;
+use frames::call_end;
 use frames::frame_at;
+use frames::head_end;
 use frames::kind_of;
 use frames::out_of_order;
 use frames::rank;
+use frames::train_end;
 use listing::TABLE_BYTES;
 use listing::list_trains;
 use model::Book;
@@ -51,14 +52,14 @@ ghost use Prim.Native.Nat.{ℕ, _+_, _-_, _≤_, _<_};
 ghost use lib.ListN.{length, take, drop};
 ghost use lib.Dec.{T, ltb};
 ghost use Rattle.spec.specs.Lists.{any, upTo, empty, firstFault, refused};
-ghost use Rattle.spec.specs.Frames.{frameHead, bookFormat};
+ghost use Rattle.spec.specs.Frames.{frameHead};
 ghost use Rattle.spec.specs.Book.{noBook, callsOf};
 ghost use Rattle.spec.specs.BookFile.{FitsFields};
 ghost use Rattle.spec.specs.Runs.{runsOf};
-ghost use Rattle.spec.specs.Read.{growing, readBook, refuseOr, bookFaults, maxRuns};
+ghost use Rattle.spec.specs.Read.{growing, readAs, readBook, refuseOr, bookFaults, maxRuns};
 ghost use Rattle.spec.specs.Held.{held, packed, CountsFit};
 ghost use Rattle.reader.specs.Added.{Packed};
-ghost use Rattle.frames.specs.Framed.{framedAt, kindIn};
+ghost use Rattle.frames.specs.Framed.{formatOf, framedAt, kindIn};
 ghost use Rattle.spec.specs.Reached.{Reached};
 ghost use Rattle.listing.specs.Listed.{tableBytes, runTable, runCounts};
 ghost use Rattle.reader.specs.BookAnswers.{bookReadOf, addedFound, steppedAt};
@@ -66,6 +67,12 @@ ghost use Rattle.reader.specs.BookAnswers.{bookReadOf, addedFound, stepp
 // A verdict: accepted, or a refusal's number and detail.
 pub enum Answer {
     Accepted,
+    Refused(usize, usize),
+}
+
+// Accepted, with so many bytes of the output written, or a refusal's number and detail.
+pub enum OutputAnswer {
+    Wrote(usize),
     Refused(usize, usize),
 }
 
@@ -145,17 +152,17 @@ fn unchanged(b: Book) -> Added
 
 // 4 to 9 of a frame whose payload stands from `at` up to `end`, by its kind, and the book after it. The
 // kind's cursor says where its payload, or the part ahead of a Train's place, has to end: 4.
-fn add_frame(b: Book, kind: Kind, s: &[u8], at: usize, end: usize) -> Added
+fn add_frame(format: Format, b: Book, kind: Kind, s: &[u8], at: usize, end: usize) -> Added
     requires { ⌜ Packed b × (at ≤ end) × (end ≤ length (now s)) × (kind ≢ Kind.Head → T (growing (held b))) ⌝ }
-    ensures { λ r. ⌜ r ≡ addedFound bookFormat (held b) (kindIn kind) (take (end - at) (drop at (now (s .entry)))) ⌝ }
+    ensures { λ r. ⌜ r ≡ addedFound (formatOf format) (held b) (kindIn kind) (take (end - at) (drop at (now (s .entry)))) ⌝ }
 {
     match kind {
         Kind::Head => {
-            let to = HeadFrame::cursor(at).end;
+            let to = head_end(format, at);
             if to != end {
                 return wrong_length(b);
             }
-            add_head(b, &s[at..to])
+            add_head(format, b, &s[at..to])
         }
         Kind::Node => {
             let to = NodeFrame::cursor(at).end;
@@ -179,18 +186,18 @@ fn add_frame(b: Book, kind: Kind, s: &[u8], at: usize, end: usize) -> Added
             add_join(b, &s[at..to])
         }
         Kind::Train => {
-            let fixed = TrainFrame::cursor(at).end;
-            if end < fixed || end != fixed + wide(s[at + TrainFrame::COUNT_AT]) {
+            let fixed = train_end(format, at);
+            if end < fixed || end != fixed + wide(s[fixed - 1]) {
                 return wrong_length(b);
             }
-            add_train(b, &s[at..end])
+            add_train(format, b, &s[at..end])
         }
         Kind::Call => {
-            let to = CallFrame::cursor(at).end;
+            let to = call_end(format, at);
             if to != end {
                 return wrong_length(b);
             }
-            add_call(b, &s[at..to])
+            add_call(format, b, &s[at..to])
         }
         Kind::Unbreakable => {
             let to = UnbreakableFrame::cursor(at).end;
@@ -232,10 +239,18 @@ fn stopped(b: Book, number: usize) -> Stepped
 }
 
 // A whole frame at a place: 2 to 9, and how reading goes on.
-fn step_whole(b: Book, last: usize, s: &[u8], at: usize, kind: usize, len: usize) -> Stepped
+fn step_whole(
+    format: Format,
+    b: Book,
+    last: usize,
+    s: &[u8],
+    at: usize,
+    kind: usize,
+    len: usize,
+) -> Stepped
     requires { ⌜ Packed b × Reached (record { last = last; book = held b }) × (framedAt (drop at (now s)) ≡ Framed.Whole kind len)
         × (at + (frameHead + len) ≤ length (now s)) ⌝ }
-    ensures { λ r. ⌜ r ≡ steppedAt bookFormat (record { last = last; book = held b }) (drop at (now (s .entry))) at ⌝ }
+    ensures { λ r. ⌜ r ≡ steppedAt (formatOf format) (record { last = last; book = held b }) (drop at (now (s .entry))) at ⌝ }
 {
     let start = at + OPENING;
     let end = start + len;
@@ -246,7 +261,7 @@ fn step_whole(b: Book, last: usize, s: &[u8], at: usize, kind: usize, len: usize
     if out_of_order(last, kind, s.len() - end) {
         return stopped(b, 3);
     }
-    let a = add_frame(b, kind_of(kind), s, start, end);
+    let a = add_frame(format, b, kind_of(kind), s, start, end);
     let checked = a.checked;
     let next = a.book;
     match checked {
@@ -271,13 +286,13 @@ fn step_whole(b: Book, last: usize, s: &[u8], at: usize, kind: usize, len: usize
 }
 
 // One frame: 1, and then the whole frame.
-fn step(b: Book, last: usize, s: &[u8], at: usize) -> Stepped
+fn step(format: Format, b: Book, last: usize, s: &[u8], at: usize) -> Stepped
     requires { ⌜ Packed b × Reached (record { last = last; book = held b }) × (at ≤ length (now s)) ⌝ }
-    ensures { λ r. ⌜ r ≡ steppedAt bookFormat (record { last = last; book = held b }) (drop at (now (s .entry))) at ⌝ }
+    ensures { λ r. ⌜ r ≡ steppedAt (formatOf format) (record { last = last; book = held b }) (drop at (now (s .entry))) at ⌝ }
 {
     match frame_at(s, at) {
         Framed::Cut => stopped(b, 1),
-        Framed::Whole { kind, len } => step_whole(b, last, s, at, kind, len),
+        Framed::Whole { kind, len } => step_whole(format, b, last, s, at, kind, len),
     }
 }
 
@@ -335,11 +350,11 @@ fn finish(b: Book, runs: &mut [u8]) -> BookRead
     }
 }
 
-// The book that the bytes hold, with its runs in the table, or one numbered refusal; beside 11 the table
-// is left free, beside another as it was.
-pub fn read_runs(s: &[u8], runs: &mut [u8]) -> BookRead
+// The book that the bytes hold in a format, with its runs in the table, or one numbered refusal; beside 11
+// the table is left free, beside another as it was.
+pub fn read_as(format: Format, s: &[u8], runs: &mut [u8]) -> BookRead
     requires { ⌜ length (now runs) ≡ tableBytes ⌝ }
-    ensures { λ r. ⌜ (r ≡ bookReadOf (readBook (now (s .entry))))
+    ensures { λ r. ⌜ (r ≡ bookReadOf (readAs (formatOf format) (now (s .entry))))
         × (r .answer ≡ Answer.Accepted → now (runs .exit) ≡ runTable (held (r .book)) (now (runs .entry)))
         × ((n d : ℕ) → r .answer ≡ Answer.Refused n d → n < 11 → now (runs .exit) ≡ now (runs .entry)) ⌝ }
 {
@@ -347,7 +362,7 @@ pub fn read_runs(s: &[u8], runs: &mut [u8]) -> BookRead
     let mut last = 0;
     let mut at = 0;
     loop {
-        let st = step(book, last, s, at);
+        let st = step(format, book, last, s, at);
         let next = st.next;
         match next {
             Next::Stop(n) => {
@@ -363,6 +378,16 @@ pub fn read_runs(s: &[u8], runs: &mut [u8]) -> BookRead
             }
         }
     }
+}
+
+// The same in the format in force.
+pub fn read_runs(s: &[u8], runs: &mut [u8]) -> BookRead
+    requires { ⌜ length (now runs) ≡ tableBytes ⌝ }
+    ensures { λ r. ⌜ (r ≡ bookReadOf (readBook (now (s .entry))))
+        × (r .answer ≡ Answer.Accepted → now (runs .exit) ≡ runTable (held (r .book)) (now (runs .entry)))
+        × ((n d : ℕ) → r .answer ≡ Answer.Refused n d → n < 11 → now (runs .exit) ≡ now (runs .entry)) ⌝ }
+{
+    read_as(Format::Now, s, runs)
 }
 
 // The entry point: the book that the bytes hold, or one numbered refusal.

@@ -8,7 +8,7 @@ use lib.ListN.{length, getD, set, drop, length-map, take-append-drop}
 use lib.Seq.{sets, sets-eq, length-sets, drop-at, getD-drop}
 use Rattle.spec.specs.Lists.{upTo}
 use Rattle.laws.proofs.Parts.{length-upTo, map-at, map-same, singles}
-use Rattle.listing.proofs.Lists.{getD-sets-in}
+use Rattle.laws.proofs.Stores.{getD-sets-in}
 use Rattle.listing.proofs.Leaves.{sets-map-next}
 
 -- a table has the first n numbers of f, and is else as it was

@@ -1,7 +1,8 @@
 -- Document 01's starred cases, and what the edits of the definitions need, as a table of what is asked and what is answered,
--- computed by one statement. Each goes through the reader, in a whole book. Assumes nothing.
+-- computed by one statement. Each goes through the reader, in a whole book; books L and M, which are old books, are rewritten
+-- first. Assumes nothing.
 use mathlib.Core.Path.{_≡_, refl}
-use Prim.Native.Nat.{ℕ, _+_, _-_}
+use Prim.Native.Nat.{ℕ}
 use mathlib.Core.List.{List, [], _∷_, _++_, map}
 use lib.ListN.{length}
 use lib.IntN.{ℤ, pos, negsuc}
@@ -20,6 +21,7 @@ use Rattle.spec.specs.Formula.{width, firstVar, base, borderVar, runVar,
 use Rattle.spec.specs.Assignment.{deny, truth, isYes, valueOf, isTrue, holds, satisfies, firstFalse, assigned, assignmentFits, firstRun, chosen, decoded, decode, claims, encode}
 use Rattle.spec.specs.Refutation.{stepPayload, fileOf, literalCount, hintCount, stepIn, variableOf, risesFrom, literalsFit, hintsFit, makeTrue, makeFalse, refuting, isNo, isOpen, clauseAt, notFalse, hinted, goThrough, followsRule, clausesFit, isBad, stepFaults, stepDetail, checkSteps, checkFile}
 use Rattle.spec.specs.Entry.{demand, findNone, readInstance, formulaWritten, writtenFor, writeFormula, formulaText, judgeAssignment, decodedFor, checkAssignment, judgePlan, afterPlan, encodedFor, checkPlan, formulaFits, refutedFor, checkRefutation}
+use Rattle.spec.specs.Upgrade.{timesAt, timeCount, timesWidened, widenedAt, widened, widenedFound, frameWidened, widenedFrom, upgraded, upgradeBook}
 use Rattle.spec.specs.Library.{RunAsked, noTrain, noRun, shown, Meaning, border, run, gone, claim, noVariable, freeNodesOf, sizesOf, measureBook, bordersFit, labelledFor, labelSections, runAmong, runAsked, askRun, meaningsIn, meanings, meaningOf, askVariable}
 use Rattle.spec.specs.Programs.{sliceBytes, sliceOf, programLent, unlessLong, isLong, acceptedLine, refusalLine, printed, printFormula, printAssignment, printPlan, printRefutation}
 
@@ -41,16 +43,34 @@ answered (refused n d) f = refusal n d
 
 -- ---- the books
 
--- Book L, as the document prints it
-bookL : Bytes
-bookL =
+-- Book L, as the document prints it: an old book; and rewritten
+oldL : Bytes
+oldL =
     0x05 ∷ 0x00 ∷ 0x01 ∷ 0x00 ∷ 0x64 ∷ 0x00 ∷ 0x0A ∷ 0x00 ∷ 0x01 ∷ 0x01 ∷ 0x00 ∷ 0x02 ∷ 0x00 ∷ 0x00 ∷ 0x01 ∷ 0x00 ∷ 0x02 ∷ 0x00 ∷ 0x00
     ∷ 0x03 ∷ 0x00 ∷ 0x03 ∷ 0x00 ∷ 0x00 ∷ 0x01 ∷ 0x00 ∷ 0x07 ∷ 0x00 ∷ 0x05 ∷ 0x00 ∷ 0x50 ∷ 0x00 ∷ 0x24 ∷ 0x00 ∷ 0x00 ∷ 0x01 ∷ 0x00
     ∷ 0x04 ∷ 0x00 ∷ 0x06 ∷ 0x00 ∷ 0x00 ∷ 0x00 ∷ 0x00 ∷ 0x01 ∷ 0x00 ∷ 0x00 ∷ 0x08 ∷ 0x00 ∷ []
 
+bookL : Bytes
+bookL = upgraded oldL
+
+-- L rewritten, byte by byte: T, the departure, first and last have a second byte, and the three lengths go up with them
+newL : Bytes
+newL =
+    0x06 ∷ 0x00 ∷ 0x01 ∷ 0x00 ∷ 0x64 ∷ 0x00 ∷ 0x0A ∷ 0x00 ∷ 0x01 ∷ 0x00 ∷ 0x01 ∷ 0x00 ∷ 0x02 ∷ 0x00 ∷ 0x00 ∷ 0x01 ∷ 0x00 ∷ 0x02 ∷ 0x00 ∷ 0x00
+    ∷ 0x03 ∷ 0x00 ∷ 0x03 ∷ 0x00 ∷ 0x00 ∷ 0x01 ∷ 0x00 ∷ 0x08 ∷ 0x00 ∷ 0x05 ∷ 0x00 ∷ 0x50 ∷ 0x00 ∷ 0x24 ∷ 0x00 ∷ 0x00 ∷ 0x00 ∷ 0x01 ∷ 0x00
+    ∷ 0x06 ∷ 0x00 ∷ 0x06 ∷ 0x00 ∷ 0x00 ∷ 0x00 ∷ 0x00 ∷ 0x00 ∷ 0x01 ∷ 0x00 ∷ 0x00 ∷ 0x00 ∷ 0x08 ∷ 0x00 ∷ []
+
+-- a time
+time : ℕ → Bytes
+time = littleEndian 2
+
+-- the Head of an old book, with rs 100, rt 10
+oldHead : ℕ → Bytes
+oldHead T = frame 1 (100 ∷ 0 ∷ 10 ∷ 0 ∷ T ∷ [])
+
 -- rs 100, rt 10
 headWith : ℕ → Bytes
-headWith T = frame 1 (100 ∷ 0 ∷ 10 ∷ 0 ∷ T ∷ [])
+headWith T = frame 1 (100 ∷ 0 ∷ 10 ∷ 0 ∷ time T)
 
 headFrame : Bytes
 headFrame = headWith 1
@@ -63,14 +83,14 @@ segmentFrame a b = frame 3 (a ∷ b ∷ 0 ∷ [])
 
 trainFrom : ℕ → ℕ → ℕ → List ℕ → Bytes
 trainFrom departure metres speed place =
-    frame 5 (littleEndian 2 metres ++ littleEndian 2 speed ++ (departure ∷ length place ∷ []) ++ place)
+    frame 5 (littleEndian 2 metres ++ littleEndian 2 speed ++ time departure ++ one (length place) ++ place)
 
 -- a train that departs in interval 0
 trainFrame : ℕ → ℕ → List ℕ → Bytes
 trainFrame = trainFrom 0
 
 callOf : ℕ → ℕ → ℕ → ℕ → Bytes
-callOf train segment first last = frame 6 (train ∷ segment ∷ first ∷ last ∷ [])
+callOf train segment first last = frame 6 (train ∷ segment ∷ (time first ++ time last))
 
 -- a call of train 0
 callFrame : ℕ → ℕ → ℕ → Bytes
@@ -88,11 +108,25 @@ pairBook joins metres speed place =
 joinFrame : Bytes
 joinFrame = frame 4 (1 ∷ 0 ∷ 1 ∷ [])
 
--- Book M: L with a third node of kind 0, the unjoined segment 1 in TTD 0 and the call on segment 1
+-- Book M: L with a third node of kind 0, the unjoined segment 1 in TTD 0 and the call on segment 1, as an old book; and rewritten
+oldM : ℕ → Bytes
+oldM last =
+    oldHead 1 ++ nodeFrame 0 ++ nodeFrame 0 ++ nodeFrame 0 ++ segmentFrame 0 1 ++ segmentFrame 1 2
+    ++ frame 5 (80 ∷ 0 ∷ 36 ∷ 0 ∷ 0 ∷ 1 ∷ 0 ∷ []) ++ frame 6 (0 ∷ 1 ∷ 0 ∷ last ∷ []) ++ endFrame
+
 bookM : ℕ → Bytes
-bookM last =
-    headFrame ++ nodeFrame 0 ++ nodeFrame 0 ++ nodeFrame 0 ++ segmentFrame 0 1 ++ segmentFrame 1 2
-    ++ trainFrame 80 36 (0 ∷ []) ++ callFrame 1 0 last ++ endFrame
+bookM last = upgraded (oldM last)
+
+-- An old book whose four times are T 5, departure 2, first 3 and last 4, with TTD 0 unbreakable twice
+oldTwice : Bytes
+oldTwice =
+    oldHead 5 ++ nodeFrame 0 ++ nodeFrame 0 ++ segmentFrame 0 1 ++ frame 5 (80 ∷ 0 ∷ 36 ∷ 0 ∷ 2 ∷ 1 ∷ 0 ∷ [])
+    ++ frame 6 (0 ∷ 0 ∷ 3 ∷ 4 ∷ []) ++ frame 7 (0 ∷ []) ++ frame 7 (0 ∷ []) ++ endFrame
+
+-- One train on one segment, with T 256
+longBook : ℕ → ℕ → ℕ → Bytes
+longBook departure first last =
+    headWith 256 ++ nodeFrame 0 ++ nodeFrame 0 ++ segmentFrame 0 1 ++ trainFrom departure 80 36 (0 ∷ []) ++ callFrame 0 first last ++ endFrame
 
 -- Three segments in a row, or in a ring over the same nodes, all in TTD 0
 tripleBook : ℕ → Bytes
@@ -141,6 +175,11 @@ unbreakableBook kind =
 reach : Bytes → Answer
 reach s = answered (readBook s) λ b. rows ((lengthInSegments b (trainAt b 0) ∷ speedInSegments b (trainAt b 0) ∷ []) ∷ [])
 
+-- the times that were read: T, the first train's departure, its goal's first and last
+times : Bytes → Answer
+times s = answered (readBook s) λ b.
+    rows ((b .intervals ∷ trainAt b 0 .departure ∷ goalOf b 0 .first ∷ goalOf b 0 .last ∷ []) ∷ [])
+
 runList : Bytes → Answer
 runList s = answered (readBook s) λ b. rows (runsOf b (trainAt b 0))
 
@@ -175,6 +214,9 @@ decodes s a n = answered (checkAssignment s a n) text
 
 encodes : Bytes → Bytes → ℕ → Answer
 encodes s p n = answered (checkPlan s p n) text
+
+rewrites : Bytes → ℕ → Answer
+rewrites s n = answered (upgradeBook s n) text
 
 -- what the library is asked beside the entry points
 sizes : Bytes → Answer
@@ -262,6 +304,31 @@ pub further : List Case
 further =
     -- L has 27 words, and as many are enough
     record { asked = totalsOf bookL 27; answer = rows ((6 ∷ 10 ∷ 27 ∷ []) ∷ []) }
+    -- an old book is refused by 4 at its Head, and a new one by the rewriter; old T = 33 is 6, old T = 32 and new T = 256 are good
+    -- (10 comes next)
+    ∷ record { asked = totalsOf oldL 27; answer = refusal 4 0 }
+    ∷ record { asked = rewrites newL 99; answer = refusal 4 0 }
+    ∷ record { asked = rewrites (oldHead 33) 99; answer = refusal 6 0 }
+    ∷ record { asked = rewrites (oldHead 32 ++ nodeFrame 0 ++ endFrame) 99; answer = refusal 10 0 }
+    ∷ record { asked = totalsOf (headWith 256 ++ nodeFrame 0 ++ endFrame) 0; answer = refusal 10 0 }
+    -- L grows by a byte for T, one for the departure and two for the call's window; 12 asks for all of them
+    ∷ record { asked = rewrites oldL 53; answer = text newL }
+    ∷ record { asked = rewrites oldL 52; answer = refusal 12 0 }
+    -- every time keeps its number, the lower byte first, and a repeated Unbreakable frame stays
+    ∷ record {
+      asked = rewrites oldTwice 99;
+      answer = text
+          (6 ∷ 0 ∷ 1 ∷ 0 ∷ 100 ∷ 0 ∷ 10 ∷ 0 ∷ 5 ∷ 0
+          ∷ 1 ∷ 0 ∷ 2 ∷ 0 ∷ 0 ∷ 1 ∷ 0 ∷ 2 ∷ 0 ∷ 0 ∷ 3 ∷ 0 ∷ 3 ∷ 0 ∷ 0 ∷ 1 ∷ 0
+          ∷ 8 ∷ 0 ∷ 5 ∷ 0 ∷ 80 ∷ 0 ∷ 36 ∷ 0 ∷ 2 ∷ 0 ∷ 1 ∷ 0
+          ∷ 6 ∷ 0 ∷ 6 ∷ 0 ∷ 0 ∷ 0 ∷ 3 ∷ 0 ∷ 4 ∷ 0
+          ∷ 1 ∷ 0 ∷ 7 ∷ 0 ∷ 0 ∷ 1 ∷ 0 ∷ 7 ∷ 0 ∷ 0 ∷ 0 ∷ 0 ∷ 8 ∷ 0 ∷ []);
+    }
+    ∷ record { asked = times (upgraded oldTwice); answer = rows ((5 ∷ 2 ∷ 3 ∷ 4 ∷ []) ∷ []) }
+    -- times have two bytes: 255 and 256 are two numbers, and a departure of 256 is not below T
+    ∷ record { asked = times (longBook 255 255 256); answer = rows ((256 ∷ 255 ∷ 255 ∷ 256 ∷ []) ∷ []) }
+    ∷ record { asked = times (longBook 256 0 0); answer = refusal 6 0 }
+    ∷ record { asked = times (longBook 0 256 257); answer = refusal 6 0 }
     -- 16: a run before the departure breaks rule 2, gone away from the goal rule 3
     ∷ record { asked = encodes bookN (0 ∷ 1 ∷ 0 ∷ 0 ∷ 0 ∷ 4 ∷ 0 ∷ 2 ∷ 0 ∷ 2 ∷ 0 ∷ 255 ∷ 255 ∷ 255 ∷ 255 ∷ []) 57; answer = refusal 16 2 }
     ∷ record { asked = encodes bookN (0 ∷ 1 ∷ 0 ∷ 254 ∷ 255 ∷ 0 ∷ 0 ∷ 255 ∷ 255 ∷ 2 ∷ 0 ∷ 255 ∷ 255 ∷ 255 ∷ 255 ∷ []) 57; answer = refusal 16 3 }
@@ -290,8 +357,10 @@ further =
       asked = decodes dividedBook (1 ∷ 0 ∷ 0 ∷ 1 ∷ 0 ∷ 0 ∷ 0 ∷ 0 ∷ 1 ∷ 1 ∷ []) 5;
       answer = text (1 ∷ 0 ∷ 0 ∷ 0 ∷ 0 ∷ []);
     }
-    -- T is at most 32; 9 for a TTD that a node of kind 1 or 2 may divide, and only there
-    ∷ record { asked = totalsOf (headWith 33 ++ nodeFrame 0 ++ endFrame) 0; answer = refusal 6 0 }
+    -- T is 1 to 256, and at least 1 in an old book; 9 for a TTD that a node of kind 1 or 2 may divide, and only there
+    ∷ record { asked = totalsOf (headWith 257 ++ nodeFrame 0 ++ endFrame) 0; answer = refusal 6 0 }
+    ∷ record { asked = totalsOf (headWith 0 ++ nodeFrame 0 ++ endFrame) 0; answer = refusal 6 0 }
+    ∷ record { asked = rewrites (oldHead 0) 99; answer = refusal 6 0 }
     ∷ record { asked = totalsOf (unbreakableBook 0) 0; answer = refusal 12 0 }
     ∷ record { asked = totalsOf (unbreakableBook 1) 0; answer = refusal 9 0 }
     ∷ record { asked = totalsOf (unbreakableBook 2) 0; answer = refusal 9 0 }
@@ -338,7 +407,7 @@ table = starred ++ (further ++ asked)
 
 pub cases : map (λ c. c .asked) table ≡ map (λ c. c .answer) table
 unfolding
-    table starred further asked answered sizes labels runShown runNumber meant variableNumber bookL headWith headFrame trainFrom callOf passingBook bookN facingBook callingBook unbreakableBook refutedWith dividedBook totalsOf decodes encodes nodeFrame segmentFrame trainFrame callFrame endFrame pairBook joinFrame bookM tripleBook reach runList sections oneSection clauseNumber emptyStep refuted
+    table starred further asked answered sizes labels runShown runNumber meant variableNumber oldL bookL newL oldM oldHead oldTwice longBook time headWith headFrame trainFrom callOf passingBook bookN facingBook callingBook unbreakableBook refutedWith dividedBook totalsOf decodes encodes nodeFrame segmentFrame trainFrame callFrame endFrame pairBook joinFrame bookM tripleBook rewrites reach times runList sections oneSection clauseNumber emptyStep refuted
     count upTo range each only all any pick empty lastOr same has different sumTo leastFrom firstFault andThen
     littleEndian number field signed unsigned digits decimal decimalZ
     frame payloadLength kindField payloadOf behind cutShort kindNumber isKind stepKind kindOrder findKind rankIn rank lengthFits stepLengthFits
@@ -354,5 +423,6 @@ unfolding
     deny truth isYes valueOf isTrue holds satisfies firstFalse assigned assignmentFits firstRun chosen decoded decode claims encode
     stepPayload fileOf literalCount hintCount stepIn variableOf risesFrom literalsFit hintsFit makeTrue makeFalse refuting isNo isOpen clauseAt notFalse hinted goThrough followsRule clausesFit isBad stepFaults stepDetail checkSteps checkFile
     demand findNone readInstance formulaWritten writtenFor writeFormula formulaText judgeAssignment decodedFor checkAssignment judgePlan afterPlan encodedFor checkPlan formulaFits refutedFor checkRefutation
+    timesAt timeCount timesWidened widenedAt widened widenedFound frameWidened widenedFrom upgraded upgradeBook
     sliceBytes sliceOf programLent unlessLong isLong acceptedLine refusalLine printed printFormula printAssignment printPlan printRefutation
 cases = refl

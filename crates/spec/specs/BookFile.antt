@@ -60,7 +60,8 @@ module _ (f : Format) (b : Book) (ttds : List ℕ) where
   unfoldable pub bookFile : Bytes
   bookFile = framesThen (frame (kindNumber endKind) [])
 
--- The numbers of two bytes fit them; those of one byte do so in every well-formed book, and times in an apt format.
+-- The numbers that have two bytes in every format fit them. Those of one byte do so in every well-formed book; times do so in an
+-- apt format (`Apt`, in crates/demands/specs/BookFiles.antt).
 pub record FitsFields (b : Book) : Type 0 where
   pub metres : b .segmentMetres < 65536
   pub seconds : b .intervalSeconds < 65536

@@ -76,14 +76,18 @@ rank n = rankIn n kindOrder
 
 -- A format of book files: what a request may change while files of the earlier format are still to be read.
 pub record Format : Type 0 where
-  -- how many bytes a time has
+  -- how many bytes a time has: the Head's T, a train's departure, a call's first and last
   pub timeWidth : ℕ
   -- the greatest T
   pub greatestT : ℕ
 
--- The format in force: "Fields are one byte unless noted"; "T 1 to 32".
+-- The format in force, by P1 of document 02: times "become two bytes each, little-endian"; "T may be 1 to 256".
 abbrev pub bookFormat : Format
-bookFormat = record { timeWidth = 1; greatestT = 32 }
+bookFormat = record { timeWidth = 2; greatestT = 256 }
+
+-- The format of an old book, as document 01 has it: "Fields are one byte unless noted"; "T 1 to 32".
+abbrev pub oldFormat : Format
+oldFormat = record { timeWidth = 1; greatestT = 32 }
 
 module _ (f : Format) where
   -- Where a train's count n stands in its payload: behind length (2), speed (2) and departure.

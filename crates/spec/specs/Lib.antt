@@ -1,4 +1,5 @@
--- The modules in document 01's order. `Lists` has the few list words that the others are written with.
+-- The modules in document 01's order; `Upgrade` is for P1 of document 02. `Lists` has the few list words that the others are
+-- written with.
 pub mod Lists
 pub mod Numbers
 pub mod Frames
@@ -16,5 +17,6 @@ pub mod Formula
 pub mod Assignment
 pub mod Refutation
 pub mod Entry
+pub mod Upgrade
 pub mod Library
 pub mod Programs

@@ -9,6 +9,7 @@ use Rattle.spec.specs.Lists.{Bytes, Verdict, accepted, refused}
 use Rattle.spec.specs.Numbers.{decimal}
 use Rattle.spec.specs.Refutation.{Lent}
 use Rattle.spec.specs.Entry.{formulaText, checkAssignment, checkPlan, checkRefutation}
+use Rattle.spec.specs.Upgrade.{upgradeBook}
 
 -- "at most 64 KiB a slice", in bytes; how many entries of so many bytes a slice then has
 unfoldable pub sliceBytes : ℕ
@@ -54,3 +55,7 @@ printPlan book s = printed (λ _. acceptedLine) (unlessLong (isLong book || isLo
 
 unfoldable pub printRefutation : Bytes → Bytes → Bytes
 printRefutation book s = printed (λ _. acceptedLine) (unlessLong (isLong book || isLong s) (checkRefutation book s programLent))
+
+-- upgrade_book, with the old book; the new one goes to a file
+unfoldable pub printUpgrade : Bytes → Bytes
+printUpgrade old = printed (λ _. acceptedLine) (unlessLong (isLong old) (upgradeBook old (sliceOf 1)))

@@ -46,7 +46,7 @@ add f b k p = record
   ; trains = grown (isKind k trainKind) (b .trains) (trainIn f p)
   ; calls = grown (isKind k callKind) (b .calls) (callIn f p) }
 
--- The limits: "At most 96", "At most 64", "At most 128", "At most 8", "One to four a train", "T 1 to 32", "TTD 0 to 63",
+-- The limits: "At most 96", "At most 64", "At most 128", "At most 8", "One to four a train", "T may be 1 to 256", "TTD 0 to 63",
 -- l and k "are 1 to 8", "At most 256 a train".
 abbrev pub maxNodes : ℕ
 maxNodes = 96
@@ -78,7 +78,7 @@ maxRuns = 256
 unfoldable pub between : ℕ → ℕ → ℕ → Bool
 between low high n = leb low n && leb n high
 
--- 6 of a Head: "rs, rt at least 1; T 1 to 32"
+-- 6 of a Head: "rs, rt at least 1", and T from 1 to the greatest of the format
 unfoldable pub headFits : Format → Book → Bool
 headFits f b = leb 1 (b .segmentMetres) && leb 1 (b .intervalSeconds) && between 1 (f .greatestT) (b .intervals)
 

@@ -16,7 +16,8 @@ use Rattle.spec.specs.Instance.{instanceOf, compile}
 use Rattle.spec.specs.Held.{held, CountsFit}
 use Rattle.laws.proofs.Tests.{and-iff, false-of, from-false}
 use Rattle.laws.proofs.Parts.{length-each, sum-constant}
-use Rattle.listing.proofs.Lists.{sets-append, each-next, held-segments}
+use Rattle.laws.proofs.Stores.{sets-append}
+use Rattle.listing.proofs.Lists.{each-next, held-segments}
 use Rattle.tables.specs.Meets.{meetsOf, meetsAt, meetTable}
 
 -- ---- rows in a table

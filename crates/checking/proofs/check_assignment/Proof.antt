@@ -9,7 +9,7 @@ use Rattle.spec.specs.Lists.{Bytes, Verdict}
 use Rattle.spec.specs.Instance.{Instance}
 use Rattle.spec.specs.Entry.{decodedFor, checkAssignment, planOutput}
 use Rattle.tables.proofs.Instances.{went-on, stopped, runs-long, chains-long, meets-long, TablesReady}
-use Rattle.checking.proofs.Answers.{left-stopped, left-same}
+use Rattle.reader.proofs.Outputs.{left-stopped, left-same}
 use Rattle.checking.proofs.check_assignment.Statement.{statement}
 use Rattle.checking.proofs.check_assignment.Tie as tie
 

@@ -9,7 +9,7 @@ use Rattle.spec.specs.Lists.{Bytes, Verdict}
 use Rattle.spec.specs.Instance.{Instance}
 use Rattle.spec.specs.Entry.{encodedFor, checkPlan, assignmentOutput}
 use Rattle.tables.proofs.Instances.{went-on, stopped, runs-long, meets-long, TablesReady}
-use Rattle.checking.proofs.Answers.{left-stopped, left-same}
+use Rattle.reader.proofs.Outputs.{left-stopped, left-same}
 use Rattle.checking.proofs.check_plan.Statement.{statement}
 use Rattle.checking.proofs.check_plan.Tie as tie
 

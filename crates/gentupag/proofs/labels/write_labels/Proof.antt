@@ -8,7 +8,7 @@ use lib.ListN.{length, getD, set, take}
 use lib.Seq.{sets, length-sets, length-take-le}
 use Rattle.spec.specs.Lists.{Bytes}
 use Rattle.listing.proofs.Leaves.{sets-take-next}
-use Rattle.gentupag.proofs.Labelled.{stored-first}
+use Rattle.laws.proofs.Stores.{stored-first}
 use Rattle.gentupag.proofs.labels.write_labels.Statement.{statement}
 use Rattle.gentupag.proofs.labels.write_labels.Tie as tie
 

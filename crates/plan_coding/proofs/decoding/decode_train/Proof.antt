@@ -68,8 +68,8 @@ move-place-requires c κs =
     let p = given t .pre in
     (p .0 .passed, omega (arith, p .1), omega (arith, t .loop-test .taken))
 
-put-code-requires : tie.Need-put-code-requires Inv-loop μ-loop
-put-code-requires c κs =
+put-pair-requires : tie.Need-put-pair-requires Inv-loop μ-loop
+put-pair-requires c κs =
     let p = c .before in
     (omega (arith, room (p .before .before .before), p .move-place .ensures), p .before .code-of .ensures .1)
 
@@ -81,7 +81,7 @@ loop-again c =
     let number = v .code-of .ensures .0 ∙ code-is (block (v .before)) _ in (
       omega (arith, t .loop-test .taken),
       rows-next _ 2 (λ i. length-littleEndian 2 _) (t .before .loop .inv .1) (p .move-place .ensures ∙ place-from _ _ _)
-          (c .before .before .put-code .ensures
+          (c .before .before .put-pair .ensures
           ∙ ap (λ (x : ℕ). sets (t .before .loop .out) (p .move-place .result) (littleEndian 2 x)) number),
     )
 
@@ -105,7 +105,7 @@ decode-train-spec =
     (λ c κs. let e = c .before .before .train-block .ensures in (block-of (sym (e .train)) e, omega (arith, c .loop-test .taken)))
     (λ c κs. let k = block c .block in (k .small, runs-small _ (k .passed) _ (k .known) _ (k .runs)))
     move-place-requires
-    put-code-requires
+    put-pair-requires
     (λ c. omega (arith, short (c .before .before .before .before .before .before .before)))
     (λ c. omega (arith, c .before .before .before .before .before .before .before .loop-test .taken))
     loop-again

@@ -8,11 +8,11 @@ use borrow.Fn.PlainCycle.{Measures, is, falls, and}
 use Rattle.spec.specs.Lists.{one}
 use Rattle.spec.specs.Numbers.{decimal}
 use Rattle.programs.proofs.Figures.{decimal-one, decimal-more, figures-twenty}
-use Rattle.programs.proofs.Stores.{Stored, stored, stored-none, stored-byte, stored-same, stored-length}
+use Rattle.laws.proofs.Stores.{Stored, stored, stored-none, stored-byte, stored-same, stored-length}
 use Rattle.programs.proofs.dimacs.put_number.Reads as put-number
 use Rattle.programs.proofs.dimacs.put_number.Kinds as put-number-kinds
 use Rattle.programs.proofs.dimacs.+put_number.Lts-put_number as lts
-use Rattle.programs.proofs.dimacs.put.Reads as put-reads
+use Rattle.frames.proofs.bytes.put.Reads as put-reads
 use Rattle.programs.proofs.dimacs.+put_number.{statement}
 use Rattle.programs.proofs.dimacs.+put_number.Tie.{close}
 

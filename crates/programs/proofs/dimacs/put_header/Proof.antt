@@ -7,7 +7,8 @@ use native.Mathlib.Omega.{arith}
 use Rattle.spec.specs.Numbers.{decimal}
 use Rattle.spec.specs.Formula.{dimacsOpening}
 use Rattle.programs.specs.Text.{headerText}
-use Rattle.programs.proofs.Stores.{Stored, stored, stored-behind, stored-byte, stored-same, in-line}
+use Rattle.laws.proofs.Stores.{Stored, stored, stored-behind, stored-byte, stored-same}
+use Rattle.programs.proofs.Text.{in-line}
 use Rattle.programs.proofs.dimacs.put_header.Statement.{statement}
 use Rattle.programs.proofs.dimacs.put_header.Tie as tie
 

@@ -7,7 +7,8 @@ use native.Mathlib.Nat.{zero-add}
 use native.Mathlib.Omega.{arith}
 use Rattle.spec.specs.Numbers.{decimal}
 use Rattle.spec.specs.Programs.{refusalLine}
-use Rattle.programs.proofs.Stores.{Stored, stored, stored-behind, stored-byte, stored-same, in-line}
+use Rattle.laws.proofs.Stores.{Stored, stored, stored-behind, stored-byte, stored-same}
+use Rattle.programs.proofs.Text.{in-line}
 use Rattle.programs.proofs.dimacs.put_refusal.Statement.{statement}
 use Rattle.programs.proofs.dimacs.put_refusal.Tie as tie
 

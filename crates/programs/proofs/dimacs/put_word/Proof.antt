@@ -13,7 +13,7 @@ use Rattle.spec.specs.Numbers.{decimal}
 use Rattle.programs.specs.Text.{wordText}
 use Rattle.programs.proofs.Signs.{bits-zero, below, not-below}
 use Rattle.programs.proofs.Words.{sign, sign-below, sign-above, sign-most, word-closing, word-literal}
-use Rattle.programs.proofs.Stores.{Stored, stored, stored-none, stored-behind, stored-byte, stored-same, stored-now, stored-length}
+use Rattle.laws.proofs.Stores.{Stored, stored, stored-none, stored-behind, stored-byte, stored-same, stored-now, stored-length}
 use Rattle.programs.proofs.dimacs.put_word.Statement.{statement}
 use Rattle.programs.proofs.dimacs.put_word.Tie as tie
 

@@ -12,7 +12,7 @@ use mir.Syntax.{w32}
 use mir.Val.{toZ, ofZ}
 use mir.Facts.{toZ-ofZ}
 use Rattle.programs.specs.Text.{wordText}
-use Rattle.programs.proofs.Stores.{stored, stored-same, stored-length}
+use Rattle.laws.proofs.Stores.{stored, stored-same, stored-length}
 use Rattle.programs.proofs.Pieces.{Filled, filled-none, filled-next, filled-end}
 use Rattle.programs.proofs.dimacs.put_words.Statement.{statement}
 use Rattle.programs.proofs.dimacs.put_words.Tie as tie

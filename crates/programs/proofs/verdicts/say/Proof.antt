@@ -6,7 +6,7 @@ use lib.ListN.{length}
 use lib.Seq.{sets}
 use Rattle.spec.specs.Lists.{Bytes}
 use Rattle.spec.specs.Programs.{acceptedLine}
-use Rattle.checking.specs.declared.OutputAnswer.{OutputAnswer}
+use Rattle.reader.specs.declared.reading.OutputAnswer.{OutputAnswer}
 use Rattle.programs.specs.Lines.{answerLine, resultLength}
 use Rattle.programs.proofs.verdicts.say.Statement.{statement}
 use Rattle.programs.proofs.verdicts.say.Tie as tie

@@ -4,11 +4,13 @@ use borrow.Author.Needs.{needs}
 use borrow.Author.Tests.{not-true, not-false}
 use mathlib.Core.Path.{_≡_, sym, ap, _∙_}
 use mathlib.Core.Bool.{Bool, true, false}
-use Prim.Native.Nat.{ℕ, _<_}
+use Prim.Native.Nat.{ℕ, _+_, _<_}
 use native.Mathlib.Omega.{arith}
 use lib.ListN.{length, getD}
 use Rattle.laws.proofs.Tests.{and-iff, ltb-iff, from-true}
-use Rattle.spec.specs.Frames.{bookFormat, callKind}
+use Rattle.spec.specs.Numbers.{field}
+use Rattle.spec.specs.Frames.{Format, callKind}
+use Rattle.frames.specs.Framed.{formatOf}
 use Rattle.spec.specs.Book.{Call, callsOf}
 use Rattle.spec.specs.Read.{callFits, callIn}
 use Rattle.spec.specs.Held.{held}
@@ -19,19 +21,25 @@ use Rattle.reader.proofs.content.add_call.Statement.{statement}
 use Rattle.reader.proofs.content.add_call.Tie as tie
 
 abbrev start : tie.After-time2 → tie.Start
-start c = c .before .before .before .before .before
+start c = c .before .before .before .before .before .before
+
+-- its format
+abbrev format : tie.After-time2 → Format
+format c = formatOf (start c .args .format)
 
 -- the call that the code makes
 abbrev made : tie.After-time2 → Call
 made c =
     let p = start c .args .p .now in
-    record { train = getD p 0 0; segment = getD p 1 0; first = c .before .time .result; last = c .time2 .result }
+    record { train = getD p 0 0; segment = getD p 1 0; first = c .before .before .time .result; last = c .time2 .result }
 
 -- is the payload's
-made-is : (c : tie.After-time2) → made c ≡ callIn bookFormat (start c .args .p .now)
+made-is : (c : tie.After-time2) → made c ≡ callIn (format c) (start c .args .p .now)
 made-is c =
     let s = start c in
-    call-read (s .args .p .now) bookFormat (omega (arith, s .pre .2)) (c .before .time .ensures .0) (c .time2 .ensures .0)
+    let w = format c .timeWidth in
+    call-read (s .args .p .now) (format c) (omega (arith, s .pre .2)) (c .before .before .time .ensures .0)
+    (c .time2 .ensures .0 ∙ ap (λ (n : ℕ). field (s .args .p .now) (2 + n) w) (c .before .time-width .ensures))
 
 -- where the call was made, at the two tests
 abbrev first-test : tie.After-calls-of → tie.After-time2
@@ -42,7 +50,7 @@ second-test c = c .before .before
 
 -- `calls_of` answers how many calls its train has
 few-is : (c : tie.After-calls-of)
-    → let s = start (first-test c) in c .calls-of .result ≡ length (callsOf (held (s .args .b)) (callIn bookFormat (s .args .p .now) .train))
+    → let s = start (first-test c) in c .calls-of .result ≡ length (callsOf (held (s .args .b)) (callIn (format (first-test c)) (s .args .p .now) .train))
 few-is c =
     let s = start (first-test c) in
     let e = c .before .wide .ensures .0 ∙ ap {B = ℕ} (λ k. k .train) (made-is (first-test c)) in
@@ -50,7 +58,7 @@ few-is c =
 
 -- whether it fits is what `call_fits` answers
 fits-is : (c : tie.After-call-fits) (t : Bool) → c .call-fits .result ≡ t
-    → let s = start (first-test (second-test c)) in callFits (held (s .args .b)) (callIn bookFormat (s .args .p .now)) ≡ t
+    → let s = start (first-test (second-test c)) in callFits (held (s .args .b)) (callIn (format (first-test (second-test c))) (s .args .p .now)) ≡ t
 fits-is c t e =
     let w = first-test (second-test c) in
     sym (ap (callFits (held (start w .args .b))) (made-is w)) ∙ sym (c .call-fits .ensures) ∙ e
@@ -94,6 +102,7 @@ add-call-spec =
     (tie.spec
     (λ c. search needs)
     (λ c. search needs)
+    (λ c κs. search needs)
     (λ c κs. search needs)
     (λ c. search needs)
     (λ c κs. search needs)

@@ -19,7 +19,7 @@ returns : tie.Need-returns
 returns c =
     let s = c .before .before .before in
     let n = joins-counted (s .pre .0) in
-    refuses _ joinKind (s .pre .0) _ (join-full _ _ _ (omega arith)) (c .refused .ensures)
+    λ f. refuses f joinKind (s .pre .0) _ (join-full _ _ _ (omega arith)) (c .refused .ensures)
 
 -- where the code is after the test for room
 abbrev roomy : tie.After-join-fits → tie.Else1
@@ -40,7 +40,7 @@ returns-2 c =
     let a = c .before .before in
     let s = start a in
     let n = joins-counted (s .pre .0) in
-    refuses _ joinKind (s .pre .0) _
+    λ f. refuses f joinKind (s .pre .0) _
     (join-wrong _ _ _ (omega (arith, roomy a .if1 .left)) (fits-is a false (not-true _ (c .before .if2 .taken)))) (c .refused2 .ensures)
 
 -- the test that the join fits, behind which `joined` is asked
@@ -68,7 +68,7 @@ returns-3 c =
     let a = i .before in
     let s = start a in
     let n = joins-counted (s .pre .0) in
-    refuses _ joinKind (s .pre .0) _
+    λ f. refuses f joinKind (s .pre .0) _
     (join-again _ _ _ (omega (arith, roomy a .if1 .left)) (fits-is a true (not-false _ (i .if2 .left))) (again-is g true (c .before .if3 .taken)))
     (c .refused3 .ensures)
 
@@ -80,7 +80,7 @@ returns-4 c =
     let s = start a in
     let n = joins-counted (s .pre .0) in
     let room = roomy a .if1 .left in
-    accepts _ joinKind (s .pre .0) _
+    λ f. accepts f joinKind (s .pre .0) _
     (join-fine _ _ _ (omega (arith, room)) (fits-is a true (not-false _ (i .if2 .left))) (again-is g false (c .before .if3 .left)))
     (put-join _ (s .pre .0) _ _ _ (join-read _ (s .pre .1)) room) (c .fine .ensures)
 

@@ -21,7 +21,7 @@ returns : tie.Need-returns
 returns c =
     let s = c .before .before .before in
     let n = nodes-counted (s .pre .0) in
-    refuses _ nodeKind (s .pre .0) _ (node-full _ _ _ (omega arith)) (c .refused .ensures)
+    λ f. refuses f nodeKind (s .pre .0) _ (node-full _ _ _ (omega arith)) (c .refused .ensures)
 
 returns-2 : tie.Need-returns-2
 unfolding greatestNodeKind
@@ -30,7 +30,7 @@ returns-2 c =
     let s = a .before .before in
     let n = nodes-counted (s .pre .0) in
     let k = kind-is a in
-    refuses _ nodeKind (s .pre .0) _ (node-wrong _ _ _ (omega arith) (omega arith)) (c .refused2 .ensures)
+    λ f. refuses f nodeKind (s .pre .0) _ (node-wrong _ _ _ (omega arith) (omega arith)) (c .refused2 .ensures)
 
 returns-3 : tie.Need-returns-3
 unfolding greatestNodeKind
@@ -39,7 +39,7 @@ returns-3 c =
     let s = a .before .before in
     let n = nodes-counted (s .pre .0) in
     let k = kind-is a in
-    accepts _ nodeKind (s .pre .0) _ (node-fine _ _ _ (omega arith) (omega arith)) (put-node _ (s .pre .0) _ _ _ (sym k) (omega arith))
+    λ f. accepts f nodeKind (s .pre .0) _ (node-fine _ _ _ (omega arith) (omega arith)) (put-node _ (s .pre .0) _ _ _ (sym k) (omega arith))
     (c .fine .ensures)
 
 pub add-node-spec : {M : Type 1} → statement M

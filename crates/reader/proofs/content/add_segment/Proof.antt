@@ -17,7 +17,7 @@ returns : tie.Need-returns
 returns c =
     let s = c .before .before .before in
     let n = segments-counted (s .pre .0) in
-    refuses _ segmentKind (s .pre .0) _ (segment-full _ _ _ (omega arith)) (c .refused .ensures)
+    λ f. refuses f segmentKind (s .pre .0) _ (segment-full _ _ _ (omega arith)) (c .refused .ensures)
 
 -- where the code is after the test for room
 abbrev roomy : tie.After-segment-fits → tie.Else1
@@ -38,7 +38,7 @@ returns-2 c =
     let a = c .before .before in
     let s = start a in
     let n = segments-counted (s .pre .0) in
-    refuses _ segmentKind (s .pre .0) _
+    λ f. refuses f segmentKind (s .pre .0) _
     (segment-wrong _ _ _ (omega (arith, roomy a .if1 .left)) (fits-is a false (not-true _ (c .before .if2 .taken)))) (c .refused2 .ensures)
 
 returns-3 : tie.Need-returns-3
@@ -47,7 +47,7 @@ returns-3 c =
     let s = start a in
     let n = segments-counted (s .pre .0) in
     let room = roomy a .if1 .left in
-    accepts _ segmentKind (s .pre .0) _
+    λ f. accepts f segmentKind (s .pre .0) _
     (segment-fine _ _ _ (omega (arith, room)) (fits-is a true (not-false _ (c .before .if2 .left))))
     (put-segment _ (s .pre .0) _ _ _ (segment-read _ (s .pre .1)) room) (c .fine .ensures)
 

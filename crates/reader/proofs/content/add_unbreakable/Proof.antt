@@ -38,14 +38,14 @@ divide-is c t e =
 returns : tie.Need-returns
 returns c =
     let a = c .before .before in
-    refuses _ unbreakableKind (start (a .before) .pre .0) _ (unbreakable-wrong _ _ _ (has-is a false (not-true _ (c .before .if1 .taken))))
+    λ f. refuses f unbreakableKind (start (a .before) .pre .0) _ (unbreakable-wrong _ _ _ (has-is a false (not-true _ (c .before .if1 .taken))))
     (c .refused .ensures)
 
 returns-2 : tie.Need-returns-2
 returns-2 c =
     let d = c .before .before in
     let a = d .before .before in
-    refuses _ unbreakableKind (start (a .before) .pre .0) _
+    λ f. refuses f unbreakableKind (start (a .before) .pre .0) _
     (unbreakable-divided _ _ _ (has-is a true (not-false _ (d .before .if1 .left))) (divide-is d true (c .before .if2 .taken)))
     (c .refused2 .ensures)
 
@@ -54,7 +54,7 @@ returns-3 c =
     let d = c .before .before in
     let a = d .before .before in
     let s = start (a .before) in
-    accepts _ unbreakableKind (s .pre .0) _
+    λ f. accepts f unbreakableKind (s .pre .0) _
     (unbreakable-fine _ _ _ (has-is a true (not-false _ (d .before .if1 .left))) (divide-is d false (c .before .if2 .left)))
     (put-nothing _ (s .pre .0) _ _) (c .fine .ensures)
 

@@ -2,10 +2,12 @@
 -- Assumes nothing.
 use borrow.Author.Needs.{needs}
 use borrow.Author.Tests.{le-leb, lt-leb}
-use mathlib.Core.Path.{_≡_, sym, _∙_}
+use mathlib.Core.Path.{_≡_, sym, ap, _∙_}
 use mathlib.Core.Bool.{Bool, _&&_}
 use mathlib.Core.Logic.{⊎-elim}
-use Prim.Native.Nat.{_*_}
+use Prim.Native.Nat.{ℕ, _*_}
+use native.Mathlib.Omega.{arith}
+use native.Mathlib.Nat.{zero-add}
 use lib.ListN.{length, drop}
 use lib.Dec.{leb, ltb}
 use Rattle.spec.specs.Lists.{all}
@@ -13,14 +15,19 @@ use Rattle.spec.specs.Numbers.{field}
 use Rattle.spec.specs.Read.{trainFits, trainIn}
 use Rattle.spec.specs.Held.{held}
 use Rattle.network.proofs.Walks.{length-of-map}
-use Rattle.spec.specs.Frames.{bookFormat, trainFixed}
+use Rattle.spec.specs.Frames.{Format, trainFixed}
+use Rattle.frames.specs.Framed.{formatOf}
 use Rattle.reader.proofs.Packing.{segments-held}
 use Rattle.reader.proofs.content.train_fits.Statement.{statement}
 use Rattle.reader.proofs.content.train_fits.Tie as tie
 
+-- the format of the payload
+abbrev format : tie.Start → Format
+format c = formatOf (c .args .format)
+
 -- a metre at least, and a departure below T
 abbrev early : tie.Start → Bool
-early c = leb 1 (field (c .args .p .now) 0 2) && ltb (field (c .args .p .now) 4 (bookFormat .timeWidth)) (c .args .b .intervals)
+early c = leb 1 (field (c .args .p .now) 0 2) && ltb (field (c .args .p .now) 4 (format c .timeWidth)) (c .args .b .intervals)
 
 starts : (c : tie.Joined1) → c .if1 .if2 ≡ early (c .before .before .before)
 starts c =
@@ -32,8 +39,8 @@ starts c =
 
 -- the definition, over the struct
 whole : (c : tie.Start)
-    → (early c && all (λ d. ltb d (2 * c .args .b .«segment_count»)) (drop (trainFixed bookFormat) (c .args .p .now)))
-    ≡ trainFits (held (c .args .b)) (trainIn bookFormat (c .args .p .now))
+    → (early c && all (λ d. ltb d (2 * c .args .b .«segment_count»)) (drop (trainFixed (format c)) (c .args .p .now)))
+    ≡ trainFits (held (c .args .b)) (trainIn (format c) (c .args .p .now))
 unfolding trainFits trainIn held
 whole c =
     let e : length (c .args .b .segments) ≡ 64 = search (needs, length-of-map) in
@@ -41,8 +48,13 @@ whole c =
 
 returns : tie.Need-returns
 returns c =
-    let f = sym (starts (c .before .before .before)) ∙ c .before .before .if2 .taken in
-    c .all-below .ensures ∙ sym (simp f) ∙ whole (c .before .before .before .before .before .before)
+    let e = c .before .before in
+    let f = sym (starts (e .before .before)) ∙ e .before .if2 .taken in
+    let s = e .before .before .before .before .before in
+    let fixed = e .train-end .ensures ∙ zero-add _ in
+    c .all-below .ensures
+    ∙ ap (λ (n : ℕ). all (λ d. ltb d (2 * s .args .b .«segment_count»)) (drop n (s .args .p .now))) fixed
+    ∙ sym (ap (λ (t : Bool). t && all (λ d. ltb d (2 * s .args .b .«segment_count»)) (drop (trainFixed (format s)) (s .args .p .now))) f) ∙ whole s
 
 returns-2 : tie.Need-returns-2
 returns-2 c =
@@ -55,7 +67,8 @@ train-fits-spec =
     (tie.spec
     (λ c κs. search needs)
     (λ c κs. search needs)
+    (λ c κs. omega arith)
     (λ c. search needs)
-    (λ c κs. search needs)
+    (λ c κs. omega (arith, c .before .train-end .ensures))
     returns
     returns-2)

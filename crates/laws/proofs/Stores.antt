@@ -1,13 +1,41 @@
--- Text that is stored in a buffer from a place on: stores behind stores are the stores of the whole. Assumes nothing.
+-- Stores in a row: what they leave in a list, and bytes that are stored in a buffer from a place on, behind bytes that were.
+-- Assumes nothing.
 use mathlib.Core.Path.{_≡_, refl, sym, ap, ap₂, _∙_}
-use Prim.Native.Nat.{ℕ, _+_}
-use native.Mathlib.Nat.{add-zero}
+use Prim.Native.Nat.{ℕ, zero, suc, _+_, _≤_, _<_}
+use native.Mathlib.Nat.{zero-add, add-zero, add-suc, suc-add}
 use native.Mathlib.Omega.{arith}
-use mathlib.Core.List.{[], _∷_, _++_, append-assoc}
-use lib.ListN.{length, set, length-append}
-use lib.Seq.{sets, length-sets}
+use mathlib.Core.List.{List, [], _∷_, _++_}
+use lib.ListN.{length, getD, drop, set, length-append, length-set}
+use lib.Seq.{sets, sets-eq, length-sets, getD-set-same, getD-set-other}
 use Rattle.spec.specs.Lists.{Bytes, one}
-use Rattle.listing.proofs.Lists.{sets-append}
+use Rattle.spec.specs.Entry.{overwrite}
+
+module _ {ℓ} {A : Type ℓ} where
+  pub sets-append : (l : List A) (i : ℕ) (us vs : List A) → sets l i (us ++ vs) ≡ sets (sets l i us) (i + length us) vs
+  sets-append l i [] vs = simp add-zero
+  sets-append l i (u ∷ us) vs = sets-append (set l i u) (suc i) us vs ∙ simp (add-suc, suc-add)
+
+  -- what lies before them is as it was
+  pub getD-sets-below : (l : List A) (i : ℕ) (vs : List A) (k : ℕ) (d : A) → k < i → getD (sets l i vs) k d ≡ getD l k d
+  getD-sets-below l i [] k d h = refl
+  getD-sets-below l i (v ∷ vs) k d h =
+      getD-sets-below (set l i v) (suc i) vs k d (omega arith) ∙ getD-set-other l i k v d (omega arith)
+
+  -- what they stored is there
+  pub getD-sets-in : (l : List A) (i : ℕ) (vs : List A) (j : ℕ) (d : A) → j < length vs → i + length vs ≤ length l
+      → getD (sets l i vs) (i + j) d ≡ getD vs j d
+  getD-sets-in l i [] j d h k = let no′ : ⊥ = omega arith in absurd no′
+  getD-sets-in l i (v ∷ vs) zero d h k =
+      simp add-zero (getD-sets-below (set l i v) (suc i) vs i d (omega arith) ∙ getD-set-same l i v d (omega arith))
+  getD-sets-in l i (v ∷ vs) (suc j) d h k =
+      simp (add-suc, ← suc-add) (getD-sets-in (set l i v) (suc i) vs j d (omega arith) (rw length-set (omega arith)))
+
+-- from the start on
+pub stored-first : (old new : Bytes) → length new ≤ length old → sets old 0 new ≡ overwrite old new
+unfolding overwrite
+stored-first old new h = sets-eq new old 0 (omega arith) ∙ ap (λ (n : ℕ). new ++ drop n old) (zero-add (length new))
+
+-- ---- bytes in a buffer
 
 -- the text stands in the buffer from `at` on, and ends there
 pub record Stored (old : Bytes) (at : ℕ) (text buf : Bytes) (end : ℕ) : Type 0 where
@@ -46,7 +74,3 @@ module _ {old : Bytes} {at : ℕ} {text buf : Bytes} {end : ℕ} (s : Stored old
 
   pub stored-length : length buf ≡ length old
   stored-length = ap length (s .bytes) ∙ length-sets old at text
-
--- two numbers on a line
-pub in-line : (front a b : Bytes) → (((front ++ a) ++ one 32) ++ b) ++ one 10 ≡ front ++ (a ++ (32 ∷ (b ++ one 10)))
-in-line front a b = simp append-assoc

@@ -1,4 +1,4 @@
--- `dimacs::put_bytes` meets its contract. The loop's invariant: the first i bytes stand in the buffer from `at` on. Assumes nothing.
+-- `bytes::put_bytes` meets its contract. The loop's invariant: the first i bytes stand in the buffer from `at` on. Assumes nothing.
 use native.Mathlib.Omega.{arith}
 use native.Mathlib.Numerals.{add-one}
 use native.Mathlib.Nat.{add-zero, add-assoc}
@@ -6,9 +6,9 @@ use mathlib.Core.Path.{sym}
 use Prim.Native.Nat.{_+_, _-_, _≤_}
 use lib.ListN.{length, take, getD}
 use lib.Seq.{take-suc, take-all}
-use Rattle.programs.proofs.Stores.{Stored, stored-none, stored-byte, stored-same, stored-length}
-use Rattle.programs.proofs.dimacs.put_bytes.Statement.{statement}
-use Rattle.programs.proofs.dimacs.put_bytes.Tie as tie
+use Rattle.laws.proofs.Stores.{Stored, stored-none, stored-byte, stored-same, stored-length}
+use Rattle.frames.proofs.bytes.put_bytes.Statement.{statement}
+use Rattle.frames.proofs.bytes.put_bytes.Tie as tie
 
 abbrev Inv-loop : tie.InvT-loop
 Inv-loop buf₀ at s i₀ buf i = (i ≤ length s) × Stored buf₀ at (take i s) buf (at + i)

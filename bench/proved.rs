@@ -1,0 +1,72 @@
+// The proved entry points, through the static library that `rt staticlib gentupag` writes. Each answers a refusal's number and detail,
+// or what was written.
+
+use crate::checks::Lent;
+
+// The structs of include/gentupag.h, as far as they are looked at.
+#[repr(C)]
+struct Verdict {
+    number: usize,
+    detail: usize,
+}
+
+#[repr(C)]
+struct Output {
+    number: usize,
+    detail: usize,
+    length: usize,
+}
+
+#[repr(C)]
+struct Totals {
+    number: usize,
+    detail: usize,
+    variables: usize,
+    clauses: usize,
+    words: usize,
+}
+
+#[link(name = "gentupag", kind = "static")]
+unsafe extern "C" {
+    fn gentupag_read_book(book: *const u8, len: usize) -> Verdict;
+    fn gentupag_write_formula(book: *const u8, len: usize, out: *mut i32, room: usize) -> Totals;
+    fn gentupag_check_assignment(book: *const u8, len: usize, s: *const u8, n: usize, out: *mut u8, room: usize) -> Output;
+    fn gentupag_check_plan(book: *const u8, len: usize, s: *const u8, n: usize, out: *mut u8, room: usize) -> Output;
+    fn gentupag_check_refutation(
+        book: *const u8, len: usize, r: *const u8, n: usize, words: *mut i32, w: usize, clauses: *mut usize, c: usize,
+        values: *mut u8, v: usize, trail: *mut usize, t: usize) -> Verdict;
+}
+
+fn found<T>(number: usize, detail: usize, result: T) -> Result<T, (usize, usize)> {
+    if number == 0 { Ok(result) } else { Err((number, detail)) }
+}
+
+pub fn read_book(book: &[u8]) -> Result<(), (usize, usize)> {
+    let r = unsafe { gentupag_read_book(book.as_ptr(), book.len()) };
+    found(r.number, r.detail, ())
+}
+
+pub fn write_formula(book: &[u8], out: &mut [i32]) -> Result<(usize, usize, usize), (usize, usize)> {
+    let r = unsafe { gentupag_write_formula(book.as_ptr(), book.len(), out.as_mut_ptr(), out.len()) };
+    found(r.number, r.detail, (r.variables, r.clauses, r.words))
+}
+
+pub fn check_assignment(book: &[u8], s: &[u8], out: &mut [u8]) -> Result<usize, (usize, usize)> {
+    let r = unsafe { gentupag_check_assignment(book.as_ptr(), book.len(), s.as_ptr(), s.len(), out.as_mut_ptr(), out.len()) };
+    found(r.number, r.detail, r.length)
+}
+
+pub fn check_plan(book: &[u8], s: &[u8], out: &mut [u8]) -> Result<usize, (usize, usize)> {
+    let r = unsafe { gentupag_check_plan(book.as_ptr(), book.len(), s.as_ptr(), s.len(), out.as_mut_ptr(), out.len()) };
+    found(r.number, r.detail, r.length)
+}
+
+pub fn check_refutation(book: &[u8], r: &[u8], lent: &mut Lent) -> Result<(), (usize, usize)> {
+    let r = unsafe {
+        gentupag_check_refutation(
+            book.as_ptr(), book.len(), r.as_ptr(), r.len(), lent.words.as_mut_ptr(), lent.words.len(),
+            lent.clauses.as_mut_ptr(), lent.clauses.len(), lent.values.as_mut_ptr(), lent.values.len(),
+            lent.trail.as_mut_ptr(), lent.trail.len())
+    };
+    found(r.number, r.detail, ())
+}
