@@ -12,11 +12,12 @@ use lib.Seq.{take-at, length-take-le}
 use lib.Dec.{T}
 use Rattle.spec.specs.Lists.{Bytes, count, upTo, each}
 use Rattle.spec.specs.Numbers.{littleEndian, field}
-use Rattle.spec.specs.Frames.{bookFormat, oldFormat, frame, kindField, payloadOf, behind, cutShort, Kind, headKind, nodeKind, segmentKind, joinKind, trainKind, callKind, unbreakableKind, endKind, kindNumber, kindOrder, findKind}
+use Rattle.spec.specs.Frames.{timesAt, timeCount, bookFormat, oldFormat, frame, kindField, payloadOf, behind, cutShort, Kind, headKind, nodeKind, segmentKind, joinKind, trainKind, callKind, unbreakableKind, endKind, kindNumber, kindOrder, findKind}
 use Rattle.spec.specs.Book.{Book, Train, Call}
 use Rattle.spec.specs.Read.{trainFits, reachFits, placeFits, callFits, between}
 use Rattle.spec.specs.BookFile.{headPayload, nodePayload, segmentPayload, joinPayload, trainPayload, callPayload, unbreakablePayload, framesOf, framesThen, bookFile}
-use Rattle.spec.specs.Upgrade.{timesAt, timeCount, timesWidened, widenedAt, widened, widenedFound, frameWidened, widenedFrom, upgraded}
+use Rattle.spec.specs.Upgrade.{timesWidened, widenedAt, widened, widenedFound, frameWidened, widenedFrom, upgraded}
+use Rattle.demands.specs.OldFrames.{HasTimes}
 use Rattle.laws.proofs.Tests.{and-iff, eqb-iff, ltb-iff, leb-iff, all-iff, denied-of, from-denied}
 use Rattle.laws.proofs.Parts.{upTo-suc, each-append}
 use Rattle.laws.proofs.Numbers.{length-littleEndian, field-written, field-alone, field-past, drop-past}
@@ -28,7 +29,7 @@ use Rattle.demands.proofs.Building.{kind-back, head-length, train-lengt
 
 -- the Head's
 head-widened : (b : Book) → b .intervals < 256 → widened headKind (headPayload oldFormat b) ≡ headPayload bookFormat b
-unfolding widened widenedAt timesWidened timesAt timeCount each upTo count headPayload
+unfolding widened widenedAt timesWidened each upTo count headPayload
 head-widened b l =
     let m = littleEndian 2 (b .segmentMetres) in
     let s = littleEndian 2 (b .intervalSeconds) in
@@ -42,7 +43,7 @@ head-widened b l =
 
 -- a Train's
 train-widened : (t : Train) → t .departure < 256 → widened trainKind (trainPayload oldFormat t) ≡ trainPayload bookFormat t
-unfolding widened widenedAt timesWidened timesAt timeCount each upTo count trainPayload
+unfolding widened widenedAt timesWidened each upTo count trainPayload
 train-widened t l =
     let m = littleEndian 2 (t .metres) in
     let s = littleEndian 2 (t .speed) in
@@ -59,7 +60,7 @@ train-widened t l =
 
 -- a Call's
 call-widened : (c : Call) → c .first < 256 → c .last < 256 → widened callKind (callPayload oldFormat c) ≡ callPayload bookFormat c
-unfolding widened widenedAt timesWidened timesAt timeCount each upTo count callPayload
+unfolding widened widenedAt timesWidened each upTo count callPayload
 call-widened c l m =
     let t = littleEndian 1 (c .train) in
     let s = littleEndian 1 (c .segment) in
@@ -148,11 +149,6 @@ upgraded-next s w =
 
 -- ---- files of whole frames
 
--- a payload has its times, and is no longer than a book's
-pub record HasTimes (k : Kind) (p : Bytes) : Type 0 where
-  pub inside : timesAt k + timeCount k ≤ length p
-  pub short : length p ≤ 1000
-
 -- a file of whole frames that have their times, and nothing behind them
 pub data WithTimes : Bytes → Type 0 where
   no-more : WithTimes []
@@ -236,7 +232,7 @@ row-rewritten k old new (x ∷ xs) {n = n} h r =
 
 -- the End
 end-rewritten : Rewritten (frame (kindNumber endKind) []) (frame (kindNumber endKind) []) 0
-unfolding timesAt timeCount upgraded widenedFrom
+unfolding upgraded widenedFrom
 end-rewritten =
     let none-left : Rewritten [] [] 0 = record { framed = no-more; same = refl; longer = refl } in
     rw append-nil at
@@ -275,7 +271,7 @@ module _ (b : Book) (w : Parts b) (u : b .intervals ≤ oldFormat .greatestT) wh
   -- The old file of a book is rewritten to its new file.
   pub file-rewritten : (ttds : List ℕ)
       → Rewritten (bookFile oldFormat b ttds) (bookFile bookFormat b ttds) (1 + (length (b .trains) + 2 * length (b .calls)))
-  unfolding bookFile framesThen nodePayload segmentPayload joinPayload unbreakablePayload timesAt timeCount
+  unfolding bookFile framesThen nodePayload segmentPayload joinPayload unbreakablePayload
   file-rewritten ttds =
       let unbreakables = row-rewritten unbreakableKind unbreakablePayload unbreakablePayload ttds
       (λ x m. without unbreakableKind refl refl _ (byte-length x)) end-rewritten in

@@ -4,3 +4,5 @@ pub mod Reasons
 pub mod Claims
 -- what is claimed of a book's file
 pub mod BookFiles
+-- what the rewriter's contracts ask of an old frame
+pub mod OldFrames

@@ -51,7 +51,10 @@ pub struct HeadFrame {}
 impl HeadFrame {
     pub const KIND: usize = 1;
 
-    pub const LEN: usize = 4 + TIME;
+    // Where T stands.
+    pub const TIMES_AT: usize = 4;
+
+    pub const LEN: usize = HeadFrame::TIMES_AT + TIME;
 
     // The payload's stretch, from its place on.
     pub fn cursor(at: usize) -> Cursor
@@ -128,7 +131,10 @@ pub struct TrainFrame {}
 impl TrainFrame {
     pub const KIND: usize = 5;
 
-    pub const LEN: usize = 5 + TIME;
+    // Where the departure stands.
+    pub const TIMES_AT: usize = 4;
+
+    pub const LEN: usize = TrainFrame::TIMES_AT + TIME + 1;
 
     // The stretch of the payload's fixed part, from the payload's place on.
     pub fn cursor(at: usize) -> Cursor
@@ -147,7 +153,10 @@ pub struct CallFrame {}
 impl CallFrame {
     pub const KIND: usize = 6;
 
-    pub const LEN: usize = 2 + 2 * TIME;
+    // Where first and last stand.
+    pub const TIMES_AT: usize = 2;
+
+    pub const LEN: usize = CallFrame::TIMES_AT + 2 * TIME;
 
     // The payload's stretch, from its place on.
     pub fn cursor(at: usize) -> Cursor
@@ -205,7 +214,7 @@ pub struct OldHeadFrame {}
 impl OldHeadFrame {
     pub const KIND: usize = HeadFrame::KIND;
 
-    pub const LEN: usize = 4 + OLD_TIME;
+    pub const LEN: usize = HeadFrame::TIMES_AT + OLD_TIME;
 
     // The stretch of the payload, from the payload's place on.
     pub fn cursor(at: usize) -> Cursor
@@ -225,7 +234,7 @@ pub struct OldTrainFrame {}
 impl OldTrainFrame {
     pub const KIND: usize = TrainFrame::KIND;
 
-    pub const LEN: usize = 5 + OLD_TIME;
+    pub const LEN: usize = TrainFrame::TIMES_AT + OLD_TIME + 1;
 
     // The stretch of the payload's fixed part, from the payload's place on.
     pub fn cursor(at: usize) -> Cursor
@@ -245,7 +254,7 @@ pub struct OldCallFrame {}
 impl OldCallFrame {
     pub const KIND: usize = CallFrame::KIND;
 
-    pub const LEN: usize = 2 + 2 * OLD_TIME;
+    pub const LEN: usize = CallFrame::TIMES_AT + 2 * OLD_TIME;
 
     // The stretch of the payload, from the payload's place on.
     pub fn cursor(at: usize) -> Cursor
@@ -262,7 +271,7 @@ impl OldCallFrame {
 // Where a Head's payload ends that begins at a place, by its format.
 pub fn head_end(format: Format, at: usize) -> usize
     requires { ⌜ at < 0x8000_0000_0000_0000 ⌝ }
-    ensures { λ r. ⌜ r ≡ at + (4 + formatOf format .timeWidth) ⌝ }
+    ensures { λ r. ⌜ r ≡ at + (frames.timesAt frames.headKind + formatOf format .timeWidth) ⌝ }
 {
     match format {
         Format::Now => HeadFrame::cursor(at).end,
@@ -284,7 +293,7 @@ pub fn train_end(format: Format, at: usize) -> usize
 // Where a Call's payload ends.
 pub fn call_end(format: Format, at: usize) -> usize
     requires { ⌜ at < 0x8000_0000_0000_0000 ⌝ }
-    ensures { λ r. ⌜ r ≡ at + (2 + 2 * formatOf format .timeWidth) ⌝ }
+    ensures { λ r. ⌜ r ≡ at + (frames.timesAt frames.callKind + 2 * formatOf format .timeWidth) ⌝ }
 {
     match format {
         Format::Now => CallFrame::cursor(at).end,

@@ -125,10 +125,6 @@ module _ (b : BookStruct) (fits : CountsFit b) where
   unfolding held
   segments-held e = length-take-le _ (b .segments) (omega arith)
 
-  pub trains-held : length (b .trains) ≡ maxTrains → length (held b .trains) ≡ b .«train_count»
-  unfolding held
-  trains-held e = length-map (take (b .«train_count») (b .trains)) heldTrain ∙ length-take-le _ (b .trains) (omega arith)
-
 -- ---- the struct with what a frame puts in
 
 -- the struct with these numbers of a Head, and with at most one more entry in each of its rows

@@ -1,10 +1,13 @@
 // The content of a book's frames: 5 to 9 for each kind, and what the frame adds to the book. Each `add_`
 // takes a payload of its kind's length and answers the refusal's number beside the book unchanged, or
 // the book with what the frame adds. Assumes nothing.
+use frames::CallFrame;
 use frames::Format;
+use frames::HeadFrame;
 use frames::JoinFrame;
 use frames::NodeFrame;
 use frames::SegmentFrame;
+use frames::TrainFrame;
 use frames::UnbreakableFrame;
 use frames::bytes::all_below;
 use frames::bytes::place_of;
@@ -90,12 +93,12 @@ fn most_intervals(format: Format) -> usize
 
 // Head: rs, rt at least 1; T 1 to the format's most.
 pub fn add_head(format: Format, b: Book, p: &[u8]) -> Added
-    requires { ⌜ Packed b × (length (now p) ≡ 4 + formatOf format .timeWidth) ⌝ }
+    requires { ⌜ Packed b × (length (now p) ≡ frames.timesAt frames.headKind + formatOf format .timeWidth) ⌝ }
     ensures { λ r. ⌜ r ≡ added (formatOf format) frames.headKind (held b) (now (p .entry)) ⌝ }
 {
     let metres = pair(p, 0);
     let seconds = pair(p, 2);
-    let intervals = time(format, p, 4);
+    let intervals = time(format, p, HeadFrame::TIMES_AT);
     let most = most_intervals(format);
     if metres < 1 || seconds < 1 || intervals < 1 || most < intervals {
         return refused(b, 6);
@@ -237,14 +240,14 @@ pub fn add_unbreakable(b: Book, p: &[u8]) -> Added
 
 // Call: one to four a train.
 pub fn add_call(format: Format, b: Book, p: &[u8]) -> Added
-    requires { ⌜ Packed b × CallsFew (held b) × (length (now p) ≡ 2 + 2 * formatOf format .timeWidth) ⌝ }
+    requires { ⌜ Packed b × CallsFew (held b) × (length (now p) ≡ frames.timesAt frames.callKind + 2 * formatOf format .timeWidth) ⌝ }
     ensures { λ r. ⌜ r ≡ added (formatOf format) frames.callKind (held b) (now (p .entry)) ⌝ }
 {
     let c = Call {
         train: p[0],
         segment: p[1],
-        first: time(format, p, 2),
-        last: time(format, p, 2 + time_width(format)),
+        first: time(format, p, CallFrame::TIMES_AT),
+        last: time(format, p, CallFrame::TIMES_AT + time_width(format)),
     };
     if MAX_CALLS <= calls_of(b, wide(c.train)) {
         return refused(b, 5);
@@ -265,7 +268,7 @@ fn train_fits(format: Format, b: Book, p: &[u8]) -> bool
     ensures { λ r. ⌜ r ≡ read.trainFits (held b) (read.trainIn (formatOf format) (now (p .entry))) ⌝ }
 {
     1 <= pair(p, 0)
-        && time(format, p, 4) < b.intervals
+        && time(format, p, TrainFrame::TIMES_AT) < b.intervals
         && all_below(p, train_end(format, 0), 2 * b.segment_count)
 }
 
@@ -277,7 +280,7 @@ fn train_numbers(format: Format, p: &[u8]) -> Train
     Train {
         metres: pair(p, 0),
         speed: pair(p, 2),
-        departure: time(format, p, 4),
+        departure: time(format, p, TrainFrame::TIMES_AT),
         size: 0,
         place: [0u8; MAX_REACH],
     }

@@ -21,7 +21,7 @@ use Rattle.spec.specs.Formula.{width, firstVar, base, borderVar, runVar,
 use Rattle.spec.specs.Assignment.{deny, truth, isYes, valueOf, isTrue, holds, satisfies, firstFalse, assigned, assignmentFits, firstRun, chosen, decoded, decode, claims, encode}
 use Rattle.spec.specs.Refutation.{stepPayload, fileOf, literalCount, hintCount, stepIn, variableOf, risesFrom, literalsFit, hintsFit, makeTrue, makeFalse, refuting, isNo, isOpen, clauseAt, notFalse, hinted, goThrough, followsRule, clausesFit, isBad, stepFaults, stepDetail, checkSteps, checkFile}
 use Rattle.spec.specs.Entry.{demand, findNone, readInstance, formulaWritten, writtenFor, writeFormula, formulaText, judgeAssignment, decodedFor, checkAssignment, judgePlan, afterPlan, encodedFor, checkPlan, formulaFits, refutedFor, checkRefutation}
-use Rattle.spec.specs.Upgrade.{timesAt, timeCount, timesWidened, widenedAt, widened, widenedFound, frameWidened, widenedFrom, upgraded, upgradeBook}
+use Rattle.spec.specs.Upgrade.{timesWidened, widenedAt, widened, widenedFound, frameWidened, widenedFrom, upgraded, upgradeBook}
 use Rattle.spec.specs.Library.{RunAsked, noTrain, noRun, shown, Meaning, border, run, gone, claim, noVariable, freeNodesOf, sizesOf, measureBook, bordersFit, labelledFor, labelSections, runAmong, runAsked, askRun, meaningsIn, meanings, meaningOf, askVariable}
 use Rattle.spec.specs.Programs.{sliceBytes, sliceOf, programLent, unlessLong, isLong, acceptedLine, refusalLine, printed, printFormula, printAssignment, printPlan, printRefutation}
 
@@ -423,6 +423,6 @@ unfolding
     deny truth isYes valueOf isTrue holds satisfies firstFalse assigned assignmentFits firstRun chosen decoded decode claims encode
     stepPayload fileOf literalCount hintCount stepIn variableOf risesFrom literalsFit hintsFit makeTrue makeFalse refuting isNo isOpen clauseAt notFalse hinted goThrough followsRule clausesFit isBad stepFaults stepDetail checkSteps checkFile
     demand findNone readInstance formulaWritten writtenFor writeFormula formulaText judgeAssignment decodedFor checkAssignment judgePlan afterPlan encodedFor checkPlan formulaFits refutedFor checkRefutation
-    timesAt timeCount timesWidened widenedAt widened widenedFound frameWidened widenedFrom upgraded upgradeBook
+    timesWidened widenedAt widened widenedFound frameWidened widenedFrom upgraded upgradeBook
     sliceBytes sliceOf programLent unlessLong isLong acceptedLine refusalLine printed printFormula printAssignment printPlan printRefutation
 cases = refl

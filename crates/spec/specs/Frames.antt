@@ -74,6 +74,28 @@ rankIn n (k ∷ ks) = elim (eqb n (kindNumber k)) [ true ↦ 1 | false ↦ suc (
 unfoldable pub rank : ℕ → ℕ
 rank n = rankIn n kindOrder
 
+-- Where the times of a kind's payload begin, and how many there are: the Head's T behind rs and rt, a train's departure behind its
+-- length and speed, a call's first and last behind its train and segment.
+abbrev pub timesAt : Kind → ℕ
+timesAt headKind = 4
+timesAt nodeKind = 0
+timesAt segmentKind = 0
+timesAt joinKind = 0
+timesAt trainKind = 4
+timesAt callKind = 2
+timesAt unbreakableKind = 0
+timesAt endKind = 0
+
+abbrev pub timeCount : Kind → ℕ
+timeCount headKind = 1
+timeCount nodeKind = 0
+timeCount segmentKind = 0
+timeCount joinKind = 0
+timeCount trainKind = 1
+timeCount callKind = 2
+timeCount unbreakableKind = 0
+timeCount endKind = 0
+
 -- A format of book files: what a request may change while files of the earlier format are still to be read.
 pub record Format : Type 0 where
   -- how many bytes a time has: the Head's T, a train's departure, a call's first and last
@@ -90,9 +112,9 @@ abbrev pub oldFormat : Format
 oldFormat = record { timeWidth = 1; greatestT = 32 }
 
 module _ (f : Format) where
-  -- Where a train's count n stands in its payload: behind length (2), speed (2) and departure.
+  -- Where a train's count n stands in its payload: behind its departure.
   abbrev pub trainCountAt : ℕ
-  trainCountAt = 4 + f .timeWidth
+  trainCountAt = timesAt trainKind + f .timeWidth
 
   -- A train's fixed part, up to its count; the n directed segments stand behind it.
   abbrev pub trainFixed : ℕ
@@ -100,12 +122,12 @@ module _ (f : Format) where
 
   -- refusal 4: the payload's length is the one of its kind
   unfoldable pub lengthFits : Kind → Bytes → Bool
-  lengthFits headKind p = eqb (length p) (4 + f .timeWidth)
+  lengthFits headKind p = eqb (length p) (timesAt headKind + f .timeWidth)
   lengthFits nodeKind p = eqb (length p) 1
   lengthFits segmentKind p = eqb (length p) 3
   lengthFits joinKind p = eqb (length p) 3
   lengthFits trainKind p = leb trainFixed (length p) && eqb (length p) (trainFixed + field p trainCountAt 1)
-  lengthFits callKind p = eqb (length p) (2 + 2 * f .timeWidth)
+  lengthFits callKind p = eqb (length p) (timesAt callKind + 2 * f .timeWidth)
   lengthFits unbreakableKind p = eqb (length p) 1
   lengthFits endKind p = eqb (length p) 0
 

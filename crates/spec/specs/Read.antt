@@ -9,7 +9,7 @@ use lib.Dec.{leb, ltb, eqb}
 use Rattle.spec.specs.Lists.{Bytes, any, all, upTo, one, empty, Fault, _when_, firstFault, faultless, Verdict, accepted, refused}
 use Rattle.spec.specs.Numbers.{field}
 use Rattle.spec.specs.Frames.{Kind, headKind, nodeKind, segmentKind, joinKind, trainKind, callKind, unbreakableKind, endKind, kindNumber}
-use Rattle.spec.specs.Frames.{isKind, kindOrder, findKind, rank, Format, bookFormat, trainFixed, lengthFits, kindField, payloadOf, behind, cutShort}
+use Rattle.spec.specs.Frames.{timesAt, isKind, kindOrder, findKind, rank, Format, bookFormat, trainFixed, lengthFits, kindField, payloadOf, behind, cutShort}
 use Rattle.spec.specs.Book.{Book, Segment, Join, Train, Call, noBook}
 use Rattle.spec.specs.Book.{nodeKindAt, segmentAt, callsOf, deniesBorder, greatestNodeKind, touches, shareNode, joinIs, lengthInSegments, speedInSegments}
 use Rattle.spec.specs.Runs.{isPath, runsOf}
@@ -23,11 +23,12 @@ joinIn p = record { node = field p 0 1; left = field p 1 1; right = field p 2 1 
 
 unfoldable pub trainIn : Format → Bytes → Train
 trainIn f p = record
-  { metres = field p 0 2; speed = field p 2 2; departure = field p 4 (f .timeWidth); place = drop (trainFixed f) p }
+  { metres = field p 0 2; speed = field p 2 2; departure = field p (timesAt trainKind) (f .timeWidth); place = drop (trainFixed f) p }
 
 unfoldable pub callIn : Format → Bytes → Call
 callIn f p = record
-  { train = field p 0 1; segment = field p 1 1; first = field p 2 (f .timeWidth); last = field p (2 + f .timeWidth) (f .timeWidth) }
+  { train = field p 0 1; segment = field p 1 1; first = field p (timesAt callKind) (f .timeWidth);
+    last = field p (timesAt callKind + f .timeWidth) (f .timeWidth) }
 
 -- a row that frames of its kind make longer
 unfoldable pub grown : {A : Type 0} → Bool → List A → A → List A
@@ -39,7 +40,7 @@ unfoldable pub add : Format → Book → Kind → Bytes → Book
 add f b k p = record
   { segmentMetres = cond (isKind k headKind) (field p 0 2) (b .segmentMetres)
   ; intervalSeconds = cond (isKind k headKind) (field p 2 2) (b .intervalSeconds)
-  ; intervals = cond (isKind k headKind) (field p 4 (f .timeWidth)) (b .intervals)
+  ; intervals = cond (isKind k headKind) (field p (timesAt headKind) (f .timeWidth)) (b .intervals)
   ; nodes = grown (isKind k nodeKind) (b .nodes) (field p 0 1)
   ; segments = grown (isKind k segmentKind) (b .segments) (segmentIn p)
   ; joins = grown (isKind k joinKind) (b .joins) (joinIn p)

@@ -7,31 +7,10 @@ use lib.ListN.{length, take, drop}
 use lib.Dec.{leb}
 use Rattle.spec.specs.Lists.{Bytes, each, upTo, Verdict, accepted, andThen}
 use Rattle.spec.specs.Numbers.{littleEndian, field}
-use Rattle.spec.specs.Frames.{frame, kindField, payloadOf, behind, cutShort, kindOrder, findKind, bookFormat, oldFormat}
-use Rattle.spec.specs.Frames.{Kind, headKind, nodeKind, segmentKind, joinKind, trainKind, callKind, unbreakableKind, endKind}
+use Rattle.spec.specs.Frames.{timesAt, timeCount, frame, kindField, payloadOf, behind, cutShort, kindOrder, findKind, bookFormat, oldFormat}
+use Rattle.spec.specs.Frames.{Kind}
 use Rattle.spec.specs.Read.{readAs}
 use Rattle.spec.specs.Entry.{demand, overwrite, written}
-
--- Where the times of a kind's payload stand, and how many there are: the Head's T, a train's departure, a call's first and last.
-unfoldable pub timesAt : Kind → ℕ
-timesAt headKind = 4
-timesAt nodeKind = 0
-timesAt segmentKind = 0
-timesAt joinKind = 0
-timesAt trainKind = 4
-timesAt callKind = 2
-timesAt unbreakableKind = 0
-timesAt endKind = 0
-
-unfoldable pub timeCount : Kind → ℕ
-timeCount headKind = 1
-timeCount nodeKind = 0
-timeCount segmentKind = 0
-timeCount joinKind = 0
-timeCount trainKind = 1
-timeCount callKind = 2
-timeCount unbreakableKind = 0
-timeCount endKind = 0
 
 -- "every time must read as the number it was": the times of an old payload that stand from a place on, as wide as they now are
 unfoldable pub timesWidened : Bytes → ℕ → ℕ → Bytes

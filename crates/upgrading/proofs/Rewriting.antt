@@ -9,18 +9,18 @@ use lib.ListN.{length, take, drop, length-append, length-drop, drop-of-length-le
 use lib.Seq.{sets, drop-drop}
 use lib.Dec.{T, T-not}
 use Rattle.spec.specs.Lists.{Bytes}
-use Rattle.spec.specs.Frames.{frame, cutShort, kindField, payloadLength, payloadOf, behind, kindOrder, findKind}
+use Rattle.spec.specs.Frames.{Kind, frame, cutShort, kindField, payloadLength, payloadOf, behind, kindOrder, findKind}
 use Rattle.spec.specs.Upgrade.{widenedFound, frameWidened, widenedFrom, upgraded}
 use Rattle.laws.proofs.Tests.{from-true}
 use Rattle.laws.proofs.Numbers.{bytes, bytes-drop, field-lt}
 use Rattle.laws.proofs.Frames.{whole-iff}
 use Rattle.laws.proofs.Stores.{Stored, stored-none, stored-behind, stored-length}
+use Rattle.demands.specs.OldFrames.{HasTimes}
 use Rattle.demands.proofs.Widening.{WithTimes, Next, times-next, upgraded-next}
 use Rattle.frames.specs.Framed.{framedAt}
 use Rattle.frames.specs.declared.Framed.the-variants.{Whole, Cut}
 use Rattle.reader.proofs.Steps.{whole-says, cut-says}
 use Rattle.reader.proofs.Whole.{payload-here}
-use Rattle.upgrading.specs.Widened.{Carries}
 
 -- the frames ahead of `at` are rewritten in `new`, up to `to`
 pub record Rewriting (old new₀ : Bytes) (at to : ℕ) (new : Bytes) : Type 0 where
@@ -71,11 +71,14 @@ module _ {old new₀ : Bytes} {at to : ℕ} {new : Bytes} (r : Rewriting old new
       kind-small y =
           omega (arith, kind-is, field-lt (drop at old) 2 2 (bytes-drop at old y) (omega (arith, whole-iff (drop at old) .0 (here .whole))))
 
-      pub carries : Carries kind payload
-      carries =
-          let f : findKind kind kindOrder ≡ some (here .kind) = ap (λ (k : ℕ). findKind k kindOrder) (sym kind-is) ∙ here .found in
-          let n = ap length payload-is in
-          record { inside = rw f (omega (arith, n, here .times .inside)); short = omega (arith, n, here .times .short) }
+      -- its payload has its times
+      pub has-times : (k : Kind) × (findKind kind kindOrder ≡ some k) × HasTimes k payload
+      has-times =
+          let n = ap length payload-is in (
+            here .kind,
+            ap (λ (k : ℕ). findKind k kindOrder) (sym kind-is) ∙ here .found,
+            record { inside = omega (arith, n, here .times .inside); short = omega (arith, n, here .times .short) },
+          )
 
       -- it is the next of the new book
       frame-is : next-frame ≡ frameWidened (drop at old)

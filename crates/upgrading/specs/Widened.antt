@@ -1,11 +1,9 @@
 -- Where the times of an old payload stand, as the code answers it. Assumes nothing.
 use mathlib.Core.Option.{Option, none, some}
-use Prim.Native.Nat.{ℕ, _+_, _*_, _≤_}
+use Prim.Native.Nat.{ℕ, _+_, _*_}
 use lib.ListN.{length}
-use Rattle.spec.specs.Lists.{Bytes}
-use Rattle.spec.specs.Frames.{Kind, kindOrder, findKind}
+use Rattle.spec.specs.Frames.{timesAt, timeCount, Kind}
 use Rattle.spec.specs.Book.{Book}
-use Rattle.spec.specs.Upgrade.{timesAt, timeCount}
 use Rattle.upgrading.specs.declared.Times.{Times}
 
 -- those of a kind; a number that is no kind's has none
@@ -16,8 +14,3 @@ timesIn (some k) = record { at = timesAt k; count = timeCount k }
 -- how many there are in a book: T, each train's departure, and each call's first and last
 unfoldable pub bookTimes : Book → ℕ
 bookTimes b = 1 + (length (b .trains) + 2 * length (b .calls))
-
--- the payload of a frame with this kind has its times, and is no longer than a book's
-pub record Carries (kind : ℕ) (p : Bytes) : Type 0 where
-  pub inside : timesIn (findKind kind kindOrder) .at + timesIn (findKind kind kindOrder) .count ≤ length p
-  pub short : length p ≤ 1000

@@ -2,12 +2,15 @@
 // widened and every other field as it was. `upgrade_book` is the entry point: it takes any bytes as an old
 // book, and answers how long the new one is that it wrote, or one numbered refusal, with the output as it
 // was. Assumes nothing.
+use frames::CallFrame;
 use frames::Format;
 use frames::Framed;
+use frames::HeadFrame;
 use frames::Kind;
 use frames::OLD_TIME;
 use frames::OPENING;
 use frames::TIME;
+use frames::TrainFrame;
 use frames::bytes::put_bytes;
 use frames::bytes::put_pair;
 use frames::frame_at;
@@ -19,6 +22,7 @@ use reader::reading::Answer;
 use reader::reading::OutputAnswer;
 use reader::reading::read_as;
 ghost use mathlib.Core.Path.{_≡_};
+ghost use mathlib.Core.Option.{some};
 ghost use Prim.Native.Nat.{_+_, _≤_, _<_};
 ghost use lib.ListN.{length};
 ghost use lib.Seq.{sets};
@@ -27,10 +31,11 @@ ghost use Rattle.spec.specs.Frames as frames;
 ghost use Rattle.spec.specs.Read.{readAs};
 ghost use Rattle.spec.specs.Held.{held};
 ghost use Rattle.spec.specs.Upgrade.{widenedAt, widenedFound, upgraded, upgradeBook, upgradeOutput};
+ghost use Rattle.demands.specs.OldFrames.{HasTimes};
 ghost use Rattle.frames.specs.Framed.{kindIn};
 ghost use Rattle.reader.specs.Added.{Packed};
 ghost use Rattle.reader.specs.OutputAnswers.{outputAnswer};
-ghost use Rattle.upgrading.specs.Widened.{timesIn, bookTimes, Carries};
+ghost use Rattle.upgrading.specs.Widened.{timesIn, bookTimes};
 
 // Where the times of a payload stand, and how many there are.
 pub struct Times {
@@ -43,9 +48,18 @@ fn times_of(kind: Kind) -> Times
     ensures { λ r. ⌜ r ≡ timesIn (kindIn kind) ⌝ }
 {
     match kind {
-        Kind::Head => Times { at: 4, count: 1 },
-        Kind::Train => Times { at: 4, count: 1 },
-        Kind::Call => Times { at: 2, count: 2 },
+        Kind::Head => Times {
+            at: HeadFrame::TIMES_AT,
+            count: 1,
+        },
+        Kind::Train => Times {
+            at: TrainFrame::TIMES_AT,
+            count: 1,
+        },
+        Kind::Call => Times {
+            at: CallFrame::TIMES_AT,
+            count: 2,
+        },
         Kind::Node => Times { at: 0, count: 0 },
         Kind::Segment => Times { at: 0, count: 0 },
         Kind::Join => Times { at: 0, count: 0 },
@@ -74,7 +88,8 @@ fn put_payload(times: Times, p: &[u8], new: &mut [u8], to: usize)
 
 // Writes the frame of an old payload, its times widened, from `to` on; answers where it ends.
 fn put_frame(kind: usize, p: &[u8], new: &mut [u8], to: usize) -> usize
-    requires { ⌜ (kind < 65536) × Carries kind (now p)
+    requires { ⌜ (kind < 65536)
+        × ((k : frames.Kind) × (frames.findKind kind frames.kindOrder ≡ some k) × HasTimes k (now p))
         × (to + length (frames.frame kind (widenedFound (frames.findKind kind frames.kindOrder) (now p))) ≤ length (now new)) ⌝ }
     ensures { λ r. ⌜ (r ≡ to + length (frames.frame kind (widenedFound (frames.findKind kind frames.kindOrder) (now (p .entry)))))
         × (now (new .exit) ≡ sets (now (new .entry)) to (frames.frame kind (widenedFound (frames.findKind kind frames.kindOrder) (now (p .entry))))) ⌝ }

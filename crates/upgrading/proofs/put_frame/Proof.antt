@@ -3,15 +3,15 @@ use borrow.Author.Needs.{needs}
 use native.Mathlib.Omega.{arith}
 use mathlib.Core.Path.{_≡_, sym, ap, _∙_}
 use mathlib.Core.List.{_++_}
-use mathlib.Core.Option.{Option}
+use mathlib.Core.Option.{Option, some}
 use Prim.Native.Nat.{ℕ, _+_, _*_, _≤_, _<_}
 use lib.ListN.{length}
 use lib.Seq.{sets}
 use denote.Ref.{now}
 use Rattle.spec.specs.Lists.{Bytes}
 use Rattle.spec.specs.Numbers.{littleEndian}
-use Rattle.spec.specs.Frames.{Kind, frame, kindOrder, findKind}
-use Rattle.spec.specs.Upgrade.{widenedAt, widenedFound}
+use Rattle.spec.specs.Frames.{timeCount, Kind, frame, kindOrder, findKind}
+use Rattle.spec.specs.Upgrade.{widenedAt, widened, widenedFound}
 use Rattle.frames.specs.declared.Kind.{Kind as KindCase}
 use Rattle.frames.specs.Framed.{kindIn}
 use Rattle.frames.proofs.Order.{in-said}
@@ -20,7 +20,7 @@ use Rattle.laws.proofs.Stores.{Stored, stored, stored-behind, stored-length}
 use Rattle.demands.proofs.Widening.{length-frame}
 use Rattle.upgrading.specs.declared.Times.{Times}
 use Rattle.upgrading.specs.Widened.{timesIn}
-use Rattle.upgrading.proofs.Framing.{widened-by, few-times, length-found}
+use Rattle.upgrading.proofs.Framing.{few-times, length-found}
 use Rattle.upgrading.proofs.put_frame.Statement.{statement}
 use Rattle.upgrading.proofs.put_frame.Tie as tie
 
@@ -35,11 +35,15 @@ module _ (c : tie.After-times-of) where
   abbrev found : Option Kind
   found = findKind (given .args .kind) kindOrder
 
-  times-found : c .times-of .result ≡ timesIn found
-  times-found =
-      c .times-of .ensures ∙ ap timesIn (ap {B = Option Kind} (λ (k : KindCase). kindIn k) (c .before .kind-of .ensures) ∙ in-said found)
+  abbrev kind : Kind
+  kind = given .pre .1 .0
 
-  count-found : c .times-of .result .count ≡ timesIn found .count
+  times-found : c .times-of .result ≡ timesIn (some kind)
+  times-found =
+      c .times-of .ensures
+      ∙ ap timesIn (ap {B = Option Kind} (λ (k : KindCase). kindIn k) (c .before .kind-of .ensures) ∙ in-said found ∙ given .pre .1 .1)
+
+  count-found : c .times-of .result .count ≡ timeCount kind
   count-found = ap (λ (t : Times). t .count) times-found
 
   -- the new payload, and its length
@@ -47,13 +51,13 @@ module _ (c : tie.After-times-of) where
   wide = widenedFound found payload
 
   grown : length wide ≡ length payload + c .times-of .result .count
-  grown = length-found _ payload (given .pre .1) ∙ ap (λ (n : ℕ). length payload + n) (sym count-found)
+  grown = length-found payload (given .pre .1 .1) (given .pre .1 .2) ∙ ap (λ (n : ℕ). length payload + n) (sym count-found)
 
   room : given .args .to + (4 + (length payload + c .times-of .result .count)) ≤ length (given .args .new .now)
   room = omega (arith, given .pre .2, length-frame (given .args .kind) wide, grown)
 
   small : length payload + c .times-of .result .count < 65536
-  small = omega (arith, given .pre .1 .short, few-times found, count-found)
+  small = omega (arith, given .pre .1 .2 .short, few-times kind, count-found)
 
 -- the length is stored
 module _ (c : tie.After-put-pair) where
@@ -88,10 +92,11 @@ module _ (c : tie.After-put-payload) where
 
   whole : Stored (given all .args .new .now) (given all .args .to) (frame (given all .args .kind) (wide all)) (c .put-payload .last .1 .1 .0)
       (given all .args .to + 4 + (length (payload all) + all .times-of .result .count * 1))
-  unfolding frame
+  unfolding frame widened widenedFound
   whole =
       let e : widenedAt (payload all) (all .times-of .result .at) (all .times-of .result .count) ≡ wide all =
-      ap (λ (t : Times). widenedAt (payload all) (t .at) (t .count)) (times-found all) ∙ widened-by (found all) (payload all) in
+      ap (λ (t : Times). widenedAt (payload all) (t .at) (t .count)) (times-found all)
+      ∙ ap (λ (o : Option Kind). widenedFound o (payload all)) (sym (given all .pre .1 .1)) in
       stored-behind (opening two)
       (stored (two .put-pair2 .last .0) (given all .args .to + 4) (wide all) (omega (arith, grown all))
       (c .put-payload .ensures ∙ ap (sets (two .put-pair2 .last .0) (given all .args .to + 4)) e))
@@ -106,7 +111,7 @@ put-payload-requires c κs =
     let two = c .before .before .before in
     let t = known (one two) in
     let a = ap (λ (x : Times). x .at) (times-found t) in
-    (omega (arith, a, count-found t, given t .pre .1 .inside), omega (arith, room t, stored-length (opening two)))
+    (omega (arith, a, count-found t, given t .pre .1 .2 .inside), omega (arith, room t, stored-length (opening two)))
 
 pub put-frame-spec : {M : Type 1} → statement M
 put-frame-spec =

@@ -7,7 +7,7 @@ use Prim.Native.Nat.{_+_, _-_, _≤_, _<_}
 use lib.ListN.{length, drop}
 use lib.Dec.{T}
 use denote.Ref.{now}
-use Rattle.upgrading.proofs.Rewriting.{Rewriting, rewriting-none, rewriting-all, never-cut, kind-small, carries, room-here, rewriting-next}
+use Rattle.upgrading.proofs.Rewriting.{Rewriting, rewriting-none, rewriting-all, never-cut, kind-small, has-times, room-here, rewriting-next}
 use Rattle.demands.proofs.Upgrading.{upgraded-frames}
 use Rattle.laws.proofs.Numbers.{bytes}
 use Rattle.laws.proofs.Stores.{stored-length}
@@ -62,7 +62,7 @@ put-frame-requires c κs =
     let t = c .before .before in
     let r = looped t .loop .inv in (
       kind-small r (inside t) (whole t) (old-bytes (looped t .before .before)),
-      carries r (inside t) (whole t),
+      has-times r (inside t) (whole t),
       room-here r (inside t) (whole t) (start t .pre .1),
     )
 

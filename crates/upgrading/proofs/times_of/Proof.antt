@@ -1,7 +1,6 @@
 -- `upgrading::times_of` meets its contract: each case of the match has the times of its kind. Assumes nothing.
 use borrow.Author.Needs.{needs}
 use mathlib.Core.Path.{_≡_, sym, ap}
-use Rattle.spec.specs.Upgrade.{timesAt, timeCount}
 use Rattle.frames.specs.declared.Kind.{Kind}
 use Rattle.frames.specs.Framed.{kindIn}
 use Rattle.upgrading.specs.Widened.{timesIn}
@@ -13,7 +12,6 @@ found : (kind case : Kind) → kind ≡ case → timesIn (kindIn case) ≡ times
 found kind case e = ap (λ (k : Kind). timesIn (kindIn k)) (sym e)
 
 pub times-of-spec : {M : Type 1} → statement M
-unfolding timesAt timeCount
 times-of-spec =
     tie.close
     (tie.spec

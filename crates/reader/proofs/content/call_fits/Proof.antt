@@ -2,6 +2,7 @@
 -- Assumes nothing.
 use borrow.Author.Needs.{needs}
 use borrow.Author.Tests.{lt-ltb, le-ltb}
+use native.Mathlib.Omega.{arith}
 use mathlib.Core.Path.{_≡_, sym, _∙_}
 use mathlib.Core.Bool.{Bool, _&&_}
 use mathlib.Core.Logic.{⊎-elim}
@@ -10,7 +11,8 @@ use lib.Dec.{leb, ltb}
 use Rattle.spec.specs.Read.{callFits}
 use Rattle.spec.specs.Held.{held}
 use Rattle.network.proofs.Walks.{length-of-map}
-use Rattle.reader.proofs.Packing.{segments-held, trains-held}
+use Rattle.reader.proofs.Packing.{segments-held}
+use Rattle.listing.proofs.Trains.{trains-counted}
 use Rattle.reader.proofs.content.call_fits.Statement.{statement}
 use Rattle.reader.proofs.content.call_fits.Tie as tie
 
@@ -50,7 +52,7 @@ whole c =
     let b = c .before .args .b in
     let t : length (b .trains) ≡ 8 = search (needs, length-of-map) in
     let s : length (b .segments) ≡ 64 = search (needs, length-of-map) in
-    simp (trains-held b (c .before .pre) t, segments-held b (c .before .pre) s, c .wide .ensures .0)
+    simp (trains-counted b (omega (arith, t, c .before .pre .trains)), segments-held b (c .before .pre) s, c .wide .ensures .0)
 
 returns : tie.Need-returns
 returns c =

@@ -13,7 +13,7 @@ use Rattle.spec.specs.Book.{callsOf}
 use Rattle.spec.specs.Held.{held}
 use Rattle.network.proofs.Walks.{length-of-map}
 use Rattle.network.proofs.Rests.{any-range-next, any-range-end, any-range-all}
-use Rattle.reader.proofs.Packing.{trains-held}
+use Rattle.listing.proofs.Trains.{trains-counted}
 use Rattle.reader.proofs.Ends.{empty-counted, or-second, or-first}
 use Rattle.reader.proofs.reading.all_called.Statement.{statement}
 use Rattle.reader.proofs.reading.all_called.Tie as tie
@@ -32,7 +32,7 @@ lacking c j = empty (callsOf (held (c .args .b)) j)
 
 -- the book's trains are as many as its count says
 counted : (c : tie.Start Inv-loop μ-loop) → length (held (c .args .b) .trains) ≡ c .args .b .«train_count»
-counted c = let e : length (c .args .b .trains) ≡ 8 = search (needs, length-of-map) in trains-held (c .args .b) (c .pre) e
+counted c = let e : length (c .args .b .trains) ≡ 8 = search (needs, length-of-map) in trains-counted (c .args .b) (omega (arith, e, c .pre .trains))
 
 -- some train lacks a call, and some from i on does
 abbrev whole : tie.Start Inv-loop μ-loop → Bool
