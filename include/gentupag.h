@@ -118,6 +118,11 @@ gentupag_variable gentupag_explain_variable(const uint8_t *book, size_t book_len
  * too short an output: the new book has one byte more for its Head, one a train and two a call. */
 gentupag_output gentupag_upgrade_book(const uint8_t *old, size_t old_length, uint8_t *GENTUPAG_APART out, size_t out_length);
 
+/* The train graph of a plan that keeps the rules: a line an interval, 80 bytes of text and a newline, so 81 bytes times `intervals` of
+ * gentupag_measure_book. Refuses by 12, 15, 16. No byte 0 stands behind the text. */
+gentupag_output gentupag_print_graph(const uint8_t *book, size_t book_length, const uint8_t *plan, size_t plan_length,
+                                     uint8_t *GENTUPAG_APART out, size_t out_length);
+
 #undef GENTUPAG_APART
 #ifdef __cplusplus
 }

@@ -6,6 +6,7 @@ built program print, and the result in the last file, where one is named and the
   check_plan BOOK PLAN [ASSIGNMENT]
   check_refutation BOOK REFUTATION
   upgrade_book OLD NEW                      an old book, of times of one byte, rewritten
+  print_graph BOOK PLAN                     the plan's train graph, a line an interval
 
 Exit status: 0 answered, accepted or refused; 2 wrong usage, or a file can't be read.
 """
@@ -32,6 +33,15 @@ def check(command, names):
     return reference.verdict_line(answer)
 
 
+def said_by(command, names):
+    """What a command prints."""
+    if command == "print_formula":
+        return reference.print_formula(read_bytes(names[0]) if names else sys.stdin.buffer.read())
+    if command == "print_graph":
+        return reference.print_graph(*map(read_bytes, names))
+    return check(command, names)
+
+
 def least_and_most(command):
     """How many names there may be: as the program takes, but for the book of print_formula, which may be named here."""
     return COMMANDS[command].least, max(COMMANDS[command].most, 1)
@@ -41,10 +51,6 @@ def run(options):
     least, most = least_and_most(options.command)
     if not least <= len(options.names) <= most:
         options.complain(f"{options.command} takes {least if least == most else f'{least} or {most}'} names")
-    if options.command == "print_formula":
-        said = reference.print_formula(read_bytes(options.names[0]) if options.names else sys.stdin.buffer.read())
-    else:
-        said = check(options.command, options.names)
-    sys.stdout.buffer.write(said)
+    sys.stdout.buffer.write(said_by(options.command, options.names))
     sys.stdout.buffer.flush()
     return 0

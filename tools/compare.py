@@ -1,11 +1,12 @@
 """Holds the definitions of crates/spec, evaluated by the checker, against the reference: BOOKS random and damaged books from SEED, with
-assignments, plans and refutations for those that pass, and as many old books. Both sides are asked the same questions, and it prints how many answers of each
-kind agreed, or which did not. A question's answer is a row of numbers: 0 and the result, or the refusal's number and detail. The questions
-become a table of a small crate beside a copy of crates/spec, and the checker (`rt dev`) decides it; a table that it refuses is halved until
-the question is found.
+assignments, plans and refutations for those that pass, and as many old books, and books whose plans are drawn as train graphs. Both sides are
+asked the same questions, and it prints how many answers of each kind agreed, or which did not. A question's answer is a row of numbers: 0 and
+the result, or the refusal's number and detail. The questions become a table of a small crate beside a copy of crates/spec, and the checker
+(`rt dev`) decides it; a table that it refuses is halved until the question is found.
 
 Exit status: 0 none differs, 1 some differ, or the checker refused a table's form, 2 wrong usage.
 """
+import itertools
 import os
 import random
 import re
@@ -17,8 +18,10 @@ from collections import Counter
 
 from . import library, reference
 from .crates import Listed, below
+from .known import lone, moving, on_segment
+from .passing_books import passing_book
 from .random_books import book_to_rewrite, damaged_book, random_book
-from .random_inputs import random_assignments, random_borders, random_plans, random_refutations
+from .random_inputs import kept_plans, random_assignments, random_borders, random_plans, random_refutations
 from .repository import ROOT, read_text, write_text
 
 # the most characters of questions in one table: a declaration has a limit of steps
@@ -29,7 +32,7 @@ use mathlib.Core.Path.{_≡_, refl}
 use mathlib.Core.Bool.{Bool, true, false}
 use Prim.Native.Nat.{ℕ, zero, suc, _+_, _*_}
 use mathlib.Core.List.{List, [], _∷_, _++_, map}
-use lib.ListN.{length}
+use lib.ListN.{length, take, drop}
 use lib.IntN.{ℤ, pos, negsuc}
 
 answered : {A : Type 0} → Verdict A → (A → List ℕ) → List ℕ
@@ -68,6 +71,12 @@ refuting′ s r w c v t = answered (checkRefutation s r (record { words = w; cla
 rewriting : Bytes → ℕ → List ℕ
 rewriting s n = answered (upgradeBook s n) λ b. b
 
+drawing : Bytes → Bytes → ℕ → List ℕ
+drawing s p n = answered (printGraph s p n) λ g. g
+
+lineDrawn : Bytes → Bytes → ℕ → List ℕ
+lineDrawn s p t = answered (printGraph s p 65536) λ g. length g ∷ take 81 (drop (81 * t) g)
+
 measuring : Bytes → List ℕ
 measuring s = answered (measureBook s) λ z.
     z .intervals ∷ z .nodes ∷ z .freeNodes ∷ z .segments ∷ z .trains ∷ z .variableCount ∷ z .clauseCount ∷ z .wordCount ∷ z .planBytes ∷ []
@@ -101,7 +110,8 @@ failing : ℕ → List Case → List ℕ
 failing n [] = []
 failing n (c ∷ cs) = only (mathlib.Core.Bool.not (same (c .asked) (c .answer))) (n ∷ []) ++ failing (suc n) cs
 """
-HELPERS = "answered code rows lists grouped words textOf decoding encoding refuting′ rewriting measuring labelling showing running meant meaning′ failing"
+HELPERS = """answered code rows lists grouped words textOf decoding encoding refuting′ rewriting drawing lineDrawn measuring labelling showing
+    running meant meaning′ failing"""
 # the constructors that the tables name, by the module that has them
 MAKERS = {"Lists": ["accepted", "refused"], "Library": ["noTrain", "noRun", "shown", "border", "run", "gone", "claim", "noVariable"]}
 
@@ -202,6 +212,7 @@ def input_questions(rng, data, book, each):
     for s in list(random_plans(rng, book, each)):
         n = variables - (rng.random() < 0.1)
         yield "plan", "encoding %s %s %d" % (row(data), row(s), n), answer_of(reference.entry_check_plan(data, s, n))
+        yield graph_question(rng, data, book, s)
     words = reference.word_count(clauses)
     for s in list(random_refutations(rng, book, each)):
         lent = [words + 400, len(clauses) + 60, variables, variables]
@@ -210,6 +221,41 @@ def input_questions(rng, data, book, each):
             lent[which] = [words + rng.randrange(8), len(clauses) + rng.randrange(3), variables, variables][which] - (rng.random() < 0.3)
         asked = "refuting′ %s %s %d %d %d %d" % ((row(data), row(s)) + tuple(lent))
         yield "refutation", asked, answer_of(reference.entry_check_refutation(data, s, *lent))
+
+
+def graph_question(rng, data, book, plan):
+    """The train graph of a plan, with room for it or a byte too little."""
+    n = reference.page_length(book) - (rng.random() < 0.1)
+    return "graph", "drawing %s %s %d" % (row(data), row(plan), n), answer_of(reference.entry_print_graph(data, plan, n))
+
+
+def kept_graphs(rng, most):
+    """Graphs of plans that keep the rules, of a book with trains that pass each other."""
+    data = passing_book(rng)
+    book, refusal = library.book_or_refusal(data)
+    for plan in [] if refusal else itertools.islice(kept_plans(rng, book, 300), most):
+        yield graph_question(rng, data, book, plan)
+
+
+def line_questions(data, plan, times):
+    """Of a page of many intervals, which is too long for a table, the length and some lines."""
+    page = reference.entry_print_graph(data, plan, 65536)[1]
+    for t in times:
+        yield "line", "lineDrawn %s %s %d" % (row(data), row(plan), t), [0, len(page), *page[81 * t:81 * t + 81]]
+
+
+def long_graph(rng, data):
+    """Lines of a plan of a book with many intervals."""
+    book, refusal = library.book_or_refusal(data)
+    for plan in [] if refusal else itertools.islice(kept_plans(rng, book), 1):
+        yield from line_questions(data, plan, (rng.randrange(book.T), book.T - 1))
+
+
+def edge_graphs(rng):
+    """What random books seldom have, one of each: a train that moves up to 8, a segment of two digits, intervals of three."""
+    for data, plan in (moving(1, rng.random() < 0.5, rng.choice((8, 8, rng.randrange(9)))), on_segment(rng.choice((63, rng.randrange(10, 64))))):
+        yield graph_question(rng, data, reference.read_book(data), plan)
+    yield from line_questions(*lone(256, 99, 100), (9, 10, 99, 100, 255))
 
 
 def old_questions(rng, old):
@@ -225,11 +271,14 @@ def explodes(data, form=reference.NEW):
 
 
 def questions(rng, books):
+    yield from edge_graphs(rng)
     for n in range(books):
         if n % 8 == 3:
             # many intervals: the formula has too many words for a table
             data = random_book(rng, "long")
             yield "book", "lists %s" % row(data), listed(data)
+            yield from long_graph(rng, data)
+        yield from kept_graphs(rng, 4)
         old = book_to_rewrite(rng)
         if len(old) <= 900 and not explodes(old, reference.OLD):
             yield from old_questions(rng, old)

@@ -3,10 +3,10 @@ SEED makes that book of the seed alone.
 
 Of each book: the formula's text is the reference's; the solver script decides it, and one of Debian's solvers that are installed, in turns;
 what they answer is accepted, and turned into a plan and back; spoiled assignments, plans and refutations get the reference's line and
-result; no book has both a plan and a refutation accepted. Where the plans are few, all are tried by the reference's rules: there is one
-that keeps them exactly where there is an accepted assignment, and otherwise there is an accepted refutation. With each book goes an old one,
-good or damaged, which is rewritten as the reference does it; what comes of it has the formula that the old book had. Prints a summary and
-every difference; the files of those stay in a folder that it names.
+result, and every plan, spoiled or not, its train graph or line; no book has both a plan and a refutation accepted. Where the plans are few,
+all are tried by the reference's rules: there is one that keeps them exactly where there is an accepted assignment, and otherwise there is an
+accepted refutation. With each book goes an old one, good or damaged, which is rewritten as the reference does it; what comes of it has the
+formula that the old book had. Prints a summary and every difference; the files of those stay in a folder that it names.
 
 Exit status: 0 no difference, 1 a difference, 2 wrong usage, or the program is missing.
 """
@@ -157,7 +157,16 @@ class Trial:
         self.count[program][line_name(line)] += 1
         if line == b"accepted\n":
             self.note_accepted(program, second)
+        if program == "check_plan":
+            self.draw(second)
         return line, result
+
+    def draw(self, plan):
+        """The train graph of a plan that is in its file already, beside the reference's."""
+        page, expected = self.run("print_graph", "book", "second"), ref.print_graph(self.data, plan)
+        if page != expected:
+            self.differ("print_graph: another page or line than the reference's", second=plan, page=page, expected=expected)
+        self.count["print_graph"]["accepted" if page.startswith(b" ") else line_name(page)] += 1
 
     def note_accepted(self, program, second):
         """No book has both."""
@@ -401,7 +410,7 @@ def summary(session, seconds):
     count = session.count
     books, accepted = sum(count["books"].values()), count["books"].pop("accepted", 0)
     say(f"seed {session.seed}, {seconds:.0f} s: {books} books, {accepted} accepted; refused by {listed(count['books'])}")
-    for name in ("formula", "decided", "solvers", "refutations of solvers", "enumerated", *CHECKS, "upgrade_book"):
+    for name in ("formula", "decided", "solvers", "refutations of solvers", "enumerated", *CHECKS, "upgrade_book", "print_graph"):
         say(f"{name}: {listed(count[name])}")
     missing = [name for name in SOLVERS if name not in session.solvers]
     say(f"real solvers: {', '.join(session.solvers) or 'none'}; not used: {', '.join(missing) or 'none'}")

@@ -1,5 +1,5 @@
-"""Books that are known by name: document 01's, rows, stars and rings, books on each limit, books with many intervals, and books as long as a
-slice; with the inputs of some that were worked out by hand."""
+"""Books that are known by name: document 01's, rows, stars and rings, books on each limit, books with many intervals, books as long as a slice,
+and books whose train graphs show every kind of cell; with the inputs and pages of some that were worked out by hand."""
 from . import reference as ref
 from .books import Spec, spec_bytes
 from .inputs import plan_bytes, step_frame
@@ -263,3 +263,71 @@ def standing(nodes):
         spec.calls.append((train, train, 0, 31))
     moves = [[2 * train] * 31 for train in range(8)]
     return spec_bytes(spec), plan_bytes([0] * nodes, moves), moves
+
+
+# ------------------------------------------------------------- train graphs
+
+
+def page_of(*lines):
+    """A page by its lines, without the blanks at their ends."""
+    return b"".join(line.ljust(80) + b"\n" for line in lines)
+
+
+# of book L's plan: one train, which stands on segment 0 in the one interval
+PAGE_L = page_of(b"  0  00-00 0")
+
+
+def graph_spec():
+    """A row of ten segments, and unjoined ones beside it up to segment 63, each a TTD of its own. A train of two segments departs in interval 1,
+    and may move 8; another has its place on segment 63."""
+    spec = Spec(100, 10, 3)
+    spec.nodes = [0] * 12
+    spec.segments = [(s, s + 1, s) for s in range(10)] + [(10, 11, s) for s in range(10, 64)]
+    spec.joins = [(s + 1, s, s + 1) for s in range(9)]
+    spec.trains = [(200, 288, 1, [0, 2]), (100, 36, 0, [126])]
+    spec.calls = [(0, 9, 0, 3), (1, 63, 0, 3)]
+    return spec
+
+
+BOOK_GRAPH = spec_bytes(graph_spec())
+# Runs of 2 to 10 segments, a way and back: 18 + 16 + .. + 2 are 90, and the last two are the whole row there and back. The other train stands
+# there and back on each of 64 segments: run 126 is [126].
+PLAN_GRAPH = plan_bytes([0] * 12, [[ref.ABSENT, 88, ref.GONE], [126] * 3])
+PAGE_GRAPH = page_of(b"  0  .        63-63 0", b"  1  00-09 8  63-63 0", b"  2  *        63-63 0")
+
+
+def moving(l, back, moved):
+    """A row of l + 8 segments with a train of l at its begin, or at its end and turned, which may move 8 and moves so many. Book and plan."""
+    spec = row_spec(l + 8, length=100 * l, speed=288)
+    place = [2 * s + 1 for s in reversed(range(8, l + 8))] if back else [2 * s for s in range(l)]
+    spec.trains, spec.calls = [], []
+    add_train(spec, place, speed=288)
+    runs = ref.read_book(spec_bytes(spec)).runs[0]
+    return spec_bytes(spec), plan_bytes([0] * (l + 9), [[r for r, run in enumerate(runs) if run[:l] == place and len(run) == l + moved]])
+
+
+def lone(T, departure, gone):
+    """A train on the one segment that there is, which stands there from its departure until it is gone. Book and plan."""
+    moves = [ref.ABSENT] * departure + [0] * (gone - departure) + [ref.GONE] * (T - gone)
+    return spec_bytes(lone_spec(T, departure, 0, T)), plan_bytes([0, 0], [moves])
+
+
+def on_segment(segment):
+    """A train that stands on one of 64 segments that meet at a node. Book and plan."""
+    spec = star(64)
+    add_train(spec, [2 * segment])
+    return spec_bytes(spec), plan_bytes([0] * 65, [[2 * segment]])
+
+
+def circling(intervals, count=8):
+    """Trains on a ring of 64 segments, each a TTD of its own, eight apart; they go round it by one segment an interval. Book and plan."""
+    spec = Spec(100, 10, intervals)
+    spec.nodes = [0] * 64
+    spec.segments = [(s, (s + 1) % 64, s) for s in range(64)]
+    spec.joins = [((s + 1) % 64, s, (s + 1) % 64) for s in range(64)]
+    for train in range(count):
+        spec.trains.append((100, 36, 0, [16 * train]))
+        spec.calls.append((train, 8 * train, 0, intervals))
+    # the runs that move follow 128 that stand, by their first segment, either way
+    moves = [[128 + 2 * ((8 * train + t) % 64) for t in range(intervals)] for train in range(count)]
+    return spec_bytes(spec), plan_bytes([0] * 64, moves)

@@ -5,6 +5,7 @@ yet) and links it into a shared object for this. That include/gentupag.h has the
 Exit status: 0 none differs, 1 some differ, 2 wrong usage.
 """
 import ctypes
+import itertools
 import os
 import random
 import subprocess
@@ -14,7 +15,7 @@ from collections import Counter
 
 from . import reference
 from .random_books import book_to_rewrite, damaged_book, random_book, random_size
-from .random_inputs import random_assignments, random_borders, random_plans, random_refutations
+from .random_inputs import kept_plans, random_assignments, random_borders, random_plans, random_refutations
 from .repository import ROOT, Stop, write_text
 
 WORD = ctypes.c_size_t
@@ -41,6 +42,7 @@ FUNCTIONS = {
     "show_run": ("run", "Buu"),
     "explain_variable": ("variable", "Bu"),
     "upgrade_book": ("output", "Bb"),
+    "print_graph": ("output", "BBb"),
 }
 
 # what `kind` says of a variable
@@ -223,6 +225,7 @@ def book_questions(rng, data):
         yield "show_run", (data, train, run), refused("run", *refusal), []
         yield "explain_variable", (data, variable), refused("variable", *refusal), []
         yield "label_sections", (data, b"", room), refused("output", *refusal), [[OLD] * room]
+        yield "print_graph", (data, b"", room), refused("output", *refusal), [[OLD] * room]
         yield "write_formula", (data, room), refused("totals", *refusal), [[OLD] * room]
         return
     size = measured(book)
@@ -252,6 +255,12 @@ def output_question(name, entry, data, second, room):
     return name, (data, second, room), said("output", verdict, lambda result: (len(result),)), [after(room, written)]
 
 
+def graph_question(rng, data, book, plan):
+    """A plan's page, with room for it, for more, or for less."""
+    room = reference.page_length(book) + rng.choice((-1, 0, 0, 2))
+    return output_question("print_graph", reference.entry_print_graph, data, plan, room)
+
+
 def input_questions(rng, data, book):
     variables, clauses = reference.formula(book)
     plan_bytes, words = reference.plan_length(book), reference.word_count(clauses)
@@ -259,6 +268,9 @@ def input_questions(rng, data, book):
         yield output_question("check_assignment", reference.entry_check_assignment, data, assignment, plan_bytes + rng.choice((-1, 0, 0, 2)))
     for plan in random_plans(rng, book, 4):
         yield output_question("check_plan", reference.entry_check_plan, data, plan, variables + rng.choice((-1, 0, 0, 2)))
+        yield graph_question(rng, data, book, plan)
+    for plan in itertools.islice(kept_plans(rng, book), 4):
+        yield graph_question(rng, data, book, plan)
     for refutation in random_refutations(rng, book, 4):
         lent = [words + rng.choice((-1, 0, 9, 400)), len(clauses) + rng.choice((-1, 0, 3, 90)), variables + rng.choice((0, 0, 2, -1)),
                 variables + rng.choice((0, 0, 2, -1))]

@@ -16,9 +16,11 @@ COMMANDS = {
     "check_plan": Command("p", 2, 2, 3),
     "check_refutation": Command("n", 2, 2, 2),
     "upgrade_book": Command("u", 1, 2, 2),
+    "print_graph": Command("g", 2, 2, 2),
 }
-# those that take a book and a second input
-CHECKS = tuple(name for name, command in COMMANDS.items() if command.inputs == 2)
+# those that take a book and a second input, and those of them that print a verdict: the others print what they make
+TWO_INPUTS = tuple(name for name, command in COMMANDS.items() if command.inputs == 2)
+CHECKS = tuple(name for name in TWO_INPUTS if name.startswith("check_"))
 BY_LETTER = {command.letter: name for name, command in COMMANDS.items()}
 
 

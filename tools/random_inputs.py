@@ -132,6 +132,23 @@ def random_plans(rng, book, count=30, assignment=None):
         yield nearly_plan(rng, book, good)
 
 
+def kept_plans(rng, book, tries=30, assignment=None):
+    """Different plans that keep the rules: what a solver finds, and those of random walks that happen to. Random plans are mostly refused."""
+    assignment = assignment or solved(book)
+    if not assignment:
+        return
+    good, found = ref.decode(book, assignment), set()
+    for plan in (good, *(plan_bytes(*walked_plan(rng, book)) for _ in range(tries)), *(with_borders(rng, book, good) for _ in range(tries // 10))):
+        if plan not in found and ref.broken_rule(book, *ref.read_plan(book, plan)) == 0:
+            found.add(plan)
+            yield plan
+
+
+def with_borders(rng, book, plan):
+    """The same movements with other borders."""
+    return bytes(random_borders(rng, book)) + plan[len(book.nodes):]
+
+
 # ------------------------------------------------------ random assignments
 
 

@@ -1,6 +1,7 @@
 #!/usr/bin/env python3
 """A plain reference of document 01: book, plan, formula, verdict; with
-document 02's request P1: times of two bytes, and old books rewritten.
+document 02's requests P1: times of two bytes, and old books rewritten; and P2:
+a train graph on paper, printed by `print_graph BOOK PLAN`.
 
 Every function states sentences of the documents as simply as it can.  Nothing
 here is fast on purpose; the only care taken is that no input can make a
@@ -35,6 +36,9 @@ MOST_CALLS, MOST_RUNS = 4, 256
 
 # "A file of frames ... of kind 20"
 STEP = 20
+
+# P2: "one line an interval, 80 bytes and a newline", "nine bytes a train"
+LINE_BYTES, CELL_BYTES = 80, 9
 
 # "they lend at most 64 KiB a slice"
 LENT_BYTES = 65536
@@ -711,6 +715,15 @@ def read_plan(book, plan):
     return borders, moves
 
 
+def accepted_plan(book, plan):
+    """The borders and the moves of "a plan that keeps the rules"; 15, then 16
+    with the "least broken rule"."""
+    borders, moves = read_plan(book, plan)
+    rule = broken_rule(book, borders, moves)
+    refuse_if(rule != 0, 16, rule)
+    return borders, moves
+
+
 def write_assignment(book, borders, moves):
     """Text: "A plan's assignment claims exactly the sections its runs touch"."""
     v = Variables(book)
@@ -727,6 +740,49 @@ def write_assignment(book, borders, moves):
             for s in touched(together, run_in(book, moves, tr, i)):
                 assignment[v.claim(tr, i, s) - 1] = 1
     return bytes(assignment)
+
+
+# ---------------------------------------------------------- the train graph
+
+
+def page_length(book):
+    """P2: "one line an interval, 80 bytes and a newline"."""
+    return (LINE_BYTES + 1) * book.T
+
+
+def train_graph(book, moves):
+    """The page: "one line an interval", from 0 to T - 1."""
+    return b"".join(graph_line(book, moves, i) for i in range(book.T))
+
+
+def graph_line(book, moves, i):
+    """P2: "Bytes 1 to 3 hold the interval, right-aligned; byte 4 is blank; then
+    nine bytes a train", "The rest of the line is blanks"."""
+    line = "%3d " % i
+    for tr in range(len(book.trains)):
+        line += graph_cell(book, moves, tr, i)
+    return line.ljust(LINE_BYTES).encode("ascii") + b"\n"
+
+
+def graph_cell(book, moves, tr, i):
+    """P2: "Absent shows a dot in the cell's second byte, gone a star, the other
+    eight blank"."""
+    run = run_in(book, moves, tr, i)
+    if run is not None:
+        return run_cell(book.trains[tr], run)
+    mark = "." if moves[tr][i] == ABSENT else "*"
+    return (" " + mark).ljust(CELL_BYTES)
+
+
+def run_cell(train, run):
+    """P2: "blank, the rear segment at the start in two digits with a leading
+    zero, a hyphen, the front segment at the end in two digits, blank, segments
+    moved in one digit, blank".  A place is "rear first"; a run that "moves j"
+    is "a path of l + j"."""
+    rear = start_place(train, run)[0] // 2
+    front = end_place(train, run)[-1] // 2
+    moved = len(run) - train.l
+    return " %02d-%02d %d " % (rear, front, moved)
 
 
 # ----------------------------------------------------------- the refutation
@@ -867,10 +923,18 @@ def entry_check_plan(book_bytes, plan_bytes, assignment_len):
     def check():
         book = read_book(book_bytes)
         refuse_if(assignment_len < Variables(book).count, 12)
-        borders, moves = read_plan(book, plan_bytes)
-        rule = broken_rule(book, borders, moves)
-        refuse_if(rule != 0, 16, rule)
+        borders, moves = accepted_plan(book, plan_bytes)
         return (write_assignment(book, borders, moves),)
+    return verdict(check)
+
+
+def entry_print_graph(book_bytes, plan_bytes, page_len):
+    """P2: "12 also covers a short page, 15 and 16 a bad plan"."""
+    def check():
+        book = read_book(book_bytes)
+        refuse_if(page_len < page_length(book), 12)
+        _, moves = accepted_plan(book, plan_bytes)
+        return (train_graph(book, moves),)
     return verdict(check)
 
 
@@ -895,6 +959,15 @@ def print_formula(book_bytes):
     answer = answer or entry_write_formula(book_bytes, LENT_WORDS)
     if answer[0] == "accepted":
         return dimacs(read_book(book_bytes))
+    return verdict_line(answer)
+
+
+def print_graph(book_bytes, plan_bytes):
+    """The page of the train graph, or the line of the refusal."""
+    answer = longer_input(book_bytes, plan_bytes)
+    answer = answer or entry_print_graph(book_bytes, plan_bytes, LENT_BYTES)
+    if answer[0] == "accepted":
+        return answer[1]
     return verdict_line(answer)
 
 
@@ -938,11 +1011,11 @@ def read_file(name):
 def main(arguments):
     usage = ("usage: print_formula < BOOK | check_assignment BOOK ASSIGNMENT "
              "[PLAN] | check_plan BOOK PLAN [ASSIGNMENT] | check_refutation "
-             "BOOK REFUTATION | upgrade_book OLD NEW")
+             "BOOK REFUTATION | upgrade_book OLD NEW | print_graph BOOK PLAN")
     # the least and the most words, and how many name inputs
     counts = {"print_formula": (1, 1, 0), "check_assignment": (3, 4, 2),
               "check_plan": (3, 4, 2), "check_refutation": (3, 3, 2),
-              "upgrade_book": (3, 3, 1)}
+              "upgrade_book": (3, 3, 1), "print_graph": (3, 3, 2)}
     name = arguments[0] if arguments else None
     if name not in counts:
         sys.exit(usage)
@@ -953,6 +1026,9 @@ def main(arguments):
         sys.stdout.buffer.write(print_formula(sys.stdin.buffer.read()))
         return 0
     given = [read_file(file) for file in arguments[1:1 + inputs]]
+    if name == "print_graph":
+        sys.stdout.buffer.write(print_graph(*given))
+        return 0
     answer = rewrite(*given) if inputs == 1 else check_two(name, *given)
     if len(arguments) > 1 + inputs and answer[0] == "accepted":
         with open(arguments[1 + inputs], "wb") as file:

@@ -1,11 +1,12 @@
 """Tests the reference by itself, on inputs made from SEED: document 01's examples ("On each edge", starred or not), whose books L and M are
 rewritten; random and damaged books, with every refusal of the book among them; old books, good and damaged, rewritten: the formula stays, and
-so does every number; assignments, plans and refutations, with every rule broken; and brute force: on tiny books every plan is enumerated, and a
-plan that keeps the rules exists exactly where the formula is satisfiable. Prints counts.
+so does every number; train graphs, read back by their columns; assignments, plans and refutations, with every rule broken; and brute force: on
+tiny books every plan is enumerated, and a plan that keeps the rules exists exactly where the formula is satisfiable. Prints counts.
 
 Exit status: 0 all held, 1 something did not (an assertion says what), 2 wrong usage.
 """
 import random
+import re
 import sys
 from collections import Counter
 
@@ -14,9 +15,11 @@ from .all_plans import keeping, plans_to_try
 from .books import Spec, spec_bytes, split
 from .counts import answer_name, listed
 from .inputs import TooLong, encode_steps, plan_bytes, step_frame
-from .known import BOOK_L, FORMULA_L, OLD_L, add_train, book_m, lone_spec, outgrowing, padded, row_spec, spec_l
+from .known import (BOOK_GRAPH, BOOK_L, FORMULA_L, OLD_L, PAGE_GRAPH, PAGE_L, PLAN_GRAPH, PLAN_L, add_train, book_m, circling, lone_spec,
+                    outgrowing, padded, row_spec, spec_l)
+from .passing_books import passing_book
 from .random_books import book_to_rewrite, damaged_book, random_book
-from .random_inputs import random_assignments, random_plans, random_refutations, solved
+from .random_inputs import kept_plans, random_assignments, random_plans, random_refutations, solved, walked_plan
 from .small_solver import Solver
 
 sys.setrecursionlimit(20000)
@@ -140,6 +143,78 @@ def check_rewritten(old, new):
     assert len(new) == len(old) + added
     for room in (len(new) - 1, len(new)):
         assert ref.entry_upgrade_book(old, room) == (("accepted", new) if room == len(new) else ("refused", 12, 0))
+
+
+# ------------------------------------------------------------ train graphs
+
+CELL = re.compile(rb" (\d\d)-(\d\d) (\d) ")
+MARKS = {b" .       ": "absent", b" *       ": "gone"}
+
+
+def check_pages():
+    """Pages worked out by hand; 12 where a byte of the page has no room, ahead of what is wrong with the plan, and behind the book."""
+    for book, plan, page in ((BOOK_L, PLAN_L, PAGE_L), (BOOK_GRAPH, PLAN_GRAPH, PAGE_GRAPH)):
+        assert ref.print_graph(book, plan) == page
+        for room in (len(page), len(page) + 1):
+            assert ref.entry_print_graph(book, plan, room) == ("accepted", page)
+        for second in (plan, plan[1:], b"\2" + plan[1:], b"\1" + plan[1:]):
+            assert ref.entry_print_graph(book, second, len(page) - 1) == ("refused", 12, 0)
+        assert ref.entry_print_graph(book, plan + b"\0", len(page)) == ("refused", 15, 0)
+        assert ref.entry_print_graph(book, b"\1" + plan[1:], len(page)) == ("refused", 16, 1)
+        assert ref.entry_print_graph(book[:-1], plan, 0) == ("refused", 1, 0)
+    # more intervals than have two digits, and a train in each cell of a line
+    lines = ref.print_graph(*circling(256)).split(b"\n")
+    assert len(lines) == 257 and not lines[256] and [lines[t][:5] for t in (9, 10, 99, 100, 255)] == [b"  9  ", b" 10  ", b" 99  ", b"100  ", b"255  "]
+    assert lines[63] == b" 63  63-00 1  07-08 1  15-16 1  23-24 1  31-32 1  39-40 1  47-48 1  55-56 1     "
+
+
+def read_page(page, trains):
+    """What a page shows, by its columns: in each interval its number, "right-aligned", and each train's cell. "80 bytes and a newline"."""
+    shown = []
+    assert len(page) % 81 == 0
+    for at in range(0, len(page), 81):
+        line, rest = page[at:at + 81], page[at + 4 + 9 * trains:at + 80]
+        assert line.index(b"\n") == 80 and line[:4] == b"%3d " % int(line[:3]) and not rest.strip(b" ")
+        shown.append((int(line[:3]), [read_cell(line[4 + 9 * tr:13 + 9 * tr]) for tr in range(trains)]))
+    return shown
+
+
+def read_cell(cell):
+    """Absent, gone, or rear segment, front segment and segments moved."""
+    return MARKS.get(cell) or tuple(map(int, CELL.fullmatch(cell).groups()))
+
+
+def fields_shown(book, moves):
+    """The same of a plan's moves, by the runs that they name."""
+    def field(tr, move):
+        if move in (ref.ABSENT, ref.GONE):
+            return "absent" if move == ref.ABSENT else "gone"
+        run = book.runs[tr][move]
+        return run[0] // 2, run[-1] // 2, len(run) - len(book.trains[tr].place)
+
+    return [(t, [field(tr, row[t]) for tr, row in enumerate(moves)]) for t in range(book.T)]
+
+
+def check_graphs(rng, count):
+    """Pages read back; so "two plans with the same page agree on these fields". The width is that of "every plan", whatever rules it breaks."""
+    tally, done = Counter(), 0
+    while done < count:
+        data = passing_book(rng) if done % 3 else random_book(rng, "long" if done % 15 == 9 else "tiny")
+        if ref.entry_read_book(data)[0] == "refused":
+            continue
+        book, by_page = ref.read_book(data), {}
+        done += 1
+        for plan in kept_plans(rng, book, 60):
+            answer, fields = ref.entry_print_graph(data, plan, 81 * book.T), fields_shown(book, ref.read_plan(book, plan)[1])
+            assert answer[0] == "accepted" and read_page(answer[1], len(book.trains)) == fields
+            tally["same page"] += answer[1] in by_page
+            assert by_page.setdefault(answer[1], fields) == fields
+            tally["plans"] += 1
+            tally.update(cell if isinstance(cell, str) else f"moved {cell[2]}" for _, cells in fields for cell in cells)
+        _, moves = walked_plan(rng, book)
+        assert read_page(ref.train_graph(book, moves), len(book.trains)) == fields_shown(book, moves)
+    print(f"train graphs: {listed(tally)}")
+    assert {"absent", "gone", "moved 0", "moved 1", "moved 2", "same page"} <= set(tally)
 
 
 # --------------------------------------------------------------- self-test
@@ -274,6 +349,7 @@ def run(options):
     check_books_l_and_m()
     check_lengths()
     check_rewritten_l_and_m()
+    check_pages()
     print("the document's examples hold")
     check_books(rng, 400)
     check_rewriting(rng, 1000)
@@ -285,5 +361,6 @@ def run(options):
             check_meaning(data, meaning)
             tried += 1
     print(f"meaning: {listed(meaning)}")
+    check_graphs(rng, 200)
     print("all held")
     return 0

@@ -1,6 +1,6 @@
 """Tries the built program as a user would: commands, names, files, lengths, outputs, and the verdicts of document 01's examples; and the
 scripts of bin/, which call it. Prints each expectation that fails, and then how many were tried. Expected lines and bytes are worked out by
-hand, but for a long text and a long assignment, which are the reference's.
+hand, but for a long text, a long assignment and a long page, which are the reference's.
 
 Exit status: 0 all held, 1 some failed, 2 wrong usage, or the program is missing.
 """
@@ -13,8 +13,8 @@ from collections import namedtuple
 
 from . import reference
 from .inputs import encode_steps, step_frame
-from .known import (ASSIGNMENT_L, ASSIGNMENT_PADDED, BOOK_L, FORMULA_L, OLD_L, PLAN_L, PLAN_PADDED, REFUTATION_M, REFUTATION_PADDED, book_m,
-                    outgrowing, padded, standing)
+from .known import (ASSIGNMENT_L, ASSIGNMENT_PADDED, BOOK_GRAPH, BOOK_L, FORMULA_L, OLD_L, PAGE_GRAPH, PAGE_L, PLAN_GRAPH, PLAN_L, PLAN_PADDED,
+                    REFUTATION_M, REFUTATION_PADDED, book_m, circling, outgrowing, padded, standing)
 from .program import CABINET, COMMANDS, built
 from .repository import PROGRAMS, ROOT, write_bytes
 
@@ -26,19 +26,22 @@ NOBODY = 65534
 
 BOOK_M, BOOK_M_SHUT = book_m(0, 1), book_m(0, 0)
 
-# A command that checks: a book and an input that it accepts, the result, and two inputs that it refuses, with their lines.
-Check = namedtuple("Check", "program book good result bad bad_line short short_line")
+ACCEPTED, TOO_LONG = b"accepted\n", b"12 0\n"
+
+# A command that checks a second input: a book and an input that it accepts, what it prints then, the result, and two inputs that it refuses, with
+# their lines.
+Check = namedtuple("Check", "program book good said result bad bad_line short short_line")
 CHECKS = (
     # all zeros: clause 3, "3 4 5", is the first that is false
-    Check("check_assignment", BOOK_L, ASSIGNMENT_L, PLAN_L, bytes(6), b"14 3\n", ASSIGNMENT_L[:-1], b"13 0\n"),
+    Check("check_assignment", BOOK_L, ASSIGNMENT_L, ACCEPTED, PLAN_L, bytes(6), b"14 3\n", ASSIGNMENT_L[:-1], b"13 0\n"),
     # run 1 begins elsewhere: rule 2
-    Check("check_plan", BOOK_L, PLAN_L, ASSIGNMENT_L, bytes([0, 0, 1, 0]), b"16 2\n", PLAN_L[:-1], b"15 0\n"),
+    Check("check_plan", BOOK_L, PLAN_L, ACCEPTED, ASSIGNMENT_L, bytes([0, 0, 1, 0]), b"16 2\n", PLAN_L[:-1], b"15 0\n"),
     # document 01 gives this order of hints
-    Check("check_refutation", BOOK_M, REFUTATION_M, None, step_frame([], [19, 16, 17]), b"20 1\n", REFUTATION_M[:-1], b"17 1\n"),
+    Check("check_refutation", BOOK_M, REFUTATION_M, ACCEPTED, None, step_frame([], [19, 16, 17]), b"20 1\n", REFUTATION_M[:-1], b"17 1\n"),
+    # a plan as above; the page is printed in place of a verdict
+    Check("print_graph", BOOK_L, PLAN_L, PAGE_L, None, bytes([0, 0, 1, 0]), b"16 2\n", PLAN_L + b"\0", b"15 0\n"),
 )
 WITH_RESULT = [check for check in CHECKS if check.result is not None]
-
-ACCEPTED, TOO_LONG = b"accepted\n", b"12 0\n"
 
 Answer = namedtuple("Answer", "out err status")
 
@@ -144,9 +147,9 @@ def try_results(t):
     for check in CHECKS:
         book, good, bad = t.file(check.book), t.file(check.good), t.file(check.bad)
         before = os.listdir(t.folder)
-        t.verdict(f"{check.program}, two names", ACCEPTED, t.run(check.program, book, good))
+        t.verdict(f"{check.program}, two names", check.said, t.run(check.program, book, good))
         t.verdict(f"{check.program}, two names, refused", check.bad_line, t.run(check.program, book, bad))
-        t.verdict(f"{check.program}, a short input", check.short_line, t.run(check.program, book, t.file(check.short)))
+        t.verdict(f"{check.program}, an input of another length", check.short_line, t.run(check.program, book, t.file(check.short)))
         made = set(os.listdir(t.folder)) - set(before) - {f"file{t.made}"}
         t.expect(f"{check.program}, two names: no file is made", not made, made)
     for check in WITH_RESULT:
@@ -290,7 +293,7 @@ def try_unwritable_third(t):
 
 def try_same_names(t):
     """One file as both inputs, or as an input and the result."""
-    for check, line in zip(CHECKS, (b"13 0\n", b"15 0\n", b"17 1\n")):
+    for check, line in zip(CHECKS, (b"13 0\n", b"15 0\n", b"17 1\n", b"15 0\n")):
         book = t.file(check.book)
         t.verdict(f"{check.program}, the book twice", line, t.run(check.program, book, book))
     for check in WITH_RESULT:
@@ -337,14 +340,15 @@ def try_book_lengths(t):
     t.expect("the reference accepts a book of 65,536 bytes", text.startswith(b"p cnf 19 "), text)
     for what, book, line in long_books(padded(0), text):
         t.verdict(f"print_formula, {what}", line, t.run("print_formula", stdin=book))
-    for check, second, call in zip(CHECKS, (ASSIGNMENT_PADDED, PLAN_PADDED, REFUTATION_PADDED), (0, 0, 1)):
-        for what, book, line in long_books(padded(call), ACCEPTED):
+    for check, second, call in zip(CHECKS, (ASSIGNMENT_PADDED, PLAN_PADDED, REFUTATION_PADDED, PLAN_PADDED), (0, 0, 1, 0)):
+        # the page is that of book L: one train, which stands on segment 0 in the one interval
+        for what, book, line in long_books(padded(call), check.said):
             t.verdict(f"{check.program}, book of {what}", line, t.run(check.program, t.file(book), t.file(second)))
 
 
 def try_second_lengths(t):
     """12 comes before all else: whatever the book is, an input of 65,537 bytes has that line, and one of 65,536 another."""
-    for check, line in zip(CHECKS, (b"13 0\n", b"15 0\n", b"17 1\n")):
+    for check, line in zip(CHECKS, (b"13 0\n", b"15 0\n", b"17 1\n", b"15 0\n")):
         books = (("a good book", check.book, line), ("an empty book", b"", b"1 0\n"), ("a bad book", b"\xff" * 9, b"1 0\n"),
                  ("a book with a byte behind", check.book + b"\0", b"3 0\n"))
         for what, book, expected in books:
@@ -386,7 +390,7 @@ def try_full_refutation(t):
 
 def try_empty(t):
     t.verdict("print_formula, nothing", b"1 0\n", t.run("print_formula"))
-    for check, line in zip(CHECKS, (b"13 0\n", b"15 0\n", b"21 0\n")):
+    for check, line in zip(CHECKS, (b"13 0\n", b"15 0\n", b"21 0\n", b"15 0\n")):
         empty, book, good = t.file(b""), t.file(check.book), t.file(check.good)
         t.verdict(f"{check.program}, empty book", b"1 0\n", t.run(check.program, empty, good))
         t.verdict(f"{check.program}, empty second input", line, t.run(check.program, book, empty))
@@ -416,6 +420,7 @@ def try_closed_output(t):
     """Nothing can be said then; but the program ends, and the inputs are as they were: a file that is opened next may get number 1."""
     long_text = padded(0)
     jobs = [("print_formula", (), BOOK_L), ("print_formula", (), long_text), ("print_formula", (), b"")]
+    jobs.append(("print_graph", tuple(map(t.file, circling(256))), b""))
     for check in CHECKS:
         rest = [t.unused()] if check.result is not None else []
         jobs.append((check.program, (t.file(check.book), t.file(check.good), *rest), b""))
@@ -470,8 +475,8 @@ def try_pipes(t):
     for check in CHECKS:
         book, good = t.file(check.book), t.file(check.good)
         what = f"{check.program}, an input by a pipe"
-        t.verdict(what, ACCEPTED, in_pieces(t, check.program, ("/dev/stdin", good), check.book, 3))
-        t.verdict(what, ACCEPTED, in_pieces(t, check.program, (book, "/dev/stdin"), check.good, 1))
+        t.verdict(what, check.said, in_pieces(t, check.program, ("/dev/stdin", good), check.book, 3))
+        t.verdict(what, check.said, in_pieces(t, check.program, (book, "/dev/stdin"), check.good, 1))
         t.verdict(what, TOO_LONG, in_pieces(t, check.program, (book, "/dev/stdin"), bytes(MOST + 1), 5000))
         t.verdict(f"{check.program}, a book without end", TOO_LONG, t.run(check.program, "/dev/zero", good))
         t.verdict(f"{check.program}, a second input without end", TOO_LONG, t.run(check.program, book, "/dev/zero"))
@@ -549,6 +554,27 @@ def try_old_book_names(t):
     t.verdict("upgrade_book, an old book without end", TOO_LONG, t.run("upgrade_book", "/dev/zero", kept))
 
 
+# ---- train graphs
+
+
+def try_graphs(t):
+    """Pages, up to the longest one; the plan's file stays as it is."""
+    book, plan = t.file(BOOK_GRAPH), t.file(PLAN_GRAPH)
+    t.verdict("print_graph, absent, moves 8, gone", PAGE_GRAPH, t.run("print_graph", book, plan))
+    t.expect("print_graph: inputs untouched", (read(book), read(plan)) == (BOOK_GRAPH, PLAN_GRAPH), None)
+    book, plan = circling(256)
+    page = reference.print_graph(book, plan)
+    t.expect("the reference's page of 256 intervals", len(page) == 81 * 256 and page.endswith(b"55-56 1     \n"), page[-81:])
+    t.verdict("print_graph, 256 intervals", page, t.run("print_graph", t.file(book), t.file(plan)))
+    t.verdict("print_graph, 256 intervals, a plan by a pipe", page, in_pieces(t, "print_graph", (t.file(book), "/dev/stdin"), plan, 1000))
+    t.verdict("print_graph, old book L", b"4 0\n", t.run("print_graph", t.file(OLD_L), t.file(PLAN_L)))
+    # more variables than check_plan has room for
+    data, plan, _ = standing(65)
+    page = reference.print_graph(data, plan)
+    t.expect("the reference's page of a plan with 65,537 variables", len(page) == 81 * 31, page)
+    t.verdict("print_graph, 65,537 variables", page, t.run("print_graph", t.file(data), t.file(plan)))
+
+
 # ---- the scripts
 
 
@@ -580,12 +606,12 @@ def try_scripts(t):
     for check in CHECKS:
         script = os.path.join(scripts, check.program)
         names, third = (t.file(check.book), t.file(check.good)), t.unused()
-        t.verdict(f"bin/{check.program}", ACCEPTED, t.run_words(names, program=script))
+        t.verdict(f"bin/{check.program}", check.said, t.run_words(names, program=script))
         t.verdict(f"bin/{check.program}, refused", check.bad_line, t.run_words((names[0], t.file(check.bad)), program=script))
         t.no_verdict(f"bin/{check.program}, one name", b"usage", t.run_words(names[:1], program=script))
         odd = t.path("a name with blanks")
         write_bytes(odd, check.good)
-        t.verdict(f"bin/{check.program}, a name with blanks", ACCEPTED, t.run_words((names[0], odd), program=script))
+        t.verdict(f"bin/{check.program}, a name with blanks", check.said, t.run_words((names[0], odd), program=script))
         if check.result is not None:
             t.verdict(f"bin/{check.program}, three names", ACCEPTED, t.run_words((*names, third), program=script))
             t.expect(f"bin/{check.program}, three names: the result", read(third) == check.result, read(third))
@@ -597,7 +623,7 @@ def try_scripts(t):
 GROUPS = (
     try_examples, try_results, try_commands, try_name_counts, try_unreadable, try_unreadable_standard_input, try_without_permission,
     try_unwritable_third, try_same_names, try_odd_names, try_book_lengths, try_second_lengths, try_full_output, try_full_refutation, try_empty,
-    try_closed_output, try_pipes, try_old_books, try_refused_old_books, try_old_book_names, try_scripts)
+    try_closed_output, try_pipes, try_old_books, try_refused_old_books, try_old_book_names, try_graphs, try_scripts)
 
 
 def copied(program, folder):

@@ -1,10 +1,11 @@
 """The commands' own code on stored files: each check with an input that it accepts and inputs that it refuses; results that are new, that
 replace a file, that must not be written, and that are not named; inputs of 65,536 and of 65,537 bytes in either place; missing files. Old books
-that are rewritten, in place too; one whose new book fills the slice, and one whose new book is too long for it."""
+that are rewritten, in place too; one whose new book fills the slice, and one whose new book is too long for it. Train graphs, up to the longest
+page, with plans and books that are refused, too long or missing."""
 from ..books import spec_bytes
 from ..inputs import step_frame
-from ..known import (ASSIGNMENT_L, ASSIGNMENT_PADDED, BOOK_L, OLD_L, PLAN_L, PLAN_PADDED, REFUTATION_M, REFUTATION_PADDED, book_m, lone_spec,
-                     outgrowing, padded, standing)
+from ..known import (ASSIGNMENT_L, ASSIGNMENT_PADDED, BOOK_GRAPH, BOOK_L, OLD_L, PLAN_GRAPH, PLAN_L, PLAN_PADDED, REFUTATION_M,
+                     REFUTATION_PADDED, book_m, circling, lone_spec, outgrowing, padded, standing)
 from ..reference import LENT_BYTES, OLD
 from .records import Record
 
@@ -16,6 +17,7 @@ MISSING, KEPT = "missing", "kept"
 def files():
     """The stored files, by name."""
     large_book, large_plan, _ = standing(64)
+    round_book, round_plan = circling(256)
     return {
         KEPT: b"kept", "empty": b"", "zeros": bytes(LENT_BYTES), "long": bytes(LENT_BYTES + 1),
         "old": b"longer than any plan of these books",
@@ -29,6 +31,7 @@ def files():
         "unfinished": step_frame([6], [19, 17]),
         "full_refutation": REFUTATION_PADDED,
         "large_book": large_book, "large_plan": large_plan,
+        "graph_book": BOOK_GRAPH, "graph_plan": PLAN_GRAPH, "round_book": round_book, "round_plan": round_plan,
         # old books, which only upgrade_book takes
         "book_before": OLD_L, "no_plan_before": book_m(0, 1, OLD), "cut_before": OLD_L[:-1], "more_before": OLD_L + b"\0",
         "late_before": spec_bytes(lone_spec(33, 0, 0, 33), OLD), "full_before": padded(0, OLD), "outgrowing_before": outgrowing(),
@@ -96,6 +99,22 @@ def rewritten():
     yield "f", "book_before", "", ""
 
 
+def drawn():
+    """The cases of print_graph: question, book, plan; it has no result's name."""
+    for book, plan in (("graph_book", "graph_plan"), ("round_book", "round_plan"), ("full_book", "full_book_plan")):
+        yield "g", book, plan, ""
+    for plan in ("plan", "odd_plan", "far_plan", "assignment", "empty", "zeros", "long", MISSING):
+        yield "g", "book", plan, ""
+    for other in ("no_plan", "no_plan_before", "cut_book", "more_book", "empty", "zeros", "long_book", "long", MISSING):
+        yield "g", other, "plan", ""
+    yield "g", "long_book", "full_book_plan", ""
+    yield "g", "cut_book", "long", ""
+    yield "g", "long", "long", ""
+    yield "g", "long", MISSING, ""
+    yield "g", MISSING, "long", ""
+    yield "g", MISSING, MISSING, ""
+
+
 def records(rng, note):
-    for question, *names in (*rewritten(), *listed()):
+    for question, *names in (*rewritten(), *drawn(), *listed()):
         yield Record(question, *(name.encode() for name in names))

@@ -8,20 +8,21 @@ where one is missing, it is as much as the programs lend.
   R  its run lists                                    P  check a plan: the verdict, and an accepted one's assignment
   F  its formula's text                               N  check a refutation: the verdict
   D  that text's length and checksum                  U  rewrite an old book: the verdict, and an accepted one's new book
+                                                      G  draw a plan's train graph: the verdict, and an accepted one's page
 
 For a small letter the parts are the names of stored files: the book's, the second input's and the result's, which may be empty. f, a, p, n
 and u are print_formula, the three checks and upgrade_book, which has no second input; the answer is what the command prints, and then the
-file that has the result's name by then.
+file that has the result's name by then. g is print_graph, which has no result: the answer is what the command prints, and nothing else.
 """
 import struct
 from collections import namedtuple
 
 from .. import reference
-from ..program import BY_LETTER, CHECKS
+from ..program import BY_LETTER, CHECKS, TWO_INPUTS
 from ..reference import LENT_BYTES, LENT_CLAUSES, LENT_TRAIL, LENT_VALUES, LENT_WORDS
 
 # what the programs lend, by question
-LENT = {"F": (LENT_WORDS,), "D": (LENT_WORDS,), "A": (LENT_BYTES,), "P": (LENT_BYTES,), "U": (LENT_BYTES,),
+LENT = {"F": (LENT_WORDS,), "D": (LENT_WORDS,), "A": (LENT_BYTES,), "P": (LENT_BYTES,), "U": (LENT_BYTES,), "G": (LENT_BYTES,),
         "N": (LENT_WORDS, LENT_CLAUSES, LENT_VALUES, LENT_TRAIL)}
 NO_FILE = b"no file\n"
 ACCEPTED = "accepted"
@@ -176,13 +177,19 @@ def upgrade_answer(record, files):
     return verdict_answer(reference.entry_upgrade_book(record.parts[0], *lent(record)))
 
 
+def graph_answer(record, files):
+    return verdict_answer(reference.entry_print_graph(*record.parts[:2], *lent(record)))
+
+
 def command_says(question, book, second, result, files):
     """What a command prints; an accepted input's result is stored under its name, where it has one."""
     command = BY_LETTER[question]
-    if book not in files or command in CHECKS and second not in files:
+    if book not in files or command in TWO_INPUTS and second not in files:
         return b""
     if command == "print_formula":
         return reference.print_formula(files[book])
+    if command == "print_graph":
+        return reference.print_graph(files[book], files[second])
     found = reference.check_two(command, files[book], files[second]) if command in CHECKS else reference.rewrite(files[book])
     if found[0] == "accepted" and len(found) > 1 and result:
         files[result] = found[1]
@@ -190,15 +197,18 @@ def command_says(question, book, second, result, files):
 
 
 def command_answer(record, files):
-    """The answer of a command on files; a file that a result's name has by then is shown."""
+    """The answer of a command on files; a file that a result's name has by then is shown, but of print_graph, which takes no such name."""
     names = [part.decode() for part in record.parts]
     said = command_says(record.question, *names, files)
-    name = "nothing" if not said else ACCEPTED if said.startswith(b"p") else said.split()[0].decode()
+    # a formula begins with "p cnf", and a page with the blanks ahead of interval 0
+    name = "nothing" if not said else ACCEPTED if said.startswith((b"p", b" ")) else said.split()[0].decode()
+    if BY_LETTER[record.question] == "print_graph":
+        return Answer(name, said)
     return Answer(name, said + (files[names[2]] + b"\n" if names[2] in files else NO_FILE))
 
 
 ANSWERS = {"B": read_answer, "R": runs_answer, "F": formula_answer, "D": digest_answer, "A": assignment_answer, "P": plan_answer,
-           "N": refutation_answer, "U": upgrade_answer, **{letter: command_answer for letter in BY_LETTER}}
+           "N": refutation_answer, "U": upgrade_answer, "G": graph_answer, **{letter: command_answer for letter in BY_LETTER}}
 
 
 def answer(record, files):

@@ -28,6 +28,7 @@ USAGE = {
     "check_plan": "usage: check_plan BOOK PLAN [ASSIGNMENT]\n",
     "check_refutation": "usage: check_refutation BOOK REFUTATION\n",
     "upgrade_book": "usage: upgrade_book OLD NEW\n",
+    "print_graph": "usage: print_graph BOOK PLAN\n",
 }
 # the same, but every check accepts
 ALWAYS_ACCEPTED = '''import sys

@@ -7,7 +7,7 @@ from unittest import mock
 from .. import known
 from ..cases import FILES, command, programs
 from ..cases.records import Record, answer, checksum, lending, lent, numbers, split
-from ..known import ASSIGNMENT_L, BOOK_L, FORMULA_L, OLD_L, PLAN_L, REFUTATION_M
+from ..known import ASSIGNMENT_L, BOOK_GRAPH, BOOK_L, FORMULA_L, OLD_L, PAGE_GRAPH, PAGE_L, PLAN_GRAPH, PLAN_L, REFUTATION_M
 from ..repository import ROOT, Stop, read_bytes, write_bytes
 from .stand_in import CASES, InFolder, printed, script
 
@@ -31,7 +31,8 @@ class Records(unittest.TestCase):
         self.assertEqual(lent(Record("A", b"", b"", numbers(70000))), (65536,))
         self.assertEqual(lending("N", 7, 8192, 65536, 8192), numbers(7))
         self.assertEqual(lending("F", 16384), b"")
-        self.assertEqual((lent(Record("U", b"")), lending("U", 65536), lending("U", 9)), ((65536,), b"", numbers(9)))
+        for letter in "UG":
+            self.assertEqual((lent(Record(letter, b"")), lending(letter, 65536), lending(letter, 9)), ((65536,), b"", numbers(9)))
 
     def test_checksum(self):
         self.assertEqual(checksum(b"ab"), 98 * 257 + 99)
@@ -57,6 +58,17 @@ class Answers(unittest.TestCase):
         self.says(Record("U", OLD_L, b"", numbers(52)), "12", b"12 0\n")
         self.says(Record("U", OLD_L[:-1], b"", numbers(0)), "1", b"1 0\n")
         self.says(Record("U", BOOK_L), "4", b"4 0\n")
+
+    def test_graphs(self):
+        self.assertEqual((len(PAGE_L), PAGE_L.rstrip()), (81, b"  0  00-00 0"))
+        for room in (b"", numbers(81), numbers(82)):
+            self.says(Record("G", BOOK_L, PLAN_L, room), "accepted", b"accepted\n" + PAGE_L + b"\n")
+        self.says(Record("G", BOOK_GRAPH, PLAN_GRAPH, numbers(243)), "accepted", b"accepted\n" + PAGE_GRAPH + b"\n")
+        for plan, said in ((PLAN_L, b"12 0\n"), (b"", b"12 0\n"), (b"\1" + PLAN_L[1:], b"12 0\n")):
+            self.says(Record("G", BOOK_L, plan, numbers(80)), "12", said)
+        self.says(Record("G", BOOK_L, PLAN_L[1:]), "15", b"15 0\n")
+        self.says(Record("G", BOOK_L, b"\1" + PLAN_L[1:]), "16", b"16 1\n")
+        self.says(Record("G", BOOK_L[:-1], PLAN_L, numbers(0)), "1", b"1 0\n")
 
     def test_formula(self):
         self.says(Record("F", BOOK_L), "accepted", FORMULA_L)
@@ -93,6 +105,18 @@ class Answers(unittest.TestCase):
         self.says(Record("u", b"missing", b"", b"none"), "nothing", b"no file\n", files)
         for long in (b"long", b"outgrowing_before"):
             self.says(Record("u", long, b"", b"kept"), "12", b"12 0\nkept\n", files)
+
+    def test_graphs_of_files(self):
+        files = programs.files()
+        before = dict(files)
+        self.says(Record("g", b"book", b"plan"), "accepted", PAGE_L, files)
+        self.says(Record("g", b"graph_book", b"graph_plan"), "accepted", PAGE_GRAPH, files)
+        for book, plan, said in ((b"book", b"far_plan", b"16 2\n"), (b"book", b"empty", b"15 0\n"), (b"empty", b"plan", b"1 0\n"),
+                                 (b"empty", b"long", b"12 0\n"), (b"long_book", b"plan", b"12 0\n"), (b"zeros", b"plan", b"2 0\n")):
+            self.says(Record("g", book, plan), said.split()[0].decode(), said, files)
+        for book, plan in ((b"book", b"missing"), (b"missing", b"plan"), (b"missing", b"long")):
+            self.says(Record("g", book, plan), "nothing", b"", files)
+        self.assertEqual(files, before)
 
     def test_an_answer_that_was_worked_out_is_held_to(self):
         with self.assertRaisesRegex(AssertionError, "13 0 was worked out"):

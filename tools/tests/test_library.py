@@ -53,6 +53,16 @@ class Answers(unittest.TestCase):
                     self.assertEqual(bytes(output[:length]), reference.upgrade_book(old))
         self.assertLessEqual({0, 1, 4, 6, 12}, seen)
 
+    def test_graphs(self):
+        """What is asked of a plan: outputs as long as its page, a byte less, and more; behind the page they stay as they were."""
+        rng, seen = random.Random(2), set()
+        for name, (data, plan, room), answer, (output,) in (q for q in library.questions(rng, 20) if q[0] == "print_graph"):
+            seen.add(answer[0])
+            self.assertEqual(output[answer[2]:], [library.OLD] * (room - answer[2]))
+            if answer[0] == 0:
+                self.assertEqual((answer[2] % 81, bytes(output[:answer[2]])), (0, reference.print_graph(data, plan)))
+        self.assertLessEqual({0, 12, 15, 16}, seen)
+
     def test_sizes(self):
         self.assertEqual(library.measured(book())[2:7], (1, 3, 1, 2, 1))
 

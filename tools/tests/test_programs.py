@@ -104,6 +104,13 @@ class Reference(InFolder):
         self.assertEqual(ask.check("upgrade_book", names[::-1]), b"4 0\n")
         self.assertEqual(read_bytes(self.path("old")), known.OLD_L)
 
+    def test_ask_for_a_graph(self):
+        names = [self.path(name) for name in ("book", "plan")]
+        for plan, said in ((known.PLAN_GRAPH, known.PAGE_GRAPH), (known.PLAN_GRAPH[:-1], b"15 0\n")):
+            for name, data in zip(names, (known.BOOK_GRAPH, plan)):
+                write_bytes(name, data)
+            self.assertEqual(ask.said_by("print_graph", names), said)
+
     def test_documents_examples(self):
         samples.check_figures()
         samples.check_shapes()
@@ -115,6 +122,20 @@ class Reference(InFolder):
         with printed() as out:
             samples.check_rewriting(random.Random(1), 300)
         self.assertIn("accepted: ", out.getvalue())
+
+    def test_graphs(self):
+        samples.check_pages()
+        with printed() as out:
+            samples.check_graphs(random.Random(1), 40)
+        self.assertIn("same page: ", out.getvalue())
+
+    def test_wrong_graphs_are_told(self):
+        """Front for rear, a blank too few, one digit for two."""
+        right = reference.run_cell
+        for wrong in (lambda train, run: right(train, run[::-1]), lambda train, run: right(train, run)[:-1],
+                      lambda train, run: right(train, run).replace("-0", "- "), lambda train, run: right(train, run)[:-2] + "0 "):
+            with self.subTest(), mock.patch.object(reference, "run_cell", wrong), printed(), self.assertRaises((AssertionError, AttributeError)):
+                samples.check_graphs(random.Random(1), 40)
 
 
 class Example(InFolder):
@@ -185,9 +206,15 @@ class Trials(InFolder):
 
     def test_good(self):
         tries, said = self.tries(CABINET, try_programs.try_examples, try_programs.try_commands, try_programs.try_old_books,
-                                 try_programs.try_refused_old_books, try_programs.try_scripts)
+                                 try_programs.try_refused_old_books, try_programs.try_graphs, try_programs.try_scripts)
         self.assertEqual((tries.failed, said), (0, ""))
         self.assertGreater(tries.tried, 30)
+
+    def test_a_page_a_byte_short(self):
+        cut = CABINET.replace("reference.main(words)", "sys.stdout.buffer.write(reference.print_graph(*map(reference.read_file, words[1:]))[:-1])")
+        tries, said = self.tries(cut, try_programs.try_graphs)
+        self.assertGreater(tries.failed, 3)
+        self.assertIn("print_graph, absent, moves 8, gone: expected b'  0  .        63-63 0", said)
 
     def test_always_accepted(self):
         tries, said = self.tries(ALWAYS_ACCEPTED, try_programs.try_examples, try_programs.try_commands)
@@ -268,7 +295,8 @@ class Commands(InFolder):
 
     def test_how_many_names(self):
         for words, many in ((("check_refutation", "a"), "2"), (("check_plan", "a"), "2 or 3"), (("print_formula", "a", "b"), "0 or 1"),
-                            (("upgrade_book", "a"), "2"), (("upgrade_book", "a", "b", "c"), "2")):
+                            (("upgrade_book", "a"), "2"), (("upgrade_book", "a", "b", "c"), "2"), (("print_graph", "a"), "2"),
+                            (("print_graph", "a", "b", "c"), "2")):
             status, said = self.said("reference", *words)
             self.assertEqual((status, said.split(" takes ")[-1]), (2, f"{many} names\n"))
 

@@ -3,7 +3,7 @@ use mathlib.Core.Path.{_≡_}
 use mathlib.Core.List.{[], _∷_}
 use Rattle.spec.specs.Lists.{Bytes}
 use Rattle.cabinet.specs.declared.commands.Command.{Command}
-use Rattle.cabinet.specs.declared.commands.Command.the-variants.{PrintFormula, CheckAssignment, CheckPlan, CheckRefutation, UpgradeBook, Unknown}
+use Rattle.cabinet.specs.declared.commands.Command.the-variants.{PrintFormula, CheckAssignment, CheckPlan, CheckRefutation, UpgradeBook, PrintGraph, Unknown}
 
 -- "print_formula"
 abbrev pub printFormulaWord : Bytes
@@ -25,6 +25,10 @@ checkRefutationWord = 99 ∷ 104 ∷ 101 ∷ 99 ∷ 107 ∷ 95 ∷ 114 ∷ 101 �
 abbrev pub upgradeBookWord : Bytes
 upgradeBookWord = 117 ∷ 112 ∷ 103 ∷ 114 ∷ 97 ∷ 100 ∷ 101 ∷ 95 ∷ 98 ∷ 111 ∷ 111 ∷ 107 ∷ []
 
+-- "print_graph"
+abbrev pub printGraphWord : Bytes
+printGraphWord = 112 ∷ 114 ∷ 105 ∷ 110 ∷ 116 ∷ 95 ∷ 103 ∷ 114 ∷ 97 ∷ 112 ∷ 104 ∷ []
+
 -- a word names the command that has it, and none where no command has
 abbrev pub Names : Bytes → Command → Type 0
 Names word PrintFormula = word ≡ printFormulaWord
@@ -32,6 +36,7 @@ Names word CheckAssignment = word ≡ checkAssignmentWord
 Names word CheckPlan = word ≡ checkPlanWord
 Names word CheckRefutation = word ≡ checkRefutationWord
 Names word UpgradeBook = word ≡ upgradeBookWord
+Names word PrintGraph = word ≡ printGraphWord
 Names word Unknown =
     (word ≡ printFormulaWord → ⊥) × (word ≡ checkAssignmentWord → ⊥) × (word ≡ checkPlanWord → ⊥) × (word ≡ checkRefutationWord → ⊥)
-    × (word ≡ upgradeBookWord → ⊥)
+    × (word ≡ upgradeBookWord → ⊥) × (word ≡ printGraphWord → ⊥)

@@ -8,6 +8,7 @@ pub enum Command {
     CheckPlan,
     CheckRefutation,
     UpgradeBook,
+    PrintGraph,
     Unknown,
 }
 
@@ -29,6 +30,9 @@ pub fn named(word: &[u8]) -> Command
     }
     if same(word, b"upgrade_book") {
         return Command::UpgradeBook;
+    }
+    if same(word, b"print_graph") {
+        return Command::PrintGraph;
     }
     Command::Unknown
 }

@@ -5,6 +5,7 @@
 //   check_plan BOOK PLAN [ASSIGNMENT]         an accepted plan is written as an assignment
 //   check_refutation BOOK REFUTATION
 //   upgrade_book OLD NEW                      an old book is rewritten in the format in force
+//   print_graph BOOK PLAN                     prints an accepted plan's train graph
 //
 // A check and the rewriter print accepted; every command prints a refusal as its number, a blank and its
 // detail. A slice has at most 64 KiB: longer input is refused by 12 first.
@@ -16,6 +17,7 @@ use libc::STDERR_FILENO;
 use libc::STDIN_FILENO;
 use programs::printing::print_formula_from;
 use programs::verdicts::Check;
+use programs::verdicts::graph_files;
 use programs::verdicts::judge_files;
 use programs::verdicts::upgrade_file;
 
@@ -62,6 +64,18 @@ fn upgrade() {
     upgrade_file(&old[..n], &new[..m]);
 }
 
+fn graph() {
+    if os::arg_count() != 4 {
+        complain(b"usage: print_graph BOOK PLAN\n");
+        return;
+    }
+    let mut book = io::buffer();
+    let mut plan = io::buffer();
+    let n = os::arg(2, &mut book);
+    let m = os::arg(3, &mut plan);
+    graph_files(&book[..n], &plan[..m]);
+}
+
 fn main() {
     let mut word = io::buffer();
     let n = os::arg(1, &mut word);
@@ -86,12 +100,14 @@ fn main() {
             )
         }
         Command::UpgradeBook => upgrade(),
+        Command::PrintGraph => graph(),
         Command::Unknown => {
             complain(b"usage: cabinet print_formula < BOOK\n");
             complain(b"       cabinet check_assignment BOOK ASSIGNMENT [PLAN]\n");
             complain(b"       cabinet check_plan BOOK PLAN [ASSIGNMENT]\n");
             complain(b"       cabinet check_refutation BOOK REFUTATION\n");
             complain(b"       cabinet upgrade_book OLD NEW\n");
+            complain(b"       cabinet print_graph BOOK PLAN\n");
         }
     }
 }

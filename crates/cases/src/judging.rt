@@ -10,7 +10,8 @@ use programs::verdicts::verdict_text;
 ghost use mathlib.Core.Path.{_≡_};
 ghost use lib.ListN.{length};
 
-// The verdict on an assignment or a plan, with as much of the output lent as the numbers say.
+// The verdict on an assignment or a plan, or its train graph, with as much of the output lent as the
+// numbers say.
 fn verdict(
     check: Check,
     book: &[u8],

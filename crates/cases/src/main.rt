@@ -4,10 +4,11 @@
 // input, and numbers of four bytes that say how much is lent; where one is missing, as much as the
 // commands lend. For a small letter they are the names of files.
 //
-//   B  a book's counts             A  an assignment's verdict     f a p n u  what print_formula, the three
-//   R  its run lists               P  a plan's                               checks and upgrade_book do
-//   F  its formula                 N  a refutation's                         with files
+//   B  a book's counts             A  an assignment's verdict     f a p n u g  what print_formula, the three
+//   R  its run lists               P  a plan's                                 checks, upgrade_book and
+//   F  its formula                 N  a refutation's                           print_graph do with files
 //   D  a digest of the formula     U  an old book's, rewritten
+//                                  G  a plan's, with its train graph
 mod books;
 mod files;
 mod formulas;
@@ -16,6 +17,7 @@ mod lent;
 
 use libc::STDOUT_FILENO;
 use programs::verdicts::Check;
+use programs::verdicts::graph_files;
 use refutation_file::numbers::number_at;
 
 fn answer(question: u8, first: &[u8], second: &[u8], third: &[u8]) {
@@ -28,11 +30,13 @@ fn answer(question: u8, first: &[u8], second: &[u8], third: &[u8]) {
         b'P' => judging::judge(Check::Plan, first, second, third),
         b'N' => judging::refute(first, second, third),
         b'U' => judging::upgrade(first, third),
+        b'G' => judging::judge(Check::Graph, first, second, third),
         b'f' => files::print_formula(first, third),
         b'a' => files::judge(Check::Assignment, first, second, third),
         b'p' => files::judge(Check::Plan, first, second, third),
         b'n' => files::judge(Check::Refutation, first, second, third),
         b'u' => files::upgrade(first, third),
+        b'g' => graph_files(first, second),
         _ => {
             io::write_all(STDOUT_FILENO, b"no such question\n");
         }

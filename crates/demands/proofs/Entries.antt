@@ -44,12 +44,16 @@ unfolding andThen
 then-assoc (accepted a) f g = refl
 then-assoc (refused n d) f g = refl
 
--- the check of a plan: the book, 12, the judgement, and the assignment
-pub plan-checked : (book plan : Bytes) (n : ℕ) → checkPlan book plan n
-    ≡ (andThen (readInstance book) λ I. andThen (demand (leb (variables I) n) 12) λ _. andThen (judgePlan I plan) λ _. accepted (encode I (planOf I plan)))
-unfolding checkPlan encodedFor afterPlan
-plan-checked book plan n i =
-    andThen (readInstance book) (λ I. then-assoc (demand (leb (variables I) n) 12) (λ _. judgePlan I plan) (λ _. accepted (encode I (planOf I plan))) i)
+-- what is written of a plan, from the book's bytes, where it takes `need` bytes
+abbrev pub ofPlan : (need : Instance → ℕ) (result : Instance → Plan → Bytes) (book plan : Bytes) (n : ℕ) → Verdict Bytes
+ofPlan need result book plan n = andThen (readInstance book) λ I. afterPlan I plan (need I) n λ p. accepted (result I p)
+
+-- the book, 12, the judgement, and the result
+pub plan-checked : (need : Instance → ℕ) (result : Instance → Plan → Bytes) (book plan : Bytes) (n : ℕ) → ofPlan need result book plan n
+    ≡ (andThen (readInstance book) λ I. andThen (demand (leb (need I) n) 12) λ _. andThen (judgePlan I plan) λ _. accepted (result I (planOf I plan)))
+unfolding afterPlan
+plan-checked need result book plan n i =
+    andThen (readInstance book) (λ I. then-assoc (demand (leb (need I) n) 12) (λ _. judgePlan I plan) (λ _. accepted (result I (planOf I plan))) i)
 
 pub demand-iff : (b : Bool) (n : ℕ) → (demand b n ≡ accepted tt) ↔ T b
 unfolding demand
@@ -146,14 +150,20 @@ module _ (book : Bytes) (b : Book) (read : readBook book ≡ accepted b) where
         (λ h. e ∙ k .1 (leb-iff _ n .1 (h .0), h .1, h .2)),
       )
 
-  pub check-plan : (s : Bytes) (n : ℕ) (assignment : Bytes) → (checkPlan book s n ≡ accepted assignment)
-      ↔ ((variables (instanceOf b) ≤ n) × (judgePlan (instanceOf b) s ≡ accepted tt) × (encode (instanceOf b) (planOf (instanceOf b) s) ≡ assignment))
-  check-plan s n assignment =
-      let e = plan-checked book s n ∙ then-goes _ read-instance in
-      let k = row-iff (leb (variables (instanceOf b)) n) (judgePlan (instanceOf b) s) (encode (instanceOf b) (planOf (instanceOf b) s)) assignment in (
+  pub plan-written : (need : Instance → ℕ) (result : Instance → Plan → Bytes) (s : Bytes) (n : ℕ) (out : Bytes)
+      → (ofPlan need result book s n ≡ accepted out)
+      ↔ ((need (instanceOf b) ≤ n) × (judgePlan (instanceOf b) s ≡ accepted tt) × (result (instanceOf b) (planOf (instanceOf b) s) ≡ out))
+  plan-written need result s n out =
+      let e = plan-checked need result book s n ∙ then-goes _ read-instance in
+      let k = row-iff (leb (need (instanceOf b)) n) (judgePlan (instanceOf b) s) (result (instanceOf b) (planOf (instanceOf b) s)) out in (
         (λ h. let r = k .0 (sym e ∙ h) in (leb-iff _ n .0 (r .0), r .1, r .2)),
         (λ h. e ∙ k .1 (leb-iff _ n .1 (h .0), h .1, h .2)),
       )
+
+  pub check-plan : (s : Bytes) (n : ℕ) (assignment : Bytes) → (checkPlan book s n ≡ accepted assignment)
+      ↔ ((variables (instanceOf b) ≤ n) × (judgePlan (instanceOf b) s ≡ accepted tt) × (encode (instanceOf b) (planOf (instanceOf b) s) ≡ assignment))
+  unfolding checkPlan encodedFor
+  check-plan s n assignment = plan-written variables encode s n assignment
 
   pub check-refutation : (s : Bytes) (lent : Lent) → (checkRefutation book s lent ≡ accepted tt)
       ↔ (T (formulaFits lent (instanceOf b)) × (checkFile lent (variables (instanceOf b)) (formula (instanceOf b)) s ≡ accepted tt))

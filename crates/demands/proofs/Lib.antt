@@ -29,3 +29,5 @@ pub mod Variables
 pub mod Reasons
 pub mod Refusals
 pub mod Demands
+-- The requests
+pub mod Pages

@@ -17,16 +17,16 @@ use Rattle.spec.specs.Frames.{Format, bookFormat, Kind, headKind, nodeKind, seg
 use Rattle.spec.specs.Book.{Book}
 use Rattle.spec.specs.Read.{between, readAs, readBook, frameFaults, kindFaults, contentFaults, bookFaults}
 use Rattle.spec.specs.Instance.{Instance, instanceOf}
-use Rattle.spec.specs.Plan.{planFits, planOf, planLength, brokenRule}
+use Rattle.spec.specs.Plan.{Plan, planFits, planOf, planLength, brokenRule}
 use Rattle.spec.specs.Formula.{Clause, formula, variables, wordsOf}
-use Rattle.spec.specs.Assignment.{holds, firstFalse, assigned, assignmentFits}
+use Rattle.spec.specs.Assignment.{holds, firstFalse, assigned, assignmentFits, encode}
 use Rattle.spec.specs.Refutation.{Lent, clauseAt, stepFaults, checkSteps, checkFile, isBad}
-use Rattle.spec.specs.Entry.{demand, findNone, readInstance, writeFormula, formulaText, judgeAssignment, judgePlan, decodedFor, checkAssignment, checkPlan, checkRefutation, refutedFor, formulaFits, writtenFor}
+use Rattle.spec.specs.Entry.{demand, findNone, readInstance, writeFormula, formulaText, judgeAssignment, judgePlan, decodedFor, checkAssignment, encodedFor, checkPlan, checkRefutation, refutedFor, formulaFits, writtenFor}
 pub use Rattle.demands.specs.Reasons.{Refusal, ofBook, ofRoom, ofInput, LeastFalse, AssignmentFault, assignmentUnfit, clauseFalse, PlanFault, planUnfit, ruleBroken, StepsTo, firstStep, nextStep, RefutationFault, stepFault, noEnding, bytesAfter, Within}
 use Rattle.demands.proofs.Faults.{passes, FirstHolds, first-none, first-some}
 use Rattle.demands.proofs.Reading.{as-refused, refusal-has-reason}
 use Rattle.demands.proofs.Refuting.{stepAt, added}
-use Rattle.demands.proofs.Entries.{accepted≢refused, demand-iff, instance-read, plan-checked}
+use Rattle.demands.proofs.Entries.{accepted≢refused, demand-iff, instance-read, ofPlan, plan-checked}
 
 -- ---- the parts of a check
 
@@ -172,12 +172,18 @@ plan-fault {d = d} I s e =
     elim (judge-refused (planFits I s) (brokenRule I (planOf I s)) 15 16 e)
     [ inl r ↦ rw (r .1, r .2) (planUnfit (r .0)) | inr r ↦ rw (r .2) (ruleBroken (r .0) (first-some d _ (r .1))) ]
 
--- Refused only by the book, by 12 where the assignment is longer than the slice, or for what is wrong with the plan.
+-- What is written of a plan is refused only by the book, by 12 where it is longer than the slice, or for what is wrong with the plan.
+pub written-refusal : (need : Instance → ℕ) (result : Instance → Plan → Bytes) (book plan : Bytes) (n k d : ℕ)
+    → ofPlan need result book plan n ≡ refused k d → Refusal book (λ I. n < need I) (λ I. PlanFault I plan) k d
+written-refusal need result book s n k d e =
+    in-order book _ _ (λ I. leb (need I) n) _ (λ I. short-iff (need I) n)
+    (λ I r. plan-fault I s (judged-refused (judgePlan I s) _ r)) (sym (plan-checked need result book s n) ∙ e)
+
+-- So its assignment.
 pub plan-refusal : (book plan : Bytes) (n k d : ℕ) → checkPlan book plan n ≡ refused k d
     → Refusal book (λ I. n < variables I) (λ I. PlanFault I plan) k d
-plan-refusal book s n k d e =
-    in-order book _ _ (λ I. leb (variables I) n) _ (λ I. short-iff (variables I) n)
-    (λ I r. plan-fault I s (judged-refused (judgePlan I s) _ r)) (sym (plan-checked book s n) ∙ e)
+unfolding checkPlan encodedFor
+plan-refusal = written-refusal variables encode
 
 -- ---- checking a refutation
 
@@ -282,13 +288,19 @@ assignment-number book s n k d e =
     own (assignmentUnfit h) = (omega arith, omega arith)
     own (clauseFalse h f) = (omega arith, omega arith)
 
--- A plan is refused by 1 to 12, 15 or 16.
-pub plan-number : (book plan : Bytes) (n k d : ℕ) → checkPlan book plan n ≡ refused k d → Within 1 12 k ⊎ Within 15 16 k
-plan-number book s n k d e = elim (number-of (plan-refusal book s n k d e)) [ inl w ↦ inl w | inr f ↦ inr (own (f .1)) ]
+-- What is written of a plan is refused by 1 to 12, 15 or 16.
+pub written-number : (need : Instance → ℕ) (result : Instance → Plan → Bytes) (book plan : Bytes) (n k d : ℕ)
+    → ofPlan need result book plan n ≡ refused k d → Within 1 12 k ⊎ Within 15 16 k
+written-number need result book s n k d e =
+    elim (number-of (written-refusal need result book s n k d e)) [ inl w ↦ inl w | inr f ↦ inr (own (f .1)) ]
   where
     own : {I : Instance} {k d : ℕ} → PlanFault I s k d → Within 15 16 k
     own (planUnfit h) = (omega arith, omega arith)
     own (ruleBroken h f) = (omega arith, omega arith)
+
+pub plan-number : (book plan : Bytes) (n k d : ℕ) → checkPlan book plan n ≡ refused k d → Within 1 12 k ⊎ Within 15 16 k
+unfolding checkPlan encodedFor
+plan-number = written-number variables encode
 
 -- A refutation is refused by 1 to 12 or 17 to 21.
 pub refutation-number : (book refutation : Bytes) (lent : Lent) (k d : ℕ) → checkRefutation book refutation lent ≡ refused k d

@@ -14,14 +14,14 @@ use Rattle.laws.proofs.Frames.{length-behind}
 use Rattle.spec.specs.Lists.{Bytes, all, empty, firstFault, Verdict, refused, andThen}
 use Rattle.spec.specs.Frames.{behind}
 use Rattle.spec.specs.Instance.{Instance, instanceOf}
-use Rattle.spec.specs.Plan.{planFits, planOf, planLength, ruleFaults, brokenRule}
+use Rattle.spec.specs.Plan.{Plan, planFits, planOf, planLength, ruleFaults, brokenRule}
 use Rattle.spec.specs.Formula.{Clause, formula, variables, wordsOf}
-use Rattle.spec.specs.Assignment.{holds, satisfies, firstFalse, assigned, assignmentFits}
+use Rattle.spec.specs.Assignment.{holds, satisfies, firstFalse, assigned, assignmentFits, encode}
 use Rattle.spec.specs.Refutation.{Lent, clauseAt, stepFaults, stepDetail, checkSteps, checkFile}
-use Rattle.spec.specs.Entry.{demand, findNone, readInstance, writeFormula, judgeAssignment, judgePlan, decodedFor, checkAssignment, checkPlan, checkRefutation, refutedFor, formulaFits, writtenFor}
+use Rattle.spec.specs.Entry.{demand, findNone, readInstance, writeFormula, judgeAssignment, judgePlan, decodedFor, checkAssignment, encodedFor, checkPlan, checkRefutation, refutedFor, formulaFits, writtenFor}
 use Rattle.demands.proofs.Faults.{passes, clear-first, holds-first}
 use Rattle.demands.proofs.Refuting.{stepAt, added}
-use Rattle.demands.proofs.Entries.{demand-iff, then-goes, no-false, read-instance, plan-checked}
+use Rattle.demands.proofs.Entries.{demand-iff, then-goes, no-false, read-instance, ofPlan, plan-checked}
 use Rattle.demands.proofs.Reasons as reasons
 use Rattle.demands.proofs.Reasons.{Refusal, ofBook, ofRoom, ofInput, short-iff, LeastFalse, least-false, AssignmentFault, assignmentUnfit, clauseFalse, PlanFault, planUnfit, ruleBroken, StepsTo, firstStep, nextStep, RefutationFault, stepFault, noEnding, bytesAfter, step-whole}
 
@@ -111,13 +111,20 @@ plan-judged I s k d (planUnfit h) = stops _ (demand-no (planFits I s) 15 h)
 plan-judged I s k d (ruleBroken h f) =
     then-goes _ (demand-iff (planFits I s) 15 .1 h) ∙ ap (λ o. findNone o 16) (holds-first d (ruleFaults I (planOf I s)) f)
 
--- Refused exactly by the book, by 12 where the assignment is longer than the slice, or for what is wrong with the plan.
+-- What is written of a plan is refused exactly by the book, by 12 where it is longer than the slice, or for what is wrong with the
+-- plan.
+pub written-refused : (need : Instance → ℕ) (result : Instance → Plan → Bytes) (book plan : Bytes) (n k d : ℕ)
+    → (ofPlan need result book plan n ≡ refused k d) ↔ Refusal book (λ I. n < need I) (λ I. PlanFault I plan) k d
+written-refused need result book s n k d = (
+  reasons.written-refusal need result book s n k d,
+  (λ r. plan-checked need result book s n ∙ in-order book _ _ _ _ (λ I. short-iff (need I) n) (λ I k d f. stops _ (plan-judged I s k d f)) r),
+)
+
+-- So its assignment.
 pub plan-refused : (book plan : Bytes) (n k d : ℕ)
     → (checkPlan book plan n ≡ refused k d) ↔ Refusal book (λ I. n < variables I) (λ I. PlanFault I plan) k d
-plan-refused book s n k d = (
-  reasons.plan-refusal book s n k d,
-  (λ r. plan-checked book s n ∙ in-order book _ _ _ _ (λ I. short-iff (variables I) n) (λ I k d f. stops _ (plan-judged I s k d f)) r),
-)
+unfolding checkPlan encodedFor
+plan-refused = written-refused variables encode
 
 -- ---- checking a refutation
 

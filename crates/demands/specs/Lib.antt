@@ -6,3 +6,5 @@ pub mod Claims
 pub mod BookFiles
 -- what the rewriter's contracts ask of an old frame
 pub mod OldFrames
+-- what is claimed of a train graph
+pub mod Pages

@@ -15,6 +15,7 @@ use answers::Variable;
 use answers::Verdict;
 use checking::check_assignment;
 use checking::check_plan;
+use graph::print_graph;
 use labels::label_book;
 use reader::reading::Answer;
 use reader::reading::OutputAnswer;
@@ -32,6 +33,7 @@ ghost use lib.IntN.{pos};
 ghost use Rattle.spec.specs.Read.{readBook};
 ghost use Rattle.spec.specs.Entry.{zeroed, writeFormula, formulaOutput, checkAssignment, planOutput, checkPlan, assignmentOutput, checkRefutation};
 ghost use Rattle.spec.specs.Upgrade.{upgradeBook, upgradeOutput};
+ghost use Rattle.spec.specs.Page.{printGraph, pageOutput};
 ghost use Rattle.spec.specs.Library.{measureBook, labelSections, labelsOutput, askRun, askVariable};
 ghost use Rattle.refutations.specs.Lent.{lengths};
 ghost use Rattle.gentupag.specs.Answers.{verdictShown, outputShown, totalsShown, verdictOf, outputOf, totalsOf, sizesAnswer, runAnswer, variableAnswer};
@@ -194,5 +196,15 @@ pub extern "C" fn gentupag_upgrade_book(old: &[u8], out: &mut [u8]) -> Output
         × (now (out .exit) ≡ upgradeOutput (now (old .entry)) (now (out .entry))) ⌝ }
 {
     let answer = upgrade_book(old, out);
+    output_from(answer)
+}
+
+// The train graph of a plan that keeps the rules, as a page in the output.
+#[no_mangle]
+pub extern "C" fn gentupag_print_graph(book: &[u8], plan: &[u8], out: &mut [u8]) -> Output
+    ensures { λ r. ⌜ (r ≡ outputOf (printGraph (now (book .entry)) (now (plan .entry)) (length (now (out .entry)))))
+        × (now (out .exit) ≡ pageOutput (now (book .entry)) (now (plan .entry)) (now (out .entry))) ⌝ }
+{
+    let answer = print_graph(book, plan, out);
     output_from(answer)
 }

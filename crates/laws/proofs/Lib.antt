@@ -7,3 +7,4 @@ pub mod Arrays
 pub mod Loops
 pub mod Least
 pub mod Stores
+pub mod Digits

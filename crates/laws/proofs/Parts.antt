@@ -75,6 +75,19 @@ module _ {ℓ} {A : Type ℓ} where
   part-at {xs} {ys} p j d h =
       rw (p .whole, ← p .place) (getD-append-add (p .front) (ys ++ p .rest) j d ∙ List·getD-append ys (p .rest) d j h)
 
+  -- the place under another name
+  pub part-placed : {xs ys : List A} {n m : ℕ} → Part xs n ys → n ≡ m → Part xs m ys
+  part-placed p e = record { front = p .front; rest = p .rest; whole = p .whole; place = p .place ∙ e }
+
+  -- the part itself
+  pub part-taken : {xs ys : List A} {n : ℕ} → Part xs n ys → take (length ys) (drop n xs) ≡ ys
+  part-taken {xs} {ys} {n} p =
+      ap (take (length ys)) (ap (drop n) (p .whole) ∙ drop-at (p .front) (ys ++ p .rest) n (p .place)) ∙ take-at ys (p .rest) (length ys) refl
+
+  -- parts of one length at one place of the same list are the same
+  pub parts-same : {xs zs ys ws : List A} {n : ℕ} → Part xs n ys → Part zs n ws → length ys ≡ length ws → xs ≡ zs → ys ≡ ws
+  parts-same {n = n} p q l e = sym (part-taken p) ∙ ap₂ (λ (k : ℕ) (s : List A). take k (drop n s)) l e ∙ part-taken q
+
 module _ {ℓ} {B : Type ℓ} (f : ℕ → List B) (w : ℕ → ℕ) (sized : (i : ℕ) → length (f i) ≡ w i) where
   -- rows of these lengths have this length together
   pub length-each : (n : ℕ) → length (each (upTo n) f) ≡ sumTo w n
@@ -100,6 +113,12 @@ pub sum-add : (f g : ℕ → ℕ) (n : ℕ) → sumTo (λ i. f i + g i) n ≡ su
 unfolding sumTo
 sum-add f g zero = refl
 sum-add f g (suc n) = omega (arith, sum-add f g n)
+
+-- a sum of equal terms, as far as they are equal
+pub sum-below : (w : ℕ → ℕ) (k n : ℕ) → ((i : ℕ) → i < n → w i ≡ k) → sumTo w n ≡ n * k
+unfolding sumTo
+sum-below w k zero h = sym (zero-mul k)
+sum-below w k (suc n) h = ap₂ _+_ (sum-below w k n (λ i l. h i (omega arith))) (h n (omega arith)) ∙ sym (suc-mul n k)
 
 pub sum-constant : (w n : ℕ) → sumTo (λ _. w) n ≡ n * w
 unfolding sumTo
@@ -134,8 +153,7 @@ each-same f g n h = each-mem-same f g (upTo n) (λ i m. h i (upTo-mem n i .0 m))
 -- the number that a part stands for
 pub part-field : {xs ys : Bytes} {n : ℕ} → Part xs n ys → field xs n (length ys) ≡ number ys
 unfolding field
-part-field {xs} {ys} {n} p =
-    ap number (ap (take (length ys)) (ap (drop n) (p .whole) ∙ drop-at (p .front) (ys ++ p .rest) n (p .place)) ∙ take-at ys (p .rest) (length ys) refl)
+part-field p = ap number (part-taken p)
 
 -- ---- a list cut into pieces
 

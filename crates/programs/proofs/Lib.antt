@@ -1,4 +1,3 @@
-pub mod Figures
 pub mod Pieces
 pub mod Signs
 pub mod Text

@@ -1,7 +1,7 @@
-// The programs over the checks and the rewriter: their files, and what they print. `verdict_text` and
-// `upgrade_text` make the line of a verdict, 12 first where an input is too long, and the result where
-// there is one; their contracts say that these are the specification's. The other functions only read
-// files by their names, and hand bytes to the output and to a file. A slice has at most 64 KiB.
+// The programs over the checks, the train graph and the rewriter: their files, and what they print.
+// `verdict_text` and `upgrade_text` make the line of a verdict, 12 first where an input is too long, and the
+// result where there is one; their contracts say that these are the specification's. The other functions
+// only read files by their names, and hand bytes to the output and to a file. A slice has at most 64 KiB.
 use crate::dimacs::put_refusal;
 use crate::printing::Loaded;
 use crate::printing::load_from;
@@ -9,6 +9,7 @@ use crate::printing::print;
 use checking::check_assignment;
 use checking::check_plan;
 use frames::bytes::put_bytes;
+use graph::print_graph;
 use reader::reading::Answer;
 use reader::reading::OutputAnswer;
 use refutations::check_refutation;
@@ -21,16 +22,18 @@ ghost use lib.IntN.{pos};
 ghost use Rattle.io.specs.Counts.{Counts};
 ghost use Rattle.spec.specs.Entry.{overwrite, written, zeroed, checkAssignment, checkPlan, checkRefutation};
 ghost use Rattle.spec.specs.Upgrade.{upgradeBook};
+ghost use Rattle.spec.specs.Page.{printGraph};
 ghost use Rattle.spec.specs.Programs.{programLent, unlessLong};
 ghost use Rattle.refutations.specs.Lent.{lengths};
 ghost use Rattle.programs.specs.Lines.{answerLine, resultLength};
 ghost use Rattle.programs.specs.Verdicts.{bare, verdictOf, Tells};
 
-// Which check a program makes.
+// What a program asks of a book and a second input: the check of one of three, or a plan's train graph.
 pub enum Check {
     Assignment,
     Plan,
     Refutation,
+    Graph,
 }
 
 // How many bytes are printed, and how many bytes the result has.
@@ -78,6 +81,18 @@ fn plan_text(book: &[u8], plan: &[u8], values: &mut [u8], line: &mut [u8]) -> Sa
         (written (checkPlan (now (book .entry)) (now (plan .entry)) (length (now (values .entry)))))) ⌝ }
 {
     let answer = check_plan(book, plan, values);
+    say(answer, line)
+}
+
+// The line of the verdict on a plan, and its train graph.
+fn graph_text(book: &[u8], plan: &[u8], page: &mut [u8], line: &mut [u8]) -> Said
+    requires { ⌜ length (now line) ≡ 64 ⌝ }
+    ensures { λ r. ⌜ Tells (printGraph (now (book .entry)) (now (plan .entry)) (length (now (page .entry))))
+        (now (line .entry)) (now (line .exit)) r
+        × (now (page .exit) ≡ overwrite (now (page .entry))
+        (written (printGraph (now (book .entry)) (now (plan .entry)) (length (now (page .entry)))))) ⌝ }
+{
+    let answer = print_graph(book, plan, page);
     say(answer, line)
 }
 
@@ -150,6 +165,7 @@ pub fn verdict_text(
         Check::Assignment => assignment_text(book, second, out, line),
         Check::Plan => plan_text(book, second, out, line),
         Check::Refutation => lent_refutation_text(book, second, line),
+        Check::Graph => graph_text(book, second, out, line),
     }
 }
 
@@ -213,6 +229,15 @@ fn hand_out(said: Said, line: &[u8], out: &[u8], result: &[u8], named: bool) {
     }
 }
 
+// Prints the result of a verdict, or the line of its refusal, which has none.
+fn print_result(said: Said, line: &[u8], out: &[u8]) {
+    if 0 < said.result {
+        print(out, said.result);
+    } else {
+        print(line, said.len);
+    }
+}
+
 // Judges the files of these names: the book, the second input, and the result, if one was named. Where an
 // input can't be read, nothing is printed.
 pub fn judge_files(check: Check, book: &[u8], second: &[u8], result: &[u8], named: bool) {
@@ -228,6 +253,24 @@ pub fn judge_files(check: Check, book: &[u8], second: &[u8], result: &[u8], name
         let long = a.long || b.long;
         let said = verdict_text(check, &bytes[..n], &more[..m], long, &mut out, &mut line);
         hand_out(said, &line, &out, result, named);
+    }
+}
+
+// Prints the train graph of the plan in the second file, for the book in the first. Where one can't be
+// read, nothing is printed.
+pub fn graph_files(book: &[u8], plan: &[u8]) {
+    let mut bytes = io::large_buffer();
+    let mut more = io::large_buffer();
+    let a = load(book, &mut bytes);
+    let b = load(plan, &mut more);
+    if a.read && b.read {
+        let mut page = io::large_buffer();
+        let mut line = [0u8; 64];
+        let n = a.len;
+        let m = b.len;
+        let long = a.long || b.long;
+        let said = verdict_text(Check::Graph, &bytes[..n], &more[..m], long, &mut page, &mut line);
+        print_result(said, &line, &page);
     }
 }
 

@@ -4,11 +4,11 @@
 use mathlib.Core.Path.{_≡_, refl}
 use Prim.Native.Nat.{ℕ}
 use mathlib.Core.List.{List, [], _∷_, _++_, map}
-use lib.ListN.{length}
+use lib.ListN.{length, replicate}
 use lib.IntN.{ℤ, pos, negsuc}
 use lib.Dec.{eqb}
 use Rattle.spec.specs.Lists.{Bytes, Verdict, accepted, refused, one, count, upTo, range, each, only, all, any, pick, empty, lastOr, same, has, different, sumTo, leastFrom, firstFault, andThen}
-use Rattle.spec.specs.Numbers.{littleEndian, number, field, signed, unsigned, digits, decimal, decimalZ}
+use Rattle.spec.specs.Numbers.{littleEndian, number, field, signed, unsigned, digits, decimal, inDigits, aligned, decimalZ}
 use Rattle.spec.specs.Frames.{frame, payloadLength, kindField, payloadOf, behind, cutShort, kindNumber, isKind, stepKind, kindOrder, findKind, rankIn, rank, lengthFits, stepLengthFits}
 use Rattle.spec.specs.Book.{noBook, nodeKindAt, segmentAt, trainAt, callsOf, noCall, goalOf, deniesBorder, forcesBorder, greatestNodeKind, touches, shareNode, segmentOf, startNode, endNode, joinIs, joined, lengthInSegments, speedInSegments}
 use Rattle.spec.specs.Runs.{leadsTo, linked, isPath, directed, goesOn, extend, pathsOf, runsOf, startPlace, endPlace, contains}
@@ -21,6 +21,8 @@ use Rattle.spec.specs.Formula.{width, firstVar, base, borderVar, runVar,
 use Rattle.spec.specs.Assignment.{deny, truth, isYes, valueOf, isTrue, holds, satisfies, firstFalse, assigned, assignmentFits, firstRun, chosen, decoded, decode, claims, encode}
 use Rattle.spec.specs.Refutation.{stepPayload, fileOf, literalCount, hintCount, stepIn, variableOf, risesFrom, literalsFit, hintsFit, makeTrue, makeFalse, refuting, isNo, isOpen, clauseAt, notFalse, hinted, goThrough, followsRule, clausesFit, isBad, stepFaults, stepDetail, checkSteps, checkFile}
 use Rattle.spec.specs.Entry.{demand, findNone, readInstance, formulaWritten, writtenFor, writeFormula, formulaText, judgeAssignment, decodedFor, checkAssignment, judgePlan, afterPlan, encodedFor, checkPlan, formulaFits, refutedFor, checkRefutation}
+use Rattle.spec.specs.Held.{padded}
+use Rattle.spec.specs.Page.{Shown, shownRun, shownAbsent, shownGone, shownMove, shownOf, marked, cell, cells, pageLine, page, pageBytes, pageFor, printGraph}
 use Rattle.spec.specs.Upgrade.{timesWidened, widenedAt, widened, widenedFound, frameWidened, widenedFrom, upgraded, upgradeBook}
 use Rattle.spec.specs.Library.{RunAsked, noTrain, noRun, shown, Meaning, border, run, gone, claim, noVariable, freeNodesOf, sizesOf, measureBook, bordersFit, labelledFor, labelSections, runAmong, runAsked, askRun, meaningsIn, meanings, meaningOf, askVariable}
 use Rattle.spec.specs.Programs.{sliceBytes, sliceOf, programLent, unlessLong, isLong, acceptedLine, refusalLine, printed, printFormula, printAssignment, printPlan, printRefutation}
@@ -215,6 +217,13 @@ decodes s a n = answered (checkAssignment s a n) text
 encodes : Bytes → Bytes → ℕ → Answer
 encodes s p n = answered (checkPlan s p n) text
 
+draws : Bytes → Bytes → ℕ → Answer
+draws s p n = answered (printGraph s p n) text
+
+-- a line of a page: what stands in it, and so many blanks
+lineOf : Bytes → ℕ → Bytes
+lineOf s n = s ++ (replicate n 32 ++ (10 ∷ []))
+
 rewrites : Bytes → ℕ → Answer
 rewrites s n = answered (upgradeBook s n) text
 
@@ -344,6 +353,28 @@ further =
           ∷ 0 ∷ 0 ∷ 0 ∷ 0 ∷ 0 ∷ 0 ∷ 1 ∷ 0 ∷ 0
           ∷ 0 ∷ 0 ∷ 0 ∷ 0 ∷ 0 ∷ 0 ∷ 1 ∷ 0 ∷ 0 ∷ []);
     }
+    -- the page of a plan: absent, a run that moves one, a train that stands, gone; then 12, 15 and 16
+    ∷ record {
+      asked = draws bookN (0 ∷ 0 ∷ 0 ∷ 254 ∷ 255 ∷ 4 ∷ 0 ∷ 2 ∷ 0 ∷ 2 ∷ 0 ∷ 255 ∷ 255 ∷ 255 ∷ 255 ∷ []) 243;
+      answer = text
+          (lineOf (32 ∷ 32 ∷ 48 ∷ 32 ∷ 32 ∷ 46 ∷ 32 ∷ 32 ∷ 32 ∷ 32 ∷ 32 ∷ 32 ∷ 32 ∷ 32 ∷ 48 ∷ 49 ∷ 45 ∷ 48 ∷ 49 ∷ 32 ∷ 48 ∷ 32 ∷ []) 58
+          ++ lineOf (32 ∷ 32 ∷ 49 ∷ 32 ∷ 32 ∷ 48 ∷ 48 ∷ 45 ∷ 48 ∷ 49 ∷ 32 ∷ 49 ∷ 32 ∷ 32 ∷ 42 ∷ 32 ∷ 32 ∷ 32 ∷ 32 ∷ 32 ∷ 32 ∷ 32 ∷ []) 58
+          ++ lineOf (32 ∷ 32 ∷ 50 ∷ 32 ∷ 32 ∷ 48 ∷ 49 ∷ 45 ∷ 48 ∷ 49 ∷ 32 ∷ 48 ∷ 32 ∷ 32 ∷ 42 ∷ 32 ∷ 32 ∷ 32 ∷ 32 ∷ 32 ∷ 32 ∷ 32 ∷ []) 58);
+    }
+    ∷ record { asked = draws bookN (0 ∷ 0 ∷ 0 ∷ 254 ∷ 255 ∷ 4 ∷ 0 ∷ 2 ∷ 0 ∷ 2 ∷ 0 ∷ 255 ∷ 255 ∷ 255 ∷ 255 ∷ []) 242; answer = refusal 12 0 }
+    ∷ record { asked = draws bookN [] 243; answer = refusal 15 0 }
+    ∷ record { asked = draws bookN (0 ∷ 1 ∷ 0 ∷ 0 ∷ 0 ∷ 4 ∷ 0 ∷ 2 ∷ 0 ∷ 2 ∷ 0 ∷ 255 ∷ 255 ∷ 255 ∷ 255 ∷ []) 243; answer = refusal 16 2 }
+    -- its cells and its intervals: segments 0 and 63, eight moved; 0, 99, 100 and 255
+    ∷ record {
+      asked = rows (cell (shownRun 0 63 8) ∷ cell (shownRun 63 0 0) ∷ cell shownAbsent ∷ cell shownGone ∷ []);
+      answer = rows
+          ((32 ∷ 48 ∷ 48 ∷ 45 ∷ 54 ∷ 51 ∷ 32 ∷ 56 ∷ 32 ∷ []) ∷ (32 ∷ 54 ∷ 51 ∷ 45 ∷ 48 ∷ 48 ∷ 32 ∷ 48 ∷ 32 ∷ [])
+          ∷ (32 ∷ 46 ∷ 32 ∷ 32 ∷ 32 ∷ 32 ∷ 32 ∷ 32 ∷ 32 ∷ []) ∷ (32 ∷ 42 ∷ 32 ∷ 32 ∷ 32 ∷ 32 ∷ 32 ∷ 32 ∷ 32 ∷ []) ∷ []);
+    }
+    ∷ record {
+      asked = rows (aligned 3 0 ∷ aligned 3 99 ∷ aligned 3 100 ∷ aligned 3 255 ∷ []);
+      answer = rows ((32 ∷ 32 ∷ 48 ∷ []) ∷ (32 ∷ 57 ∷ 57 ∷ []) ∷ (49 ∷ 48 ∷ 48 ∷ []) ∷ (50 ∷ 53 ∷ 53 ∷ []) ∷ []);
+    }
     -- a window from 3 to 3: only the runs of interval 2
     ∷ record { asked = clauseNumber 152 (passingBook 3 3); answer = clause (pos 24 ∷ pos 25 ∷ pos 26 ∷ []) }
     -- a window that shuts before the departure: no refusal, and a clause that nothing satisfies
@@ -423,6 +454,7 @@ unfolding
     deny truth isYes valueOf isTrue holds satisfies firstFalse assigned assignmentFits firstRun chosen decoded decode claims encode
     stepPayload fileOf literalCount hintCount stepIn variableOf risesFrom literalsFit hintsFit makeTrue makeFalse refuting isNo isOpen clauseAt notFalse hinted goThrough followsRule clausesFit isBad stepFaults stepDetail checkSteps checkFile
     demand findNone readInstance formulaWritten writtenFor writeFormula formulaText judgeAssignment decodedFor checkAssignment judgePlan afterPlan encodedFor checkPlan formulaFits refutedFor checkRefutation
+    padded inDigits aligned shownMove shownOf marked cell cells pageLine page pageBytes pageFor printGraph draws lineOf
     timesWidened widenedAt widened widenedFound frameWidened widenedFrom upgraded upgradeBook
     sliceBytes sliceOf programLent unlessLong isLong acceptedLine refusalLine printed printFormula printAssignment printPlan printRefutation
 cases = refl

@@ -2,7 +2,7 @@
 -- turned into these answers in one place, `instanceOf`, so a rule of the book (which node kinds deny a border, whether a
 -- place serves a call, who may be gone) is changed here and nowhere else. Assumes nothing.
 use mathlib.Core.Bool.{Bool, _&&_}
-use Prim.Native.Nat.{ℕ}
+use Prim.Native.Nat.{ℕ, _-_}
 use mathlib.Core.List.{List, [], map}
 use lib.ListN.{length, getD}
 use Rattle.spec.specs.Lists.{same}
@@ -25,9 +25,10 @@ pub record Instance : Type 0 where
   pub departure : ℕ → ℕ
   pub runs : ℕ → ℕ
   pub calls : ℕ → ℕ
-  -- by train and run: it starts at the given place; its segments in path order; gone may follow it
+  -- by train and run: it starts at the given place; its segments in path order; how many of them it moves; gone may follow it
   pub given : ℕ → ℕ → Bool
   pub path : ℕ → ℕ → List ℕ
+  pub moved : ℕ → ℕ → ℕ
   pub leaves : ℕ → ℕ → Bool
   -- by train and two runs: the second starts at the place where the first ends
   pub follows : ℕ → ℕ → ℕ → Bool
@@ -71,6 +72,7 @@ compile b lists = record
   ; calls = λ i. length (callsOf b i)
   ; given = λ i r. same (startPlace (trainLength b i) (runAt lists i r)) (trainAt b i .place)
   ; path = λ i r. map segmentOf (runAt lists i r)
+  ; moved = λ i r. length (runAt lists i r) - trainLength b i
   ; leaves = λ i r. mayLeave b i (endPlace (trainLength b i) (runAt lists i r))
   ; follows = λ i r q. same (endPlace (trainLength b i) (runAt lists i r)) (startPlace (trainLength b i) (runAt lists i q))
   ; first = λ i c. callAt b i c .first

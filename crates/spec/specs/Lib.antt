@@ -18,5 +18,6 @@ pub mod Assignment
 pub mod Refutation
 pub mod Entry
 pub mod Upgrade
+pub mod Page
 pub mod Library
 pub mod Programs

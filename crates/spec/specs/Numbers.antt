@@ -3,7 +3,7 @@
 use mathlib.Core.Bool.{true, false}
 use Prim.Native.Nat.{ℕ, zero, suc, _+_, _*_, _-_, _/_, _%_, _^_}
 use mathlib.Core.List.{[], _∷_, _++_}
-use lib.ListN.{take, drop}
+use lib.ListN.{length, take, drop, replicate}
 use lib.IntN.{ℤ, pos, negsuc}
 use lib.Dec.{ltb}
 use Rattle.spec.specs.Lists.{Bytes, one}
@@ -39,6 +39,15 @@ digits (suc most) n = elim (ltb n 10) [ true ↦ one (48 + n) | false ↦ digits
 -- A number has at most as many digits as it has units, and one at least.
 unfoldable pub decimal : ℕ → Bytes
 decimal n = digits (suc n) n
+
+-- n in w digits, zeros ahead of it: the last w, where it has more
+unfoldable pub inDigits : ℕ → ℕ → Bytes
+inDigits zero n = []
+inDigits (suc w) n = inDigits w (n / 10) ++ one (48 + n % 10)
+
+-- n in w bytes, blanks ahead of it
+unfoldable pub aligned : ℕ → ℕ → Bytes
+aligned w n = replicate (w - length (decimal n)) 32 ++ decimal n
 
 unfoldable pub decimalZ : ℤ → Bytes
 decimalZ (pos n) = decimal n

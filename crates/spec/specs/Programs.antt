@@ -10,6 +10,7 @@ use Rattle.spec.specs.Numbers.{decimal}
 use Rattle.spec.specs.Refutation.{Lent}
 use Rattle.spec.specs.Entry.{formulaText, checkAssignment, checkPlan, checkRefutation}
 use Rattle.spec.specs.Upgrade.{upgradeBook}
+use Rattle.spec.specs.Page.{printGraph}
 
 -- "at most 64 KiB a slice", in bytes; how many entries of so many bytes a slice then has
 unfoldable pub sliceBytes : ℕ
@@ -59,3 +60,7 @@ printRefutation book s = printed (λ _. acceptedLine) (unlessLong (isLong book |
 -- upgrade_book, with the old book; the new one goes to a file
 unfoldable pub printUpgrade : Bytes → Bytes
 printUpgrade old = printed (λ _. acceptedLine) (unlessLong (isLong old) (upgradeBook old (sliceOf 1)))
+
+-- print_graph, with the book and the plan; either may be too long
+unfoldable pub printPage : Bytes → Bytes → Bytes
+printPage book plan = printed (λ page. page) (unlessLong (isLong book || isLong plan) (printGraph book plan (sliceOf 1)))

@@ -7,7 +7,7 @@ use borrow.Fn.Kinds.{In}
 use borrow.Fn.PlainCycle.{Measures, is, falls, and}
 use Rattle.spec.specs.Lists.{one}
 use Rattle.spec.specs.Numbers.{decimal}
-use Rattle.programs.proofs.Figures.{decimal-one, decimal-more, figures-twenty}
+use Rattle.laws.proofs.Digits.{decimal-one, decimal-more, decimal-twenty}
 use Rattle.laws.proofs.Stores.{Stored, stored, stored-none, stored-byte, stored-same, stored-length}
 use Rattle.programs.proofs.dimacs.put_number.Reads as put-number
 use Rattle.programs.proofs.dimacs.put_number.Kinds as put-number-kinds
@@ -91,7 +91,7 @@ same-length-2 t c = stored-length (whole t c)
 
 returns-2 : (t : ℕ) → lts.Need-returns-2 (calls t) (given t) put-number.Post
 returns-2 t c =
-    (whole t c .ends, omega (arith, whole t c .ends, figures-twenty (args t c .n) (omega arith)), whole t c .bytes)
+    (whole t c .ends, omega (arith, whole t c .ends, decimal-twenty (args t c .n) (omega arith)), whole t c .bytes)
 
 pub +put-number-spec : {M : Type 1} → statement M
 +put-number-spec =
