@@ -105,6 +105,7 @@ fn judgements(name: &str, plan_name: &str, space: &mut Space) {
     println!("{name} with its plan: {} variables; outputs are equal", values.len());
     compare("check the plan", 20, vec![9; values.len()], workers::plan_checkers(&book, &plan, space));
     compare("check the assignment", 10, vec![9; plan.len()], workers::assignment_checkers(&book, &values, space));
+    compare("print the train graph", 20, vec![9; 20736], workers::graph_printers(&book, &plan));
 }
 
 // A refutation of so many steps, with its hints and the words that it adds.

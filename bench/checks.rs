@@ -1,7 +1,9 @@
-// Plain Rust of the three checks, to time the proved ones against, over plain.rs's reader and walk. Written from document 01;
+// Plain Rust of the three checks and of the train graph, to time the proved ones against, over plain.rs's reader and walk. Written from document 01;
 // nothing in it is tuned by hand. A refusal is its number and its detail.
 
-use crate::plain::{holds, read_book, refuse_if, tables, two, walk, Book, Count, Sink, Store, Tables};
+use std::io::Write;
+
+use crate::plain::{holds, meets, read_book, refuse_if, tables, two, walk, Book, Count, Sink, Store};
 
 type Verdict<T> = Result<T, (usize, usize)>;
 
@@ -70,9 +72,9 @@ fn moves(book: &Book, plan: &[u8]) -> Vec<Vec<usize>> {
 }
 
 // Each segment's section: the least segment that it is together with.
-fn sections(book: &Book, t: &Tables, plan: &[u8]) -> Vec<usize> {
+fn sections(book: &Book, plan: &[u8]) -> Vec<usize> {
     let mut section: Vec<usize> = (0..book.segments.len()).collect();
-    for &(node, s, u) in &t.meets {
+    for (node, s, u) in meets(book) {
         let (x, y) = (section[s as usize], section[u as usize]);
         if plan[node as usize] == 0 && x != y {
             for k in section.iter_mut().filter(|k| **k == x.max(y)) {
@@ -111,37 +113,34 @@ fn broken_by_train(book: &Book, tr: usize, moves: &[usize]) -> usize {
     if served { 0 } else { 5 }
 }
 
-// Checks a plan and writes it as an assignment; answers the assignment's length.
-pub fn check_plan(s: &[u8], plan: &[u8], out: &mut [u8]) -> Verdict<usize> {
-    let book = plainly(read_book(s))?;
-    let t = tables(&book);
+// Whether a train's run touches each section.
+fn touched(run: Option<&Vec<u8>>, section: &[usize]) -> [bool; 64] {
+    let mut marks = [false; 64];
+    for &x in run.into_iter().flatten() {
+        marks[section[x as usize / 2]] = true;
+    }
+    marks
+}
+
+// A plan that keeps the rules: its moves and its sections.
+fn judged(book: &Book, plan: &[u8]) -> Verdict<(Vec<Vec<usize>>, Vec<usize>)> {
     let nodes = book.nodes.len();
-    plainly(refuse_if(out.len() < t.variables, 12))?;
-    plainly(refuse_if(plan.len() != plan_length(&book) || plan[..nodes].iter().any(|&b| b > 1), 15))?;
-    let moves = moves(&book, plan);
+    plainly(refuse_if(plan.len() != plan_length(book) || plan[..nodes].iter().any(|&b| b > 1), 15))?;
+    let moves = moves(book, plan);
     let fits = |tr: usize| moves[tr].iter().all(|&m| m < book.runs[tr].len() || m >= 65534);
     plainly(refuse_if(!(0..moves.len()).all(fits), 15))?;
     if !(0..nodes).all(|n| book.nodes[n] == 1 || plan[n] == book.nodes[n] / 2) {
         return Err((16, 1));
     }
-    let broken = (0..moves.len()).map(|tr| broken_by_train(&book, tr, &moves[tr])).filter(|&b| b != 0).min();
+    let broken = (0..moves.len()).map(|tr| broken_by_train(book, tr, &moves[tr])).filter(|&b| b != 0).min();
     if let Some(rule) = broken {
         return Err((16, rule));
     }
-    let section = sections(&book, &t, plan);
-    let touched = |tr: usize, i: usize| {
-        let mut marks = [false; 64];
-        if let Some(run) = book.runs[tr].get(moves[tr][i]) {
-            for &x in run {
-                marks[section[x as usize / 2]] = true;
-            }
-        }
-        marks
-    };
+    let section = sections(book, plan);
     for i in 0..book.intervals {
         let mut taken = [false; 64];
         for tr in 0..moves.len() {
-            for (mine, all) in touched(tr, i).iter().zip(taken.iter_mut()) {
+            for (mine, all) in touched(book.runs[tr].get(moves[tr][i]), &section).iter().zip(taken.iter_mut()) {
                 if *mine && *all {
                     return Err((16, 6));
                 }
@@ -149,11 +148,21 @@ pub fn check_plan(s: &[u8], plan: &[u8], out: &mut [u8]) -> Verdict<usize> {
             }
         }
     }
+    Ok((moves, section))
+}
+
+// Checks a plan and writes it as an assignment; answers the assignment's length.
+pub fn check_plan(s: &[u8], plan: &[u8], out: &mut [u8]) -> Verdict<usize> {
+    let book = plainly(read_book(s))?;
+    let nodes = book.nodes.len();
+    let width = |runs: &Vec<Vec<u8>>| runs.len() + 1 + book.segments.len();
+    plainly(refuse_if(out.len() < nodes + book.intervals * book.runs.iter().map(width).sum::<usize>(), 12))?;
+    let (moves, section) = judged(&book, plan)?;
     out[..nodes].copy_from_slice(&plan[..nodes]);
     let mut at = nodes;
     for tr in 0..moves.len() {
         for i in 0..book.intervals {
-            let marks = touched(tr, i);
+            let marks = touched(book.runs[tr].get(moves[tr][i]), &section);
             for r in 0..book.runs[tr].len() {
                 out[at] = u8::from(moves[tr][i] == r);
                 at += 1;
@@ -167,6 +176,29 @@ pub fn check_plan(s: &[u8], plan: &[u8], out: &mut [u8]) -> Verdict<usize> {
         }
     }
     Ok(at)
+}
+
+// Prints a plan's train graph; answers the page's length.
+pub fn print_graph(s: &[u8], plan: &[u8], out: &mut [u8]) -> Verdict<usize> {
+    let book = plainly(read_book(s))?;
+    let length = 81 * book.intervals;
+    plainly(refuse_if(out.len() < length, 12))?;
+    let (moves, _) = judged(&book, plan)?;
+    for (i, line) in out[..length].chunks_exact_mut(81).enumerate() {
+        line.fill(b' ');
+        line[80] = b'\n';
+        write!(&mut line[..], "{i:3} ").expect("room for it");
+        for (tr, cell) in line[4..].chunks_exact_mut(9).take(moves.len()).enumerate() {
+            match (moves[tr][i], book.runs[tr].get(moves[tr][i])) {
+                (_, Some(run)) => {
+                    let (rear, front, moved) = (run[0] / 2, run[run.len() - 1] / 2, run.len() - book.trains[tr].l);
+                    write!(&mut cell[1..], "{rear:02}-{front:02} {moved}").expect("room for it");
+                }
+                (code, None) => cell[1] = if code == 65534 { b'.' } else { b'*' },
+            }
+        }
+    }
+    Ok(length)
 }
 
 // The slices that a refutation check works in.

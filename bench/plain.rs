@@ -271,6 +271,22 @@ pub fn holds(place: &[u8], segment: usize) -> bool {
     place.iter().any(|&d| d as usize / 2 == segment)
 }
 
+// What meets: a node, and two segments of one TTD there.
+pub fn meets(book: &Book) -> Vec<(i32, i32, i32)> {
+    let n = book.segments.len() as u8;
+    let mut found = Vec::new();
+    for node in 0..book.nodes.len() as u8 {
+        for s in (0..n).filter(|&s| book.touches(s, node)) {
+            for u in (0..n).filter(|&u| u != s && book.touches(u, node)) {
+                if book.segments[s as usize].ttd == book.segments[u as usize].ttd {
+                    found.push((node as i32, s as i32, u as i32));
+                }
+            }
+        }
+    }
+    found
+}
+
 pub fn tables(book: &Book) -> Tables {
     let mut t = Tables {
         first: Vec::new(),
@@ -279,7 +295,7 @@ pub fn tables(book: &Book) -> Tables {
         leaves: Vec::new(),
         elsewhere: Vec::new(),
         serving: Vec::new(),
-        meets: Vec::new(),
+        meets: meets(book),
         variables: 0,
     };
     let mut next = book.nodes.len() as i32 + 1;
@@ -302,16 +318,6 @@ pub fn tables(book: &Book) -> Tables {
         );
     }
     t.variables = next as usize - 1;
-    let n = book.segments.len() as u8;
-    for node in 0..book.nodes.len() as u8 {
-        for s in (0..n).filter(|&s| book.touches(s, node)) {
-            for u in (0..n).filter(|&u| u != s && book.touches(u, node)) {
-                if book.segments[s as usize].ttd == book.segments[u as usize].ttd {
-                    t.meets.push((node as i32, s as i32, u as i32));
-                }
-            }
-        }
-    }
     t
 }
 

@@ -32,6 +32,7 @@ unsafe extern "C" {
     fn gentupag_write_formula(book: *const u8, len: usize, out: *mut i32, room: usize) -> Totals;
     fn gentupag_check_assignment(book: *const u8, len: usize, s: *const u8, n: usize, out: *mut u8, room: usize) -> Output;
     fn gentupag_check_plan(book: *const u8, len: usize, s: *const u8, n: usize, out: *mut u8, room: usize) -> Output;
+    fn gentupag_print_graph(book: *const u8, len: usize, s: *const u8, n: usize, out: *mut u8, room: usize) -> Output;
     fn gentupag_check_refutation(
         book: *const u8, len: usize, r: *const u8, n: usize, words: *mut i32, w: usize, clauses: *mut usize, c: usize,
         values: *mut u8, v: usize, trail: *mut usize, t: usize) -> Verdict;
@@ -53,6 +54,11 @@ pub fn write_formula(book: &[u8], out: &mut [i32]) -> Result<(usize, usize, usiz
 
 pub fn check_assignment(book: &[u8], s: &[u8], out: &mut [u8]) -> Result<usize, (usize, usize)> {
     let r = unsafe { gentupag_check_assignment(book.as_ptr(), book.len(), s.as_ptr(), s.len(), out.as_mut_ptr(), out.len()) };
+    found(r.number, r.detail, r.length)
+}
+
+pub fn print_graph(book: &[u8], s: &[u8], out: &mut [u8]) -> Result<usize, (usize, usize)> {
+    let r = unsafe { gentupag_print_graph(book.as_ptr(), book.len(), s.as_ptr(), s.len(), out.as_mut_ptr(), out.len()) };
     found(r.number, r.detail, r.length)
 }
 

@@ -101,6 +101,15 @@ fn plan(name: &str, book: &[u8], plan: &[u8], room: usize, space: &mut Space) ->
     found.ok().map(|n| one[..n].to_vec())
 }
 
+// Prints a plan's train graph, with the page's room, a byte more and a byte less.
+fn graph(name: &str, book: &[u8], plan: &[u8], room: usize) {
+    let [mut one, mut two] = [(); 2].map(|_| vec![9u8; room]);
+    let found = proved::print_graph(book, plan, &mut one);
+    tally(&found);
+    assert_eq!(found, checks::print_graph(book, plan, &mut two), "{name}, graph, plain");
+    assert!(one == two, "{name}: the pages differ");
+}
+
 // Checks an assignment; answers the plan.
 fn assignment(name: &str, book: &[u8], values: &[u8], room: usize, space: &mut Space) -> Option<Vec<u8>> {
     let [mut one, mut two, mut three] = [(); 3].map(|_| vec![9u8; room]);
@@ -123,8 +132,11 @@ pub fn judgements(name: &str, book: &[u8], good: &[u8], space: &mut Space) -> Ve
 
 fn trials(name: &str, book: &[u8], good: &[u8], values: &[u8], times: usize, space: &mut Space) {
     let mut random = Random(88172645463325252);
+    let page = 81 * plain::read_book(book).map_or(1, |b| b.intervals);
     for k in 0..times {
-        plan(name, book, &damaged(good, &mut random), values.len() + k % 3 - 1, space);
+        let near = damaged(good, &mut random);
+        plan(name, book, &near, values.len() + k % 3 - 1, space);
+        graph(name, book, if k % 8 == 0 { good } else { &near }, page + k % 3 - 1);
         assignment(name, book, &damaged(values, &mut random), good.len() + k % 3 - 1, space);
     }
 }

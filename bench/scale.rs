@@ -61,6 +61,7 @@ fn plan(name: &str, book: &[u8], totals: Totals, space: &mut Space) {
     let plan = load(&format!("{name}.plan"));
     same::judgements(name, book, &plan, space);
     measure("check the plan", totals.variables, vec![1; totals.variables], workers::plan_checkers(book, &plan, space));
+    measure("print the train graph", 20736, vec![1; 20736], workers::graph_printers(book, &plan));
 }
 
 fn assignment(name: &str, book: &[u8], _: Totals, space: &mut Space) {

@@ -41,6 +41,14 @@ pub fn plan_checkers<'a>(book: &'a [u8], plan: &'a [u8], space: &'a mut Space) -
     ]
 }
 
+// There is no tuned one: nearly all of the work is reading the book and judging the plan.
+pub fn graph_printers<'a>(book: &'a [u8], plan: &'a [u8]) -> Vec<Worker<'a, Vec<u8>>> {
+    vec![
+        worker("proved", |out: &mut Vec<u8>| proved::print_graph(black_box(book), plan, out)),
+        worker("plain", |out: &mut Vec<u8>| checks::print_graph(black_box(book), plan, out)),
+    ]
+}
+
 pub fn assignment_checkers<'a>(book: &'a [u8], values: &'a [u8], space: &'a mut Space) -> Vec<Worker<'a, Vec<u8>>> {
     vec![
         worker("proved", |out: &mut Vec<u8>| proved::check_assignment(black_box(book), values, out)),

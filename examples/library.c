@@ -1,5 +1,5 @@
 /* Asks the library about a book: its sizes, its sections without a border, each train's first runs, and what the literals of the
- * formula's first clauses stand for; and judges a plan, where one is given.
+ * formula's first clauses stand for; and judges a plan and prints its train graph, where one is given.
  *
  *   cc -Iinclude examples/library.c -Ltarget/staticlib -lgentupag -o library && ./library examples/following.book [PLAN]
  */
@@ -101,6 +101,17 @@ static void judge(input book, input plan, gentupag_sizes sizes) {
     free(back);
 }
 
+/* The train graph of a plan, or why there is none. */
+static void print_graph(input book, input plan, gentupag_sizes sizes) {
+    size_t length = 81 * sizes.intervals;
+    uint8_t *page = room(length, 1);
+    gentupag_output answer = gentupag_print_graph(book.bytes, book.length, plan.bytes, plan.length, page, length);
+    if (answer.number)
+        printf("no train graph: %zu %zu\n", answer.number, answer.detail);
+    fwrite(page, 1, answer.length, stdout);
+    free(page);
+}
+
 int main(int count, char **names) {
     if (count != 2 && count != 3) {
         fprintf(stderr, "usage: library BOOK [PLAN]\n");
@@ -110,6 +121,7 @@ int main(int count, char **names) {
     gentupag_sizes sizes = gentupag_measure_book(book.bytes, book.length);
     if (sizes.number) {
         printf("the book is refused: %zu %zu\n", sizes.number, sizes.detail);
+        free(book.bytes);
         return 1;
     }
     printf("%zu intervals, %zu nodes (%zu may have a border or none), %zu segments, %zu trains\n", sizes.intervals, sizes.nodes,
@@ -123,6 +135,7 @@ int main(int count, char **names) {
     if (count == 3) {
         input plan = read_file(names[2]);
         judge(book, plan, sizes);
+        print_graph(book, plan, sizes);
         free(plan.bytes);
     }
     free(book.bytes);

@@ -118,8 +118,9 @@ gentupag_variable gentupag_explain_variable(const uint8_t *book, size_t book_len
  * too short an output: the new book has one byte more for its Head, one a train and two a call. */
 gentupag_output gentupag_upgrade_book(const uint8_t *old, size_t old_length, uint8_t *GENTUPAG_APART out, size_t out_length);
 
-/* The train graph of a plan that keeps the rules: a line an interval, 80 bytes of text and a newline, so 81 bytes times `intervals` of
- * gentupag_measure_book. Refuses by 12, 15, 16. No byte 0 stands behind the text. */
+/* The train graph of a plan, which is judged first as gentupag_check_plan does: 81 times `intervals` bytes. Refuses by 12, a shorter output,
+ * then by 15 and 16. Line t begins at 81 t, has 80 bytes of text and a newline; the cell of train i begins at 81 t + 4 + 9 i (docs/FORMATS.md,
+ * section 11). No byte 0 stands behind the page: go by `length`. */
 gentupag_output gentupag_print_graph(const uint8_t *book, size_t book_length, const uint8_t *plan, size_t plan_length,
                                      uint8_t *GENTUPAG_APART out, size_t out_length);
 

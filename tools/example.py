@@ -1,6 +1,6 @@
 """The main job on the example books, or on the BOOKs that are named: proves and builds the program that the job needs and no more (`rt check
 cabinet`), and shows each crate as it is proved; then for each book prints the formula, hands it to the solver script, and gives its answer
-to the proved check. An accepted assignment's plan is shown by segments (`show` has more of it). Says at the end what was decided of each book.
+to the proved check. Of an accepted assignment's plan the borders and the train graph are shown (`show` has more of it). Says at the end what was decided of each book.
 
 Exit status: 0 every answer was accepted; 1 something was not proved, or refused; 2 wrong usage, or a file or rt is missing.
 """
@@ -103,9 +103,13 @@ def check(programs, command, *names):
     return said, None
 
 
-def show_plan(book, plan):
+def show_plan(programs, book, plan):
+    """The plan's borders, and its train graph without the blanks at the ends of its lines."""
     for line in plan_lines(reference.read_book(read_bytes(book)), read_bytes(plan)):
-        print(f"    {line}")
+        if line.startswith("border"):
+            print(f"    {line}")
+    for line in cabinet(programs, "print_graph", book, plan).decode().splitlines():
+        print(f"    {line.rstrip()}")
 
 
 def decide(programs, book, solver, folder):
@@ -115,7 +119,7 @@ def decide(programs, book, solver, folder):
     if step("solver", lambda: solve(solver, formula, answer)):
         step("check_assignment", lambda: check(programs, "check_assignment", book, answer, plan))
         step("check_plan, of the plan that it decodes to", lambda: check(programs, "check_plan", book, plan))
-        show_plan(book, plan)
+        show_plan(programs, book, plan)
         return True
     step("check_refutation", lambda: check(programs, "check_refutation", book, answer))
     return False

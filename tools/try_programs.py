@@ -417,7 +417,8 @@ def close_all():
 
 
 def try_closed_output(t):
-    """Nothing can be said then; but the program ends, and the inputs are as they were: a file that is opened next may get number 1."""
+    """What should have been printed is lost, and standard error says so; the program ends, and the inputs are as they were: a file that is
+    opened next may get number 1."""
     long_text = padded(0)
     jobs = [("print_formula", (), BOOK_L), ("print_formula", (), long_text), ("print_formula", (), b"")]
     jobs.append(("print_graph", tuple(map(t.file, circling(256))), b""))
@@ -431,6 +432,8 @@ def try_closed_output(t):
         before = [read(name) for name in names[:2]]
         for what, answer in closed_outputs(t, program, names, stdin):
             t.expect(f"{program}, {len(names)} names, {what}: ends", answer.status is not None, answer)
+            if what in ("output closed", "device full") and (program == "print_formula" or None not in before and names):
+                t.expect(f"{program}, {len(names)} names, {what}: said", answer.err.startswith(b"standard output: "), answer)
             t.expect(f"{program}, {len(names)} names, {what}: inputs untouched", [read(name) for name in names[:2]] == before, answer)
 
 

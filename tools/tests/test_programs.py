@@ -158,7 +158,7 @@ class Example(InFolder):
         status, said = self.job("following.book", "uncut.book")
         self.assertEqual(status, 0)
         self.assertIn("border at node 1", said)
-        self.assertRegex(said, r"train 0, interval 0: run \d+, segments 1>")
+        self.assertRegex(said, r"\n      0  01-\d\d \d  00-\d\d \d\n")
         self.assertRegex(said, r"following.book: yes, .*\n.*uncut.book: no, ")
         self.assertIn("not the railway", said)
 

@@ -50,7 +50,7 @@ class Books(unittest.TestCase):
         self.same(encode([[9, b"\1\2"], [65535, b""], [5, bytes(6) + b"\1"], [5, bytes(5)]]))
 
     def test_examples(self):
-        for name in ("following", "uncut", "loop"):
+        for name in ("following", "uncut", "loop", "meeting"):
             lines = read_text(os.path.join(EXAMPLES, name + ".txt")).split("\n")
             data = read_bytes(os.path.join(EXAMPLES, name + ".book"))
             self.assertEqual(book_bytes(lines), data)

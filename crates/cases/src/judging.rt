@@ -1,17 +1,19 @@
-// The verdicts on assignments, plans, refutations and old books. What is lent holds something already.
+// The verdicts on assignments, plans, refutations and old books, and train graphs. What is lent holds something already.
 use crate::lent::lent;
+use graph::print_graph;
 use libc::STDOUT_FILENO;
 use programs::printing::print;
 use programs::verdicts::Check;
 use programs::verdicts::Said;
 use programs::verdicts::refutation_text;
+use programs::verdicts::say;
 use programs::verdicts::upgrade_text;
 use programs::verdicts::verdict_text;
+use reader::reading::OutputAnswer;
 ghost use mathlib.Core.Path.{_≡_};
 ghost use lib.ListN.{length};
 
-// The verdict on an assignment or a plan, or its train graph, with as much of the output lent as the
-// numbers say.
+// The verdict on an assignment or a plan, with as much of the output lent as the numbers say.
 fn verdict(
     check: Check,
     book: &[u8],
@@ -39,6 +41,20 @@ pub fn judge(check: Check, book: &[u8], second: &[u8], numbers: &[u8]) {
     let mut out = [7u8; 65536];
     let mut line = [0u8; 64];
     let said = verdict(check, book, second, numbers, &mut out, &mut line);
+    print_said(said, &line, &out);
+}
+
+// The answer to a plan whose train graph is asked for, with as much of the output lent as the numbers say.
+fn drawn(book: &[u8], plan: &[u8], numbers: &[u8], out: &mut [u8]) -> OutputAnswer {
+    let n = lent(numbers, 0, out.len());
+    print_graph(book, plan, &mut out[..n])
+}
+
+// Its line and, where it is accepted, the page on a line.
+pub fn draw(book: &[u8], plan: &[u8], numbers: &[u8]) {
+    let mut out = [7u8; 65536];
+    let mut line = [0u8; 64];
+    let said = say(drawn(book, plan, numbers, &mut out), &mut line);
     print_said(said, &line, &out);
 }
 

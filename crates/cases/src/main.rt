@@ -30,7 +30,7 @@ fn answer(question: u8, first: &[u8], second: &[u8], third: &[u8]) {
         b'P' => judging::judge(Check::Plan, first, second, third),
         b'N' => judging::refute(first, second, third),
         b'U' => judging::upgrade(first, third),
-        b'G' => judging::judge(Check::Graph, first, second, third),
+        b'G' => judging::draw(first, second, third),
         b'f' => files::print_formula(first, third),
         b'a' => files::judge(Check::Assignment, first, second, third),
         b'p' => files::judge(Check::Plan, first, second, third),

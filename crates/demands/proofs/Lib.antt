@@ -5,8 +5,6 @@ pub mod Growing
 pub mod Reading
 pub mod Building
 pub mod Exact
-pub mod Widening
-pub mod Upgrading
 pub mod RunLists
 -- The formula and the plan rules say the same
 pub mod Sections
@@ -29,5 +27,7 @@ pub mod Variables
 pub mod Reasons
 pub mod Refusals
 pub mod Demands
--- The requests
+-- The requests: old books rewritten, the train graph
+pub mod Widening
+pub mod Upgrading
 pub mod Pages

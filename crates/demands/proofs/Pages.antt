@@ -1,35 +1,34 @@
 -- The train graph (document 02, P2). For every book that was read: every line of a page has its exact width, whatever the plan
 -- (`line-width`), and two plans with the same page agree on the fields that it shows (`same-page`). From arbitrary bytes: what the
 -- entry point prints, and why it refuses. Assumes nothing.
-use mathlib.Core.Path.{_≡_, refl, sym, ap, ap₂, _∙_, subst}
+use mathlib.Core.Path.{_≡_, refl, sym, ap, _∙_}
 use mathlib.Core.Logic.{_↔_, _⊎_, inl, inr, ⊎-elim}
 use Prim.Native.Nat.{ℕ, zero, suc, _+_, _*_, _-_, _/_, _%_, _≤_, _<_}
 use native.Mathlib.Omega.{arith}
 use native.Mathlib.Nat.{mul-comm}
-use mathlib.Core.List.{List, [], _∷_, _++_, List·Memᴰ, List·Memᴰ·head, List·Memᴰ·tail}
-use lib.ListN.{length, getD, take, drop, replicate, length-append, length-replicate, getD-replicate}
+use mathlib.Core.List.{List, [], _∷_, _++_, map, List·Memᴰ, List·Memᴰ·head, List·Memᴰ·tail}
+use lib.ListN.{length, getD, take, drop, replicate, length-append, length-map, length-replicate, getD-replicate}
 use lib.Dec.{T, leb}
-use Rattle.spec.specs.Lists.{Bytes, all, each, upTo, one, sumTo, lastOr, accepted, refused}
+use Rattle.spec.specs.Lists.{Bytes, all, each, upTo, one, lastOr, accepted, refused}
 use Rattle.spec.specs.Numbers.{inDigits, decimal, aligned}
 use Rattle.spec.specs.Held.{padded}
-use Rattle.spec.specs.Book.{Book, Train, trainAt, lengthInSegments, speedInSegments}
+use Rattle.spec.specs.Book.{Book, Train, segmentOf, trainAt, lengthInSegments, speedInSegments}
 use Rattle.spec.specs.Read.{between, headFits, reachFits, wellFormed, readBook}
-use Rattle.spec.specs.Runs.{runsOf}
+use Rattle.spec.specs.Runs.{runsOf, startPlace, endPlace}
 use Rattle.spec.specs.Instance.{Instance, instanceOf, compile, runLists, runAt, trainLength}
 use Rattle.spec.specs.Plan.{Plan, Move, run, absent, gone, isMove, IsPlan, planFits, planOf, keepsRules}
 use Rattle.spec.specs.Entry.{overwrite, written}
 use Rattle.spec.specs.Page.{blank, newline, Shown, shownRun, shownAbsent, shownGone, shownMove, shownOf, marked, cell, cells, pageLine, page, pageBytes, pageFor, printGraph, pageOutput}
 use Rattle.laws.proofs.Tests.{and-iff, ltb-iff, leb-iff, all-iff, all-upTo, all-at, le-or-lt}
 use Rattle.laws.proofs.Rows.{all-append, all-each}
-use Rattle.laws.proofs.Parts.{Part, part-here, part-behind, part-in, part-at, part-placed, part-taken, parts-same, part-each, length-each, sum-below, sum-constant}
-use Rattle.laws.proofs.Digits.{decimal-one, decimal-more, inDigits-back, front-same, head-same, length-aligned, aligned-back}
-pub use Rattle.demands.specs.Pages.{IsLine, SameLine, SamePage}
+use Rattle.laws.proofs.Parts.{front-same, head-same, Part, part-here, part-behind, part-in, part-at, part-placed, part-taken, parts-same, part-each, length-each, sum-below, sum-constant}
+use Rattle.laws.proofs.Digits.{decimal-one, decimal-more, inDigits-back, length-aligned, aligned-back}
+pub use Rattle.demands.specs.Pages.{rearOf, frontOf, IsLine, SameLine, SamePage}
 use Rattle.demands.specs.Claims.{Holds}
 use Rattle.demands.specs.Reasons.{Refusal, PlanFault, Within}
 use Rattle.demands.proofs.Wellformed.{parts, sound, runs-at}
 use Rattle.demands.proofs.RunLists.{runs-iff}
 use Rattle.demands.proofs.Reading.{read-well-formed}
-use Rattle.demands.proofs.Encoding.{shape}
 use Rattle.demands.proofs.Entries.{plan-iff, plan-written, read-of}
 use Rattle.demands.proofs.Reasons.{written-number}
 use Rattle.demands.proofs.Refusals.{written-refused}
@@ -242,6 +241,24 @@ unfolding lastOr
 last-below n d [] l h = l
 last-below n d (x ∷ xs) l h = last-below n x xs (h x (List·Memᴰ·head refl)) (λ y m. h y (List·Memᴰ·tail m))
 
+-- and in what is made of each element of a part of it
+first-same : (f : ℕ → ℕ) (n : ℕ) (xs : List ℕ) → 1 ≤ n → getD (map f xs) 0 0 ≡ getD (map f (take n xs)) 0 0
+first-same f zero xs h = absurd (omega arith)
+first-same f (suc n) [] h = refl
+first-same f (suc n) (x ∷ xs) h = refl
+
+last-other : (d e : ℕ) (xs : List ℕ) → 1 ≤ length xs → lastOr d xs ≡ lastOr e xs
+unfolding lastOr
+last-other d e [] h = absurd (omega arith)
+last-other d e (x ∷ xs) h = refl
+
+last-dropped : (f : ℕ → ℕ) (n d : ℕ) (xs : List ℕ) → n < length xs → lastOr d (map f (drop n xs)) ≡ lastOr d (map f xs)
+unfolding lastOr
+last-dropped f zero d xs h = refl
+last-dropped f (suc n) d [] h = absurd (omega arith)
+last-dropped f (suc n) d (x ∷ xs) h =
+    last-dropped f n d xs (omega arith) ∙ last-other d (f x) (map f xs) (omega (arith, length-map xs f))
+
 module _ (b : Book) (formed : T (wellFormed b)) where
   abbrev I : Instance
   I = instanceOf b
@@ -288,18 +305,29 @@ module _ (b : Book) (formed : T (wellFormed b)) where
       let p = simp (and-iff, leb-iff) at (all-at _ (b .trains) i none-there (parts b formed .trains) l) in
       (p .0 .0 .1 .0 .0, p .0 .0 .1 .1 .1)
 
-  -- a run moves at most k
-  moved-few : (i r : ℕ) → i < I .trains → r < I .runs i → I .moved i r ≤ 8
-  unfolding instanceOf compile runAt trainLength
-  moved-few i r l k =
+  reach-some : (i : ℕ) → i < length (b .trains) → 1 ≤ trainLength b i
+  unfolding trainLength
+  reach-some i l = reaches i l .0
+
+  -- a run is l long at least, and l + k at most
+  run-sized : (i r : ℕ) → i < I .trains → r < I .runs i
+      → (trainLength b i ≤ length (runAt (runLists b) i r)) × (length (runAt (runLists b) i r) ≤ trainLength b i + speedInSegments b (trainAt b i))
+  unfolding instanceOf compile runAt trainLength between
+  run-sized i r l k =
       let t = trainAt b i in
-      let most = lengthInSegments b t + speedInSegments b t in
-      let reach = reaches i l in
-      let w : T (all (λ p. leb (length p) most) (runsOf b t)) =
-      all-iff _ (runsOf b t) .1 (λ p m. let q = runs-iff b t (reach .0) p .0 m in leb-iff (length p) most .1 (omega (arith, q .2 .1, q .2 .2))) in
-      let x : T (all (λ p. leb (length p) most) (getD (runLists b) i [])) = rw (runs-at b i l) w in
-      let y = leb-iff (length (getD (getD (runLists b) i []) r [])) most .0 (all-at _ (getD (runLists b) i []) r [] x k) in
-      omega (arith, y, reach .1)
+      let least = lengthInSegments b t in
+      let most = least + speedInSegments b t in
+      let w : T (all (λ p. between least most (length p)) (runsOf b t)) =
+      all-iff _ (runsOf b t) .1
+      (λ p m. let q = runs-iff b t (reaches i l .0) p .0 m in simp (and-iff, leb-iff) (omega (arith, q .2 .1), omega (arith, q .2 .2))) in
+      let x : T (all (λ p. between least most (length p)) (getD (runLists b) i [])) = rw (runs-at b i l) w in
+      let y = simp (and-iff, leb-iff) at (all-at _ (getD (runLists b) i []) r [] x k) in
+      (y .0, y .1)
+
+  -- so it moves at most k
+  moved-few : (i r : ℕ) → i < I .trains → r < I .runs i → I .moved i r ≤ 8
+  unfolding instanceOf compile trainLength
+  moved-few i r l k = omega (arith, run-sized i r l k .1, reaches i l .1)
 
   -- every move of a train is shown by numbers that fit their digits
   shown-fits : (i : ℕ) → i < I .trains → (m : Move) → T (isMove I i m) → Fits (shownMove I i m)
@@ -322,6 +350,23 @@ module _ (book : Bytes) (b : Book) (read : readBook book ≡ accepted b) where
   pub line-width : (p : Plan) (t : ℕ) → t < instanceOf b .intervals → IsLine (pageLine (instanceOf b) p t)
   line-width p t l = line-there b formed p t l
 
+  -- "the rear segment at the start", "the front segment at the end", "segments moved": what is shown of a run of a train's list is the
+  -- first segment of the place that it starts at, the last segment of the place that it ends at, and the j by which it is a path of l + j
+  pub run-shown : (i r : ℕ) → i < instanceOf b .trains → r < instanceOf b .runs i
+      → (j : ℕ) × (length (runAt (runLists b) i r) ≡ trainLength b i + j) × (j ≤ speedInSegments b (trainAt b i))
+      × (shownMove (instanceOf b) i (run r) ≡ shownRun (rearOf (startPlace (trainLength b i) (runAt (runLists b) i r)))
+      (frontOf (endPlace (trainLength b i) (runAt (runLists b) i r))) j)
+  unfolding shownMove instanceOf compile startPlace endPlace rearOf frontOf
+  run-shown i r h k =
+      let p = runAt (runLists b) i r in
+      let l = trainLength b i in
+      let sized = run-sized b formed i r h k in
+      let some : 1 ≤ l = reach-some b formed i h in
+      let first : getD (map segmentOf p) 0 0 ≡ getD (map segmentOf (take l p)) 0 0 = first-same segmentOf l p some in
+      let last : lastOr 0 (map segmentOf p) ≡ lastOr 0 (map segmentOf (drop (length p - l) p)) =
+      sym (last-dropped segmentOf (length p - l) 0 p (omega (arith, sized .0, some))) in
+      (length p - l, omega (arith, sized .0), omega (arith, sized .1), λ z. shownRun (first z) (last z) (length p - l))
+
   -- "one line an interval": so long is the page
   pub page-length : (p : Plan) → length (page (instanceOf b) p) ≡ 81 * instanceOf b .intervals
   unfolding pageBytes
@@ -340,7 +385,8 @@ module _ (book other : Bytes) (b c : Book) (read : readBook book ≡ accepted b)
       → pageLine (instanceOf b) p t ≡ pageLine (instanceOf c) q u → SameLine (instanceOf b) p t (instanceOf c) q u
   same-line t u l k e =
       lines-same (instanceOf b) (instanceOf c) (few-trains b (formed book b read)) (few-trains c (formed other c also)) p q t u
-      (omega (arith, l, few-intervals b (formed book b read))) (omega (arith, k, few-intervals c (formed other c also))) (fits-there book b read p moves t l) (fits-there other c also q others u k) e
+      (omega (arith, l, few-intervals b (formed book b read))) (omega (arith, k, few-intervals c (formed other c also)))
+      (fits-there book b read p moves t l) (fits-there other c also q others u k) e
 
   -- "two plans with the same page agree on these fields"
   pub same-page : page (instanceOf b) p ≡ page (instanceOf c) q → SamePage (instanceOf b) p (instanceOf c) q

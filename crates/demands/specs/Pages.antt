@@ -1,14 +1,22 @@
 -- What the theorems on the train graph claim (document 02, P2). Assumes nothing.
 use mathlib.Core.Path.{_≡_}
 use Prim.Native.Nat.{ℕ, _<_}
-use mathlib.Core.List.{_++_}
-use lib.ListN.{length}
+use mathlib.Core.List.{List, _++_, map}
+use lib.ListN.{length, getD}
 use lib.Dec.{T}
-use Rattle.spec.specs.Lists.{Bytes, all, one}
+use Rattle.spec.specs.Lists.{Bytes, all, one, lastOr}
+use Rattle.spec.specs.Book.{segmentOf}
 use Rattle.spec.specs.Read.{between}
 use Rattle.spec.specs.Instance.{Instance}
 use Rattle.spec.specs.Plan.{Plan}
 use Rattle.spec.specs.Page.{newline, shownOf}
+
+-- "A place is a path of l, rear first": its rear segment and its front segment
+unfoldable pub rearOf : List ℕ → ℕ
+rearOf place = getD (map segmentOf place) 0 0
+
+unfoldable pub frontOf : List ℕ → ℕ
+frontOf place = lastOr 0 (map segmentOf place)
 
 -- "80 bytes and a newline": bytes that can be seen or are blank, then the newline, which stands nowhere else
 pub record IsLine (line : Bytes) : Type 0 where

@@ -1,6 +1,6 @@
 -- What is shown of a train's run, as the table of its runs holds it: the first and the last segment, and how many more they are
 -- than the train is long. Assumes nothing.
-use mathlib.Core.Path.{_≡_, refl, sym, ap, ap₂, _∙_}
+use mathlib.Core.Path.{_≡_, sym, ap, ap₂, _∙_}
 use Prim.Native.Nat.{ℕ, _+_, _-_, _/_, _≤_, _<_}
 use native.Mathlib.Omega.{arith}
 use native.Mathlib.Nat.{add-zero}
@@ -12,7 +12,7 @@ use Rattle.spec.specs.Lists.{Bytes, lastOr}
 use Rattle.spec.specs.Book.{segmentOf}
 use Rattle.spec.specs.Instance.{Instance, instanceOf, compile, runLists, runAt}
 use Rattle.spec.specs.Plan.{run}
-use Rattle.spec.specs.Page.{Shown, shownRun, shownMove, cell}
+use Rattle.spec.specs.Page.{shownRun, shownMove, cell}
 use Rattle.spec.specs.Held.{held}
 use Rattle.layout.specs.declared.moves.Move.{Move}
 use Rattle.layout.specs.Moves.{heldMove}

@@ -11,8 +11,7 @@ use tables::places::size_of;
 use tables::places::start_of;
 ghost use mathlib.Core.Path.{_≡_};
 ghost use mathlib.Core.List.{_++_};
-ghost use Prim.Native.Nat.{_+_, _%_, _≤_, _<_};
-ghost use lib.ListN.{length};
+ghost use Prim.Native.Nat.{_+_, _%_, _<_};
 ghost use lib.Dec.{T};
 ghost use Rattle.spec.specs.Lists.{one};
 ghost use Rattle.spec.specs.Numbers.{aligned};
@@ -95,7 +94,14 @@ fn cell_of(b: Book, train: usize, l: usize, runs: &[u8], m: Move) -> [u8; CELL_B
 }
 
 // The cell of a train in an interval of a plan, by the table of all runs.
-pub fn cell_at(b: Book, counts: Counts, runs: &[u8], plan: &[u8], train: usize, interval: usize) -> [u8; CELL_BYTES]
+pub fn cell_at(
+    b: Book,
+    counts: Counts,
+    runs: &[u8],
+    plan: &[u8],
+    train: usize,
+    interval: usize,
+) -> [u8; CELL_BYTES]
     requires { ⌜ RunsReady b counts (now runs) × T (planFits (instanceOf (held b)) (now plan)) × (train < b .«train_count») × (interval < b .intervals) ⌝ }
     ensures { λ r. ⌜ r ≡ pages.cell (pages.shownOf (instanceOf (held b)) (planOf (instanceOf (held b)) (now (plan .entry))) train interval) ⌝ }
 {

@@ -24,7 +24,14 @@ ghost use Rattle.tables.specs.Ready.{RunsReady, MeetsReady};
 ghost use Rattle.reader.specs.OutputAnswers.{outputAnswer};
 
 // 12, then the verdict on a plan, then its page, by the tables of a book.
-fn page_by(b: Book, counts: Counts, runs: &[u8], meets: &[u8], plan: &[u8], page: &mut [u8]) -> OutputAnswer
+fn page_by(
+    b: Book,
+    counts: Counts,
+    runs: &[u8],
+    meets: &[u8],
+    plan: &[u8],
+    page: &mut [u8],
+) -> OutputAnswer
     requires { ⌜ RunsReady b counts (now runs) × MeetsReady b (now meets) ⌝ }
     ensures { λ r. ⌜ (r ≡ outputAnswer (pageFor (instanceOf (held b)) (now (plan .entry)) (length (now (page .entry)))))
         × (now (page .exit) ≡ overwrite (now (page .entry)) (written (pageFor (instanceOf (held b)) (now (plan .entry)) (length (now (page .entry)))))) ⌝ }

@@ -22,7 +22,15 @@ const LINE_TEXT: usize = 80;
 pub const LINE_BYTES: usize = LINE_TEXT + 1;
 
 // Stores the cells of an interval, one a train, from a place on; answers where they end.
-fn put_cells(b: Book, counts: Counts, runs: &[u8], plan: &[u8], interval: usize, page: &mut [u8], at: usize) -> usize
+fn put_cells(
+    b: Book,
+    counts: Counts,
+    runs: &[u8],
+    plan: &[u8],
+    interval: usize,
+    page: &mut [u8],
+    at: usize,
+) -> usize
     requires { ⌜ RunsReady b counts (now runs) × T (planFits (instanceOf (held b)) (now plan)) × (interval < b .intervals)
         × (at + 9 * b .«train_count» ≤ length (now page)) ⌝ }
     ensures { λ r. ⌜ (r ≡ at + 9 * b .«train_count»)
@@ -53,7 +61,15 @@ fn put_blanks(page: &mut [u8], from: usize, to: usize)
 }
 
 // Stores the line of an interval from a place on.
-fn put_line(b: Book, counts: Counts, runs: &[u8], plan: &[u8], interval: usize, page: &mut [u8], at: usize)
+fn put_line(
+    b: Book,
+    counts: Counts,
+    runs: &[u8],
+    plan: &[u8],
+    interval: usize,
+    page: &mut [u8],
+    at: usize,
+)
     requires { ⌜ RunsReady b counts (now runs) × T (planFits (instanceOf (held b)) (now plan)) × (interval < b .intervals)
         × (at + 81 ≤ length (now page)) ⌝ }
     ensures { λ _. ⌜ now (page .exit) ≡ sets (now (page .entry)) at

@@ -1,19 +1,18 @@
 -- Numbers in digits. Of a number without a bound on its digits: one below ten, else those of the tenth and a last one; no more than
 -- its size allows. Of a number in so many bytes, zeros or blanks ahead of it: its width, and that the number comes back. Assumes nothing.
-use mathlib.Core.Path.{_≡_, refl, sym, ap, ap₂, _∙_}
+use mathlib.Core.Path.{_≡_, refl, sym, ap, _∙_}
 use mathlib.Core.Logic.{⊎-elim}
 use mathlib.Core.Bool.{Bool, true, false}
 use Prim.Native.Nat.{ℕ, zero, suc, _+_, _*_, _-_, _/_, _%_, _^_, _≤_, _<_}
 use native.Mathlib.Nat.{pow-zero, pow-suc}
 use native.Mathlib.Omega.{arith}
-use mathlib.Core.List.{List, [], _∷_, _++_}
-use lib.ListN.{length, take, drop, replicate, length-append, length-replicate}
-use lib.Seq.{take-at, drop-at}
-use lib.Dec.{eqb}
-use borrow.Author.Tests.{lt-ltb, le-ltb, eq-eqb, ne-eqb}
+use mathlib.Core.List.{[], _∷_, _++_}
+use lib.ListN.{length, replicate, length-append, length-replicate}
+use borrow.Author.Tests.{lt-ltb, le-ltb}
 use Rattle.spec.specs.Lists.{Bytes, one}
 use Rattle.spec.specs.Numbers.{digits, decimal, inDigits, aligned}
 use Rattle.laws.proofs.Tests.{le-or-lt}
+use Rattle.laws.proofs.Parts.{front-same, head-same}
 
 -- ---- as many digits as a number has
 
@@ -73,16 +72,6 @@ unfolding inDigits
 length-inDigits zero n = refl
 length-inDigits (suc w) n = omega (arith, length-append (inDigits w (n / 10)) (one (48 + n % 10)), length-inDigits w (n / 10))
 
--- lists behind lists of one length
-pub front-same {ℓ} : {A : Type ℓ} (a b : List A) {c d : List A} → length a ≡ length b → a ++ c ≡ b ++ d → (a ≡ b) × (c ≡ d)
-front-same a b {c} {d} l e = (
-  sym (take-at a c (length b) l) ∙ ap (take (length b)) e ∙ take-at b d (length b) refl,
-  sym (drop-at a c (length b) l) ∙ ap (drop (length b)) e ∙ drop-at b d (length b) refl,
-)
-
-pub head-same : {x y : ℕ} {xs ys : Bytes} → x ∷ xs ≡ y ∷ ys → (x ≡ y) × (xs ≡ ys)
-head-same e = (cc, cc)
-
 -- a number of so many digits comes back from them
 pub inDigits-back : (w n m : ℕ) → n < 10 ^ w → m < 10 ^ w → inDigits w n ≡ inDigits w m → n ≡ m
 unfolding inDigits
@@ -128,10 +117,10 @@ value-decimal zero n h = absurd (omega arith)
 value-decimal (suc most) n h =
     ⊎-elim
     (λ l.
-        ap (valueFrom 0) (decimal-more n l)
-        ∙ value-append 0 (decimal (n / 10)) (one (48 + n % 10))
-        ∙ ap (λ (v : ℕ). v * 10 + (48 + n % 10 - 48)) (value-decimal most (n / 10) (omega arith))
-        ∙ omega arith)
+    ap (valueFrom 0) (decimal-more n l)
+    ∙ value-append 0 (decimal (n / 10)) (one (48 + n % 10))
+    ∙ ap (λ (v : ℕ). v * 10 + (48 + n % 10 - 48)) (value-decimal most (n / 10) (omega arith))
+    ∙ omega arith)
     (λ l. ap (valueFrom 0) (decimal-one n l) ∙ omega arith)
     (le-or-lt 10 n)
 

@@ -46,6 +46,16 @@ each-append [] ys f = refl
 each-append {B = B} (x ∷ xs) ys f =
     ap (λ (l : List B). f x ++ l) (each-append xs ys f) ∙ sym (append-assoc (f x) (each xs f) (each ys f))
 
+-- rows behind rows of one length, and behind one element
+pub front-same {ℓ} : {A : Type ℓ} (a b : List A) {c d : List A} → length a ≡ length b → a ++ c ≡ b ++ d → (a ≡ b) × (c ≡ d)
+front-same a b {c} {d} l e = (
+  sym (take-at a c (length b) l) ∙ ap (take (length b)) e ∙ take-at b d (length b) refl,
+  sym (drop-at a c (length b) l) ∙ ap (drop (length b)) e ∙ drop-at b d (length b) refl,
+)
+
+pub head-same : {x y : ℕ} {xs ys : Bytes} → x ∷ xs ≡ y ∷ ys → (x ≡ y) × (xs ≡ ys)
+head-same e = (cc, cc)
+
 -- ---- where a row stands
 
 module _ {ℓ} {A : Type ℓ} where

@@ -1,27 +1,17 @@
 -- What the programs print of a book and a second input, and of an old book, is the specification's: from the parts of them that a
 -- program holds, and with the slices that it lends. Assumes nothing.
-use mathlib.Core.Path.{_≡_, refl, sym, ap, ap₂, _∙_}
+use mathlib.Core.Path.{_≡_, refl, ap, ap₂, _∙_}
 use mathlib.Core.Bool.{Bool, true, false, _||_}
-use Prim.Native.Nat.{ℕ, _<_}
+use Prim.Native.Nat.{ℕ}
 use native.Mathlib.Omega.{arith}
-use lib.ListN.{length}
-use lib.Dec.{ltb}
-use borrow.Author.Tests.{lt-ltb}
 use Rattle.spec.specs.Lists.{Bytes, Verdict, accepted, refused, andThen}
-use Rattle.spec.specs.Read.{between, headFits}
-use Rattle.spec.specs.Instance.{instanceOf, compile}
-use Rattle.spec.specs.Entry.{written, checkRefutation}
-use Rattle.spec.specs.Page.{printGraph}
+use Rattle.spec.specs.Entry.{checkRefutation}
 use Rattle.spec.specs.Upgrade.{upgradeBook}
+use Rattle.spec.specs.Page.{printGraph}
 use Rattle.spec.specs.Programs.{sliceBytes, sliceOf, programLent, isLong, unlessLong, acceptedLine, printed, printAssignment, printPlan, printRefutation, printUpgrade, printPage}
-use Rattle.laws.proofs.Tests.{and-iff, leb-iff}
-use Rattle.demands.proofs.Wellformed.{parts}
-use Rattle.demands.proofs.Reading.{read-well-formed}
-use Rattle.demands.proofs.Entries.{accepted≢refused}
-use Rattle.demands.proofs.Pages.{graph-lines}
 use Rattle.programs.proofs.FormulaProgram.{held, held-whole, unless-same}
 use Rattle.programs.specs.declared.verdicts.Check.{Check}
-use Rattle.programs.specs.declared.verdicts.Check.the-variants.{Assignment, Plan, Refutation, Graph}
+use Rattle.programs.specs.declared.verdicts.Check.the-variants.{Assignment, Plan, Refutation}
 use Rattle.programs.specs.Verdicts.{bare, verdictOf}
 
 -- the output that a program lends
@@ -41,33 +31,6 @@ unfolding line bare andThen unlessLong printed
 bare-line true v = refl
 bare-line false (accepted u) = refl
 bare-line false (refused n d) = refl
-
--- ---- a train graph
-
--- what is printed of a verdict: its result, or its line where the result is empty
-abbrev pub shown : Verdict Bytes → Bytes
-shown v = elim (ltb 0 (length (written v))) [ true ↦ written v | false ↦ printed (λ _. acceptedLine) v ]
-
-shown-page : (v : Verdict Bytes) → ((page : Bytes) → v ≡ accepted page → 0 < length page) → shown v ≡ printed (λ page. page) v
-unfolding written printed
-shown-page (accepted page) some =
-    ap (λ (b : Bool). elim b [ true ↦ page | false ↦ acceptedLine ]) (lt-ltb 0 (length page) (some page refl))
-shown-page (refused n d) some = refl
-
-unless-accepted : (long : Bool) (v : Verdict Bytes) (page : Bytes) → unlessLong long v ≡ accepted page → v ≡ accepted page
-unfolding unlessLong
-unless-accepted true v page e = accepted≢refused (sym e)
-unless-accepted false v page e = e
-
--- a page is never empty: a book has an interval
-page-some : (book plan : Bytes) (n : ℕ) (page : Bytes) → printGraph book plan n ≡ accepted page → 0 < length page
-unfolding instanceOf compile headFits between
-page-some book plan n page e =
-    let g = graph-lines book plan page n e in
-    let head = simp (and-iff, leb-iff) at (parts (g .0) (read-well-formed book (g .0) (g .1)) .head) in
-    omega (arith, g .2, head .1 .0)
-
--- ---- each program
 
 module _ (book s : Bytes) where
   abbrev long : Bool
@@ -96,12 +59,16 @@ module _ (book s : Bytes) where
   unfolding verdictOf printRefutation line
   refutation-printed = ap line (whole Refutation) ∙ bare-line long (checkRefutation book s programLent)
 
-  -- print_graph prints the result, where it is not empty, and else the line
-  pub graph-printed : shown (verdict Graph) ≡ printPage book s
-  unfolding verdictOf printPage
+  -- what print_graph prints of a book and a plan
+  pub graph-printed : printed (λ page. page) (unlessLong long (printGraph (held book) (held s) 65536)) ≡ printPage book s
+  unfolding printPage
   graph-printed =
-      shown-page (verdict Graph) (λ page e. page-some (held book) (held s) 65536 page (unless-accepted long _ page e))
-      ∙ ap (λ (v : Verdict Bytes). printed (λ page. page) v) (whole Graph)
+      ap (λ (v : Verdict Bytes). printed (λ page. page) v)
+      (unless-same long λ h.
+      ap₂ (λ (b t : Bytes). printGraph b t 65536)
+      (held-whole book (neither (isLong book) (isLong s) h .0))
+      (held-whole s (neither (isLong book) (isLong s) h .1))
+      ∙ ap (printGraph book s) output-lent)
 
 -- what upgrade_book prints of an old book
 pub upgrade-printed : (old : Bytes) → printed (λ _. acceptedLine) (unlessLong (isLong old) (upgradeBook (held old) 65536)) ≡ printUpgrade old

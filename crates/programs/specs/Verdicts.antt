@@ -1,4 +1,4 @@
--- The verdict of each program that takes a book and a second input, and what the program says of it. Assumes nothing.
+-- The verdict of each program over the checks, and what the program says of it. Assumes nothing.
 use mathlib.Core.Path.{_≡_}
 use Prim.Native.Nat.{ℕ, _≤_}
 use mathlib.Core.List.{[]}
@@ -6,10 +6,9 @@ use lib.ListN.{length}
 use lib.Seq.{sets}
 use Rattle.spec.specs.Lists.{Bytes, Verdict, accepted, andThen}
 use Rattle.spec.specs.Entry.{written, checkAssignment, checkPlan, checkRefutation}
-use Rattle.spec.specs.Page.{printGraph}
 use Rattle.spec.specs.Programs.{programLent, acceptedLine, printed}
 use Rattle.programs.specs.declared.verdicts.Check.{Check}
-use Rattle.programs.specs.declared.verdicts.Check.the-variants.{Assignment, Plan, Refutation, Graph}
+use Rattle.programs.specs.declared.verdicts.Check.the-variants.{Assignment, Plan, Refutation}
 use Rattle.programs.specs.declared.verdicts.Said.{Said}
 
 -- a verdict without a result, as one with an empty result
@@ -21,7 +20,6 @@ unfoldable pub verdictOf : Check → Bytes → Bytes → ℕ → Verdict Bytes
 verdictOf Assignment book s room = checkAssignment book s room
 verdictOf Plan book s room = checkPlan book s room
 verdictOf Refutation book s room = bare (checkRefutation book s programLent)
-verdictOf Graph book s room = printGraph book s room
 
 -- the verdict's line stands at the front of what was lent for it, whole, and `r` says how long it and the result are
 pub record Tells (v : Verdict Bytes) (before after : Bytes) (r : Said) : Type 0 where

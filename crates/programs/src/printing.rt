@@ -94,10 +94,14 @@ pub fn load_from(fd: i32, buf: &mut [u8]) -> Loaded
     }
 }
 
-// Hands the first n bytes of the buffer to the output; answers whether it took them.
+// Hands the first n bytes of the buffer to the output; answers whether it took them. Where it did not,
+// standard error says why.
 pub fn print(buf: &[u8], n: usize) -> bool {
     if n <= buf.len() {
-        return io::write_all(STDOUT_FILENO, &buf[..n]);
+        if io::write_all(STDOUT_FILENO, &buf[..n]) {
+            return true;
+        }
+        os::fail(b"standard output");
     }
     false
 }

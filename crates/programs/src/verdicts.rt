@@ -1,7 +1,8 @@
 // The programs over the checks, the train graph and the rewriter: their files, and what they print.
 // `verdict_text` and `upgrade_text` make the line of a verdict, 12 first where an input is too long, and the
-// result where there is one; their contracts say that these are the specification's. The other functions
-// only read files by their names, and hand bytes to the output and to a file. A slice has at most 64 KiB.
+// result where there is one; `graph_text` makes the page or the line of the refusal. Their contracts say that
+// these are the specification's. The other functions only read files by their names, and hand bytes to the
+// output and to a file. A slice has at most 64 KiB.
 use crate::dimacs::put_refusal;
 use crate::printing::Loaded;
 use crate::printing::load_from;
@@ -23,17 +24,16 @@ ghost use Rattle.io.specs.Counts.{Counts};
 ghost use Rattle.spec.specs.Entry.{overwrite, written, zeroed, checkAssignment, checkPlan, checkRefutation};
 ghost use Rattle.spec.specs.Upgrade.{upgradeBook};
 ghost use Rattle.spec.specs.Page.{printGraph};
-ghost use Rattle.spec.specs.Programs.{programLent, unlessLong};
+ghost use Rattle.spec.specs.Programs.{programLent, unlessLong, printed};
 ghost use Rattle.refutations.specs.Lent.{lengths};
 ghost use Rattle.programs.specs.Lines.{answerLine, resultLength};
 ghost use Rattle.programs.specs.Verdicts.{bare, verdictOf, Tells};
 
-// What a program asks of a book and a second input: the check of one of three, or a plan's train graph.
+// Which check a program makes.
 pub enum Check {
     Assignment,
     Plan,
     Refutation,
-    Graph,
 }
 
 // How many bytes are printed, and how many bytes the result has.
@@ -43,7 +43,7 @@ pub struct Said {
 }
 
 // Stores the line of an answer.
-fn say(answer: OutputAnswer, line: &mut [u8]) -> Said
+pub fn say(answer: OutputAnswer, line: &mut [u8]) -> Said
     requires { ⌜ length (now line) ≡ 64 ⌝ }
     ensures { λ r. ⌜ (now (line .exit) ≡ sets (now (line .entry)) 0 (answerLine answer)) × (r .len ≡ length (answerLine answer))
         × (r .len ≤ 64) × (r .result ≡ resultLength answer) ⌝ }
@@ -81,18 +81,6 @@ fn plan_text(book: &[u8], plan: &[u8], values: &mut [u8], line: &mut [u8]) -> Sa
         (written (checkPlan (now (book .entry)) (now (plan .entry)) (length (now (values .entry)))))) ⌝ }
 {
     let answer = check_plan(book, plan, values);
-    say(answer, line)
-}
-
-// The line of the verdict on a plan, and its train graph.
-fn graph_text(book: &[u8], plan: &[u8], page: &mut [u8], line: &mut [u8]) -> Said
-    requires { ⌜ length (now line) ≡ 64 ⌝ }
-    ensures { λ r. ⌜ Tells (printGraph (now (book .entry)) (now (plan .entry)) (length (now (page .entry))))
-        (now (line .entry)) (now (line .exit)) r
-        × (now (page .exit) ≡ overwrite (now (page .entry))
-        (written (printGraph (now (book .entry)) (now (plan .entry)) (length (now (page .entry)))))) ⌝ }
-{
-    let answer = print_graph(book, plan, page);
     say(answer, line)
 }
 
@@ -165,7 +153,6 @@ pub fn verdict_text(
         Check::Assignment => assignment_text(book, second, out, line),
         Check::Plan => plan_text(book, second, out, line),
         Check::Refutation => lent_refutation_text(book, second, line),
-        Check::Graph => graph_text(book, second, out, line),
     }
 }
 
@@ -181,6 +168,24 @@ pub fn upgrade_text(old: &[u8], long: bool, out: &mut [u8], line: &mut [u8]) -> 
     }
     let answer = upgrade_book(old, out);
     say(answer, line)
+}
+
+// What print_graph prints of a book and a plan, stored at the start of `out`: the page, or the line of the
+// refusal, which is 12 where an input is too long, `long`; answers how many bytes that is.
+pub fn graph_text(book: &[u8], plan: &[u8], long: bool, out: &mut [u8]) -> usize
+    requires { ⌜ 64 ≤ length (now out) ⌝ }
+    ensures { λ r. ⌜ (r ≡ length (printed (λ page. page) (unlessLong long (printGraph (now (book .entry)) (now (plan .entry)) (length (now (out .entry)))))))
+        × (now (out .exit) ≡ overwrite (now (out .entry))
+        (printed (λ page. page) (unlessLong long (printGraph (now (book .entry)) (now (plan .entry)) (length (now (out .entry))))))) ⌝ }
+{
+    if long {
+        return put_refusal(out, 12, 0);
+    }
+    let answer = print_graph(book, plan, out);
+    match answer {
+        OutputAnswer::Wrote(n) => n,
+        OutputAnswer::Refused(number, detail) => put_refusal(out, number, detail),
+    }
 }
 
 // Reads the file of this name; where it can't be read, standard error says why.
@@ -229,15 +234,6 @@ fn hand_out(said: Said, line: &[u8], out: &[u8], result: &[u8], named: bool) {
     }
 }
 
-// Prints the result of a verdict, or the line of its refusal, which has none.
-fn print_result(said: Said, line: &[u8], out: &[u8]) {
-    if 0 < said.result {
-        print(out, said.result);
-    } else {
-        print(line, said.len);
-    }
-}
-
 // Judges the files of these names: the book, the second input, and the result, if one was named. Where an
 // input can't be read, nothing is printed.
 pub fn judge_files(check: Check, book: &[u8], second: &[u8], result: &[u8], named: bool) {
@@ -264,13 +260,11 @@ pub fn graph_files(book: &[u8], plan: &[u8]) {
     let a = load(book, &mut bytes);
     let b = load(plan, &mut more);
     if a.read && b.read {
-        let mut page = io::large_buffer();
-        let mut line = [0u8; 64];
+        let mut out = io::large_buffer();
         let n = a.len;
         let m = b.len;
-        let long = a.long || b.long;
-        let said = verdict_text(Check::Graph, &bytes[..n], &more[..m], long, &mut page, &mut line);
-        print_result(said, &line, &page);
+        let len = graph_text(&bytes[..n], &more[..m], a.long || b.long, &mut out);
+        print(&out, len);
     }
 }
 

@@ -22,10 +22,10 @@ use Rattle.spec.specs.Assignment.{deny, truth, isYes, valueOf, isTrue, h
 use Rattle.spec.specs.Refutation.{stepPayload, fileOf, literalCount, hintCount, stepIn, variableOf, risesFrom, literalsFit, hintsFit, makeTrue, makeFalse, refuting, isNo, isOpen, clauseAt, notFalse, hinted, goThrough, followsRule, clausesFit, isBad, stepFaults, stepDetail, checkSteps, checkFile}
 use Rattle.spec.specs.Entry.{demand, findNone, readInstance, formulaWritten, writtenFor, writeFormula, formulaText, judgeAssignment, decodedFor, checkAssignment, judgePlan, afterPlan, encodedFor, checkPlan, formulaFits, refutedFor, checkRefutation}
 use Rattle.spec.specs.Held.{padded}
-use Rattle.spec.specs.Page.{Shown, shownRun, shownAbsent, shownGone, shownMove, shownOf, marked, cell, cells, pageLine, page, pageBytes, pageFor, printGraph}
+use Rattle.spec.specs.Page.{shownRun, shownAbsent, shownGone, shownMove, shownOf, marked, cell, cells, pageLine, page, pageBytes, pageFor, printGraph}
 use Rattle.spec.specs.Upgrade.{timesWidened, widenedAt, widened, widenedFound, frameWidened, widenedFrom, upgraded, upgradeBook}
 use Rattle.spec.specs.Library.{RunAsked, noTrain, noRun, shown, Meaning, border, run, gone, claim, noVariable, freeNodesOf, sizesOf, measureBook, bordersFit, labelledFor, labelSections, runAmong, runAsked, askRun, meaningsIn, meanings, meaningOf, askVariable}
-use Rattle.spec.specs.Programs.{sliceBytes, sliceOf, programLent, unlessLong, isLong, acceptedLine, refusalLine, printed, printFormula, printAssignment, printPlan, printRefutation}
+use Rattle.spec.specs.Programs.{sliceBytes, sliceOf, programLent, unlessLong, isLong, acceptedLine, refusalLine, printed, printFormula, printAssignment, printPlan, printRefutation, printPage}
 
 -- An answer: rows of numbers, a text or a clause, or a refusal's number and detail.
 pub data Answer : Type 0 where
@@ -146,6 +146,14 @@ passingBook first last =
 
 bookN : Bytes
 bookN = passingBook 1 2
+
+-- Four segments in a row, and a train of two segments that may move two
+rowBook : List ℕ → ℕ → Bytes
+rowBook place goal =
+    headFrame ++ nodeFrame 0 ++ nodeFrame 0 ++ nodeFrame 0 ++ nodeFrame 0 ++ nodeFrame 0
+    ++ segmentFrame 0 1 ++ segmentFrame 1 2 ++ segmentFrame 2 3 ++ segmentFrame 3 4
+    ++ frame 4 (1 ∷ 0 ∷ 1 ∷ []) ++ frame 4 (2 ∷ 1 ∷ 2 ∷ []) ++ frame 4 (3 ∷ 2 ∷ 3 ∷ [])
+    ++ trainFrame 180 72 place ++ callFrame goal 0 1 ++ endFrame
 
 -- Two trains that face each other over the same two segments, each with its call where the other stands
 facingBook : Bytes
@@ -364,6 +372,21 @@ further =
     ∷ record { asked = draws bookN (0 ∷ 0 ∷ 0 ∷ 254 ∷ 255 ∷ 4 ∷ 0 ∷ 2 ∷ 0 ∷ 2 ∷ 0 ∷ 255 ∷ 255 ∷ 255 ∷ 255 ∷ []) 242; answer = refusal 12 0 }
     ∷ record { asked = draws bookN [] 243; answer = refusal 15 0 }
     ∷ record { asked = draws bookN (0 ∷ 1 ∷ 0 ∷ 0 ∷ 0 ∷ 4 ∷ 0 ∷ 2 ∷ 0 ∷ 2 ∷ 0 ∷ 255 ∷ 255 ∷ 255 ∷ 255 ∷ []) 243; answer = refusal 16 2 }
+    -- a train of two segments that moves two, there and back: rear at the start, front at the end
+    ∷ record {
+      asked = draws (rowBook (0 ∷ 2 ∷ []) 3) (0 ∷ 0 ∷ 0 ∷ 0 ∷ 0 ∷ 10 ∷ 0 ∷ []) 81;
+      answer = text (lineOf (32 ∷ 32 ∷ 48 ∷ 32 ∷ 32 ∷ 48 ∷ 48 ∷ 45 ∷ 48 ∷ 51 ∷ 32 ∷ 50 ∷ 32 ∷ []) 67);
+    }
+    ∷ record {
+      asked = draws (rowBook (7 ∷ 5 ∷ []) 0) (0 ∷ 0 ∷ 0 ∷ 0 ∷ 0 ∷ 11 ∷ 0 ∷ []) 81;
+      answer = text (lineOf (32 ∷ 32 ∷ 48 ∷ 32 ∷ 32 ∷ 48 ∷ 51 ∷ 45 ∷ 48 ∷ 48 ∷ 32 ∷ 50 ∷ 32 ∷ []) 67);
+    }
+    -- what the command prints: a page, or the line of a refusal
+    ∷ record {
+      asked = text (printPage (rowBook (0 ∷ 2 ∷ []) 3) (0 ∷ 0 ∷ 0 ∷ 0 ∷ 0 ∷ 10 ∷ 0 ∷ []));
+      answer = text (lineOf (32 ∷ 32 ∷ 48 ∷ 32 ∷ 32 ∷ 48 ∷ 48 ∷ 45 ∷ 48 ∷ 51 ∷ 32 ∷ 50 ∷ 32 ∷ []) 67);
+    }
+    ∷ record { asked = text (printPage bookN []); answer = text (49 ∷ 53 ∷ 32 ∷ 48 ∷ 10 ∷ []) }
     -- its cells and its intervals: segments 0 and 63, eight moved; 0, 99, 100 and 255
     ∷ record {
       asked = rows (cell (shownRun 0 63 8) ∷ cell (shownRun 63 0 0) ∷ cell shownAbsent ∷ cell shownGone ∷ []);
@@ -454,7 +477,7 @@ unfolding
     deny truth isYes valueOf isTrue holds satisfies firstFalse assigned assignmentFits firstRun chosen decoded decode claims encode
     stepPayload fileOf literalCount hintCount stepIn variableOf risesFrom literalsFit hintsFit makeTrue makeFalse refuting isNo isOpen clauseAt notFalse hinted goThrough followsRule clausesFit isBad stepFaults stepDetail checkSteps checkFile
     demand findNone readInstance formulaWritten writtenFor writeFormula formulaText judgeAssignment decodedFor checkAssignment judgePlan afterPlan encodedFor checkPlan formulaFits refutedFor checkRefutation
-    padded inDigits aligned shownMove shownOf marked cell cells pageLine page pageBytes pageFor printGraph draws lineOf
+    padded inDigits aligned shownMove shownOf marked cell cells pageLine page pageBytes pageFor printGraph draws lineOf rowBook
     timesWidened widenedAt widened widenedFound frameWidened widenedFrom upgraded upgradeBook
-    sliceBytes sliceOf programLent unlessLong isLong acceptedLine refusalLine printed printFormula printAssignment printPlan printRefutation
+    sliceBytes sliceOf programLent unlessLong isLong acceptedLine refusalLine printed printFormula printAssignment printPlan printRefutation printPage
 cases = refl

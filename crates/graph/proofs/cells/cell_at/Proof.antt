@@ -1,5 +1,4 @@
 -- `cells::cell_at` meets its contract: the train's part of the table is lent. Assumes nothing.
-use borrow.Author.Needs.{needs}
 use native.Mathlib.Omega.{arith}
 use mathlib.Core.Path.{ap, _∙_}
 use Prim.Native.Nat.{_+_, _*_, _≤_, _<_}

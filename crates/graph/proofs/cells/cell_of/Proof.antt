@@ -1,18 +1,18 @@
 -- `cells::cell_of` meets its contract, case by case. Assumes nothing.
 use borrow.Author.Needs.{needs}
 use native.Mathlib.Omega.{arith}
-use mathlib.Core.Path.{_≡_, sym, ap, ap₂, _∙_}
+use mathlib.Core.Path.{_≡_, sym, ap, _∙_}
 use Prim.Native.Nat.{ℕ, _+_, _-_, _/_, _≤_, _<_}
 use denote.Ref.{now}
 use lib.ListN.{length, getD}
 use Rattle.spec.specs.Lists.{Bytes}
-use Rattle.spec.specs.Instance.{Instance, instanceOf}
+use Rattle.spec.specs.Instance.{instanceOf}
 use Rattle.spec.specs.Plan.{run}
 use Rattle.spec.specs.Page.{shownRun, shownMove, cell}
 use Rattle.spec.specs.Held.{held}
 use Rattle.listing.specs.Listed.{startAt}
 use Rattle.tables.specs.Placed.{sizeAt}
-use Rattle.plan_rules.proofs.Ready.{below, few, run-asks}
+use Rattle.plan_rules.proofs.Ready.{below, run-asks}
 use Rattle.graph.proofs.Shown.{run-some, shown-run, told}
 use Rattle.graph.proofs.cells.cell_of.Statement.{statement}
 use Rattle.graph.proofs.cells.cell_of.Tie as tie
@@ -47,6 +47,19 @@ module _ (c : tie.After-known-told) where
   shown-read a n f g =
       rw (f, g, a, n) (sym (shown-run (start .pre .0) r known))
 
+-- its entry is inside the table
+module _ (c : tie.After-size-of) where
+  abbrev run-told : tie.After-known-told
+  run-told = c .before .before
+
+  inside : c .before .start-of .result + c .size-of .result ≤ length (runs run-told)
+  inside = omega (arith, asks run-told, short run-told, c .before .start-of .ensures, c .size-of .ensures)
+
+  held-by : (1 ≤ c .size-of .result) × (start run-told .args .l ≤ c .size-of .result) × (c .size-of .result ≤ 16)
+  held-by =
+      let e = c .size-of .ensures .0 in
+      (omega (arith, some run-told, e), omega (arith, asks run-told, e), omega (arith, short run-told, e))
+
 returns : tie.Need-returns
 returns c =
     let size = c .before .before .before .before .before .size-of in
@@ -71,13 +84,13 @@ cell-of-spec =
     (λ c. search needs)
     (λ c κs. asks c .0)
     (λ c κs. let k = c .before in (asks k .0, asks k .1))
-    (λ c. let k = c .before .before .before in omega (arith, asks k, c .before .before .start-of .ensures))
+    (λ c. let n = c .before in omega (arith, inside n, held-by n))
     (λ c κs. search needs)
-    (λ c. let k = c .before .before .before .before in omega (arith, asks k, c .before .before .before .start-of .ensures, c .before .before .size-of .ensures))
-    (λ c. let k = c .before .before .before .before in omega (arith, c .before .before .before .start-of .ensures))
-    (λ c. let k = c .before .before .before .before .before in omega (arith, asks k, short k, c .before .before .before .before .start-of .ensures, c .before .before .before .size-of .ensures))
+    (λ c. let n = c .before .before in omega (arith, asks (run-told n), n .before .start-of .ensures, held-by n))
+    (λ c. let n = c .before .before in omega (arith, held-by n))
+    (λ c. let n = c .before .before .before in omega (arith, inside n, held-by n))
     (λ c κs. search needs)
-    (λ c. let k = c .before .before .before .before .before .before in omega (arith, asks k, c .before .before .before .before .size-of .ensures))
+    (λ c. let n = c .before .before .before .before in omega (arith, held-by n))
     (λ c κs. search needs)
     (λ c. search needs)
     (λ c κs. search needs)

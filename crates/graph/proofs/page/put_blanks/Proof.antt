@@ -2,7 +2,7 @@
 use native.Mathlib.Omega.{arith}
 use mathlib.Core.Path.{_≡_, refl, ap, _∙_}
 use Prim.Native.Nat.{ℕ, _+_, _-_, _≤_}
-use lib.ListN.{length, replicate, replicate-append-replicate}
+use lib.ListN.{replicate, replicate-append-replicate}
 use mathlib.Core.List.{[], _++_}
 use Rattle.spec.specs.Lists.{Bytes, one}
 use Rattle.spec.specs.Page.{blank}

@@ -1,7 +1,7 @@
 -- `page::put_cells` meets its contract. The loop's invariant: the cells of the first trains stand in the page, one behind the other.
 -- Assumes nothing.
 use native.Mathlib.Omega.{arith}
-use mathlib.Core.Path.{_≡_, refl, sym, ap, _∙_}
+use mathlib.Core.Path.{_≡_, sym, ap, _∙_}
 use Prim.Native.Nat.{ℕ, _+_, _*_, _-_, _≤_, _<_}
 use mathlib.Core.List.{_++_}
 use denote.Ref.{now}
@@ -43,7 +43,9 @@ module _ (l : tie.At-loop Inv-loop μ-loop) where
 
   ends : l .loop .end ≡ given .args .at + 9 * l .loop .train
   ends =
-      omega (arith, l .loop .inv .1 .ends, cells-of (instanceOf (held (given .args .b))) (planOf (instanceOf (held (given .args .b))) (now (given .args .plan))) (given .args .interval) (l .loop .train))
+      let I = instanceOf (held (given .args .b)) in
+      let long = cells-of I (planOf I (now (given .args .plan))) (given .args .interval) (l .loop .train) in
+      omega (arith, l .loop .inv .1 .ends, long)
 
   -- a cell more has room
   room : l .loop .train < given .args .b .«train_count» → l .loop .end + 9 ≤ length (given .args .page .now)

@@ -1,7 +1,7 @@
 -- `page::put_line` meets its contract: the interval, the cells, blanks and the newline, one behind the other. Assumes nothing.
 use native.Mathlib.Omega.{arith}
 use mathlib.Core.Path.{_≡_, refl, sym, ap, _∙_}
-use Prim.Native.Nat.{ℕ, _+_, _*_, _-_, _≤_, _<_}
+use Prim.Native.Nat.{ℕ, _+_, _-_, _≤_, _<_}
 use mathlib.Core.List.{_∷_, _++_, append-assoc}
 use denote.Ref.{now}
 use lib.ListN.{length, set, replicate, length-append, length-replicate}
