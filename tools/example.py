@@ -1,6 +1,7 @@
 """The main job on the example books, or on the BOOKs that are named: proves and builds the program that the job needs and no more (`rt check
 cabinet`), and shows each crate as it is proved; then for each book prints the formula, hands it to the solver script, and gives its answer
-to the proved check. Of an accepted assignment's plan the borders and the train graph are shown (`show` has more of it). Says at the end what was decided of each book.
+to the proved check. Of an accepted assignment's plan the borders and the train graph are shown (`show` has more of it). Says at the end what
+was decided of each book.
 
 Exit status: 0 every answer was accepted; 1 something was not proved, or refused; 2 wrong usage, or a file or rt is missing.
 """
