@@ -8,26 +8,26 @@ use native.Mathlib.Omega.{arith}
 use native.Mathlib.Nat.{mul-comm}
 use mathlib.Core.List.{List, [], _∷_, _++_, map, List·Memᴰ, List·Memᴰ·head, List·Memᴰ·tail}
 use lib.ListN.{length, getD, take, drop, replicate, length-append, length-map, length-replicate, getD-replicate}
-use lib.Dec.{T, leb}
+use lib.Dec.{T}
 use Rattle.spec.specs.Lists.{Bytes, all, each, upTo, one, lastOr, accepted, refused}
 use Rattle.spec.specs.Numbers.{inDigits, decimal, aligned}
 use Rattle.spec.specs.Held.{padded}
-use Rattle.spec.specs.Book.{Book, Train, segmentOf, trainAt, lengthInSegments, speedInSegments}
-use Rattle.spec.specs.Read.{between, headFits, reachFits, wellFormed, readBook}
-use Rattle.spec.specs.Runs.{runsOf, startPlace, endPlace}
+use Rattle.spec.specs.Book.{Book, segmentOf, trainAt, speedInSegments}
+use Rattle.spec.specs.Read.{between, headFits, wellFormed, readBook}
+use Rattle.spec.specs.Runs.{startPlace, endPlace}
 use Rattle.spec.specs.Instance.{Instance, instanceOf, compile, runLists, runAt, trainLength}
 use Rattle.spec.specs.Plan.{Plan, Move, run, absent, gone, isMove, IsPlan, planFits, planOf, keepsRules}
 use Rattle.spec.specs.Entry.{overwrite, written}
 use Rattle.spec.specs.Page.{blank, newline, Shown, shownRun, shownAbsent, shownGone, shownMove, shownOf, marked, cell, cells, pageLine, page, pageBytes, pageFor, printGraph, pageOutput}
-use Rattle.laws.proofs.Tests.{and-iff, ltb-iff, leb-iff, all-iff, all-upTo, all-at, le-or-lt}
+use Rattle.laws.proofs.Tests.{and-iff, ltb-iff, leb-iff, all-iff, all-upTo, le-or-lt}
 use Rattle.laws.proofs.Rows.{all-append, all-each}
 use Rattle.laws.proofs.Parts.{front-same, head-same, Part, part-here, part-behind, part-in, part-at, part-placed, part-taken, parts-same, part-each, length-each, sum-below, sum-constant}
 use Rattle.laws.proofs.Digits.{decimal-one, decimal-more, inDigits-back, length-aligned, aligned-back}
 pub use Rattle.demands.specs.Pages.{rearOf, frontOf, IsLine, SameLine, SamePage}
 use Rattle.demands.specs.Claims.{Holds}
 use Rattle.demands.specs.Reasons.{Refusal, PlanFault, Within}
-use Rattle.demands.proofs.Wellformed.{parts, sound, runs-at}
-use Rattle.demands.proofs.RunLists.{runs-iff}
+use Rattle.demands.proofs.Wellformed.{parts, sound}
+use Rattle.demands.proofs.RunLists.{train-reach, run-moves}
 use Rattle.demands.proofs.Reading.{read-well-formed}
 use Rattle.demands.proofs.Entries.{plan-iff, plan-written, read-of}
 use Rattle.demands.proofs.Reasons.{written-number}
@@ -297,37 +297,10 @@ module _ (b : Book) (formed : T (wellFormed b)) where
       part-placed (part-each (λ u. pageLine I p u) (λ u. length (pageLine I p u)) (λ u. refl) (I .intervals) t l)
       (sum-below (λ u. length (pageLine I p u)) 81 t (λ u h. line-length p u (omega arith)) ∙ mul-comm t 81)
 
-  -- a train's l is 1 at least, and its k 8 at most
-  reaches : (i : ℕ) → i < length (b .trains) → (1 ≤ lengthInSegments b (trainAt b i)) × (speedInSegments b (trainAt b i) ≤ 8)
-  unfolding reachFits trainAt between
-  reaches i l =
-      let none-there : Train = record { metres = 0; speed = 0; departure = 0; place = [] } in
-      let p = simp (and-iff, leb-iff) at (all-at _ (b .trains) i none-there (parts b formed .trains) l) in
-      (p .0 .0 .1 .0 .0, p .0 .0 .1 .1 .1)
-
-  reach-some : (i : ℕ) → i < length (b .trains) → 1 ≤ trainLength b i
-  unfolding trainLength
-  reach-some i l = reaches i l .0
-
-  -- a run is l long at least, and l + k at most
-  run-sized : (i r : ℕ) → i < I .trains → r < I .runs i
-      → (trainLength b i ≤ length (runAt (runLists b) i r)) × (length (runAt (runLists b) i r) ≤ trainLength b i + speedInSegments b (trainAt b i))
-  unfolding instanceOf compile runAt trainLength between
-  run-sized i r l k =
-      let t = trainAt b i in
-      let least = lengthInSegments b t in
-      let most = least + speedInSegments b t in
-      let w : T (all (λ p. between least most (length p)) (runsOf b t)) =
-      all-iff _ (runsOf b t) .1
-      (λ p m. let q = runs-iff b t (reaches i l .0) p .0 m in simp (and-iff, leb-iff) (omega (arith, q .2 .1), omega (arith, q .2 .2))) in
-      let x : T (all (λ p. between least most (length p)) (getD (runLists b) i [])) = rw (runs-at b i l) w in
-      let y = simp (and-iff, leb-iff) at (all-at _ (getD (runLists b) i []) r [] x k) in
-      (y .0, y .1)
-
-  -- so it moves at most k
+  -- a run moves at most k
   moved-few : (i r : ℕ) → i < I .trains → r < I .runs i → I .moved i r ≤ 8
-  unfolding instanceOf compile trainLength
-  moved-few i r l k = omega (arith, run-sized i r l k .1, reaches i l .1)
+  unfolding instanceOf compile
+  moved-few i r l k = let m = run-moves b formed i l r k in omega (arith, m .1, m .2, train-reach b formed i l)
 
   -- every move of a train is shown by numbers that fit their digits
   shown-fits : (i : ℕ) → i < I .trains → (m : Move) → T (isMove I i m) → Fits (shownMove I i m)
@@ -360,12 +333,13 @@ module _ (book : Bytes) (b : Book) (read : readBook book ≡ accepted b) where
   run-shown i r h k =
       let p = runAt (runLists b) i r in
       let l = trainLength b i in
-      let sized = run-sized b formed i r h k in
-      let some : 1 ≤ l = reach-some b formed i h in
+      let m = run-moves b formed i h r k in
+      let some = train-reach b formed i h .0 in
       let first : getD (map segmentOf p) 0 0 ≡ getD (map segmentOf (take l p)) 0 0 = first-same segmentOf l p some in
       let last : lastOr 0 (map segmentOf p) ≡ lastOr 0 (map segmentOf (drop (length p - l) p)) =
-      sym (last-dropped segmentOf (length p - l) 0 p (omega (arith, sized .0, some))) in
-      (length p - l, omega (arith, sized .0), omega (arith, sized .1), λ z. shownRun (first z) (last z) (length p - l))
+      sym (last-dropped segmentOf (length p - l) 0 p (omega (arith, m .2, some))) in
+      let moved : length p - l ≡ m .0 = omega (arith, m .2) in
+      (m .0, m .2, m .1, λ z. shownRun (first z) (last z) (moved z))
 
   -- "one line an interval": so long is the page
   pub page-length : (p : Plan) → length (page (instanceOf b) p) ≡ 81 * instanceOf b .intervals

@@ -1,5 +1,6 @@
 -- The run listing against the definition of a path: a list holds exactly the paths of its lengths (`paths-iff`, `runs-iff`), it
--- stands in the document's order (`runs-rise`), and no run stands in it twice (`runs-once`). Assumes nothing.
+-- stands in the document's order (`runs-rise`), and no run stands in it twice (`runs-once`); how long a train's runs are (`run-moves`).
+-- Assumes nothing.
 use mathlib.Core.Path.{_≡_, refl, sym, ap, _∙_, subst}
 use mathlib.Core.Logic.{_↔_, _≢_, inl, inr}
 use mathlib.Core.Bool.{Bool, true, false, not, _&&_, and-assoc, and-true}
@@ -12,10 +13,13 @@ use lib.ListN.{length, getD}
 use lib.Seq.{append-snoc}
 use lib.Dec.{T, ltb, eqb}
 use Rattle.spec.specs.Lists.{all, any, count, upTo, each, one, lastOr, different, has}
-use Rattle.spec.specs.Book.{Book, Train, segmentOf, lengthInSegments, speedInSegments}
+use Rattle.spec.specs.Book.{Book, Train, segmentOf, trainAt, lengthInSegments, speedInSegments}
+use Rattle.spec.specs.Read.{between, reachFits, wellFormed}
 use Rattle.spec.specs.Runs.{leadsTo, linked, isPath, directed, goesOn, extend, pathsOf, runsOf}
-use Rattle.laws.proofs.Tests.{and-iff, neither-iff, ltb-iff, eqb-sym, upTo-mem, count-iff, getD-mem}
+use Rattle.spec.specs.Instance.{runLists, runAt, trainLength}
+use Rattle.laws.proofs.Tests.{and-iff, neither-iff, ltb-iff, leb-iff, all-at, eqb-sym, upTo-mem, count-iff, getD-mem}
 use Rattle.laws.proofs.Rows.{all-append, all-nil, all-one}
+use Rattle.demands.proofs.Wellformed.{parts, runs-at}
 pub use Rattle.demands.specs.Claims.{Dictionary, here, later, Before, shorter, smaller, Rising, nothing, next}
 
 -- ---- membership
@@ -289,3 +293,23 @@ module _ (b : Book) where
   pub runs-once : (t : Train) → 1 ≤ lengthInSegments b t → (i j : ℕ) → i < j → j < length (runsOf b t)
       → getD (runsOf b t) i [] ≢ getD (runsOf b t) j []
   runs-once t h i j l k = before-differs (rising-at (runs-rise t h) [] i j l k)
+
+-- ---- the runs of a train, in a book that is well formed
+
+module _ (b : Book) (formed : T (wellFormed b)) (i : ℕ) (known : i < length (b .trains)) where
+  -- l and k: "Both are 1 to 8"
+  pub train-reach : (1 ≤ trainLength b i) × (trainLength b i ≤ 8) × (speedInSegments b (trainAt b i) ≤ 8)
+  unfolding reachFits trainAt between trainLength
+  train-reach =
+      let none-there : Train = record { metres = 0; speed = 0; departure = 0; place = [] } in
+      let p = simp (and-iff, leb-iff) at (all-at _ (b .trains) i none-there (parts b formed .trains) known) in
+      (p .0 .0 .1 .0 .0, p .0 .0 .1 .0 .1, p .0 .0 .1 .1 .1)
+
+  -- "A run moves j from 0 to k and is a path of l + j", of the run with a number
+  pub run-moves : (r : ℕ) → r < length (getD (runLists b) i [])
+      → (j : ℕ) × (j ≤ speedInSegments b (trainAt b i)) × (length (runAt (runLists b) i r) ≡ trainLength b i + j)
+  unfolding runAt trainLength
+  run-moves r l =
+      let run = getD (getD (runLists b) i []) r [] in
+      let m = subst (λ (runs : List (List ℕ)). List·Memᴰ run runs) (runs-at b i known) (getD-mem (getD (runLists b) i []) r [] l) in
+      runs-iff b (trainAt b i) (train-reach .0) run .0 m .2

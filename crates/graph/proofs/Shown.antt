@@ -20,7 +20,8 @@ use Rattle.listing.specs.Listed.{placeAt, startAt}
 use Rattle.listing.proofs.Leaves.{last-take}
 use Rattle.listing.proofs.Successors.{getD-slice}
 use Rattle.tables.specs.Placed.{sizeAt, runHeld}
-use Rattle.tables.proofs.Here.{length-some}
+use Rattle.demands.proofs.RunLists.{train-reach}
+use Rattle.tables.proofs.Here.{in-instance}
 use Rattle.plan_rules.specs.Kept.{TrainReady}
 
 -- the last of a row that is not empty
@@ -37,7 +38,10 @@ module _ {b : BookStruct} {i l : ℕ} {runs : Bytes} (h : TrainReady b i l runs)
   path = runAt (runLists (held b)) i r
 
   pub run-some : 1 ≤ sizeAt runs r
-  run-some = omega (arith, length-some b (h .passed) i (h .known), h .table .least r k)
+  unfolding instanceOf compile
+  run-some =
+      let long = train-reach (held b) (h .passed .formed) i (in-instance b (h .passed) i (h .known)) in
+      omega (arith, long .0, h .table .least r k)
 
   path-at : (j : ℕ) → j < sizeAt runs r → getD path j 0 ≡ getD runs (startAt r + j) 0
   unfolding runHeld placeAt

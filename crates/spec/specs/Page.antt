@@ -29,6 +29,7 @@ shownMove I i (run r) = shownRun (getD (I .path i r) 0 0) (lastOr 0 (I .path i r
 shownMove I i absent = shownAbsent
 shownMove I i gone = shownGone
 
+-- of a plan, by train and interval
 unfoldable pub shownOf : Instance → Plan → ℕ → ℕ → Shown
 shownOf I p i t = shownMove I i (p .move i t)
 
@@ -55,9 +56,11 @@ cells I p t = each (upTo (I .trains)) λ i. cell (shownOf I p i t)
 unfoldable pub pageLine : Instance → Plan → ℕ → Bytes
 pageLine I p t = padded 80 blank (aligned 3 t ++ (blank ∷ cells I p t)) ++ one newline
 
+-- "print one line an interval"
 unfoldable pub page : Instance → Plan → Bytes
 page I p = each (upTo (I .intervals)) λ t. pageLine I p t
 
+-- how long it is: "80 bytes and a newline" an interval
 unfoldable pub pageBytes : Instance → ℕ
 pageBytes I = 81 * I .intervals
 

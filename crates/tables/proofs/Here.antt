@@ -70,13 +70,6 @@ module _ (b : BookStruct) (p : Passed b) (i : ℕ) (known : i < b .«train_count
       let fits = reach-here b (grows b p) i known (trains-fit b p) in
       (e ∙ ap (lengthInSegments (held b)) same-train, rw e (reach (held b) (heldTrain train) fits .1))
 
-  -- it is one segment long at least
-  pub length-some : 1 ≤ trainLength (held b) i
-  unfolding trainLength
-  length-some =
-      let fits = reach-here b (grows b p) i known (trains-fit b p) in
-      subst (λ (t : Train). 1 ≤ lengthInSegments (held b) t) same-train (reach (held b) (heldTrain train) fits .0)
-
   -- what `track::length_in_segments` asks
   pub length-asks : NumbersFit b × (1 ≤ b .«segment_metres») × (train .metres < 65536)
   length-asks = (p .packed .numbers, metres-some b (grows b p), numbers-here b (grows b p) i known (trains-fit b p) (p .fields) .0)

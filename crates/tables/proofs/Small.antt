@@ -4,20 +4,20 @@ use Prim.Native.Nat.{ℕ, zero, suc, _+_, _*_, _≤_, _<_}
 use native.Mathlib.Nat.{mul-le-mul, suc-mul, zero-mul}
 use native.Mathlib.Omega.{arith}
 use native.Mathlib.Numerals.{add-one}
-use mathlib.Core.List.{List, [], map, List·Memᴰ}
+use mathlib.Core.List.{List, [], map}
 use lib.ListN.{length, getD, length-map}
 use lib.Dec.{T}
 use Rattle.model.specs.declared.Book.{Book as BookStruct}
 use Rattle.spec.specs.Lists.{sumTo}
-use Rattle.spec.specs.Book.{Book, segmentOf, callsOf, trainAt}
+use Rattle.spec.specs.Book.{Book, segmentOf, callsOf}
 use Rattle.spec.specs.Read.{wellFormed, between, maxCalls}
 use Rattle.spec.specs.Instance.{Instance, instanceOf, compile, runLists, runAt}
 use Rattle.spec.specs.Formula.{width, firstVar, base, variables, ownVariables}
 use Rattle.spec.specs.Extra.{extraVariables}
 use Rattle.spec.specs.Held.{held}
-use Rattle.demands.proofs.Wellformed.{parts, sound, runs-at}
-use Rattle.laws.proofs.Tests.{and-iff, leb-iff, all-at, all-upTo, getD-mem}
-use Rattle.tables.proofs.Trains.{run-length}
+use Rattle.demands.proofs.Wellformed.{parts, sound}
+use Rattle.demands.proofs.RunLists.{train-reach, run-moves}
+use Rattle.laws.proofs.Tests.{and-iff, leb-iff, all-upTo}
 use Rattle.reader.proofs.Packing.{nodes-counted, segments-counted, trains-counted}
 use Rattle.tables.specs.Tables.{Passed}
 use Rattle.tables.specs.Ready.{Counted}
@@ -92,12 +92,9 @@ few-calls b h i l =
 -- a run has at most 16 segments
 short-paths : (b : Book) → T (wellFormed b) → (i r : ℕ) → i < length (b .trains) → r < length (getD (runLists b) i [])
     → length (map segmentOf (runAt (runLists b) i r)) ≤ 16
-unfolding runAt trainAt
 short-paths b h i r l k =
-    let w = simp and-iff at (all-at _ (b .trains) i (record { metres = 0; speed = 0; departure = 0; place = [] }) (parts b h .trains) l) in
-    let run = getD (getD (runLists b) i []) r [] in
-    let m = subst (λ (runs : List (List ℕ)). List·Memᴰ run runs) (runs-at b i l) (getD-mem (getD (runLists b) i []) r [] k) in
-    omega (arith, length-map run segmentOf, run-length b (trainAt b i) (w .0 .0 .1) run m .1)
+    let m = run-moves b h i l r k in
+    omega (arith, length-map (runAt (runLists b) i r) segmentOf, m .1, m .2, train-reach b h i l)
 
 -- the counts of a book that passed
 module _ (b : BookStruct) (p : Passed b) where
