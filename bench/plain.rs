@@ -1,7 +1,7 @@
-// A plain Rust implementation of document 01's reader, with times of two bytes, and formula, to time the proved one against:
-// structs, Vec and iterators, follow lists and meeting triples worked out once a book, one walk over
-// the families that is generic in where its words go (counted, or stored in a slice).  Written from
-// tools/reference.py; nothing in it is tuned by hand.
+// A plain Rust implementation of document 01's reader, with times of two bytes and speeds to the nearest segment, and formula, to time
+// the proved one against: structs, Vec and iterators, follow lists and meeting triples worked out once a book, one walk over the
+// families that is generic in where its words go (counted, or stored in a slice).  Written from tools/reference.py; nothing in it is
+// tuned by hand.
 
 pub struct Train {
     pub departure: usize,
@@ -163,7 +163,8 @@ fn take_train(book: &mut Book, p: &[u8]) -> Result<(), usize> {
     refuse_if(metres < 1 || departure >= book.intervals, 6)?;
     refuse_if(place.iter().any(|&d| d as usize / 2 >= book.segments.len()), 6)?;
     let l = metres.div_ceil(book.rs);
-    let k = speed * book.rt * 5 / (18 * book.rs);
+    // to the nearest, an exact half going down
+    let k = (10 * speed * book.rt + 18 * book.rs - 1) / (36 * book.rs);
     refuse_if(!(1..=8).contains(&l) || !(1..=8).contains(&k), 7)?;
     refuse_if(place.len() != l || !book.is_path(place), 8)?;
     book.trains.push(Train { departure, place: place.to_vec(), l, k, calls: Vec::new() });

@@ -1,5 +1,5 @@
-// Rust of document 01's reader, with times of two bytes, that is tuned for speed, to time the proved one against; tuned_formula.rs and
-// tuned_checks.rs go on from it. What was done:
+// Rust of document 01's reader, with times of two bytes and speeds to the nearest segment, that is tuned for speed, to time the proved
+// one against; tuned_formula.rs and tuned_checks.rs go on from it. What was done:
 //
 // - Everything lies in fixed arrays of a space that the caller keeps: nothing is allocated a call, and nothing is cleared that is not used.
 // - Joins are bit masks: by directed segment, the segments that may follow it. So a repeated join is a bit, and no join is looked for.
@@ -245,7 +245,8 @@ fn take_train(book: &mut Book, p: &[u8]) -> Result<(), usize> {
     if metres < 1 || departure >= book.intervals || place.iter().any(|&d| d as usize >= 2 * book.segments) {
         return Err(6);
     }
-    let (l, k) = (metres.div_ceil(book.rs), speed * book.rt * 5 / (18 * book.rs));
+    // k is to the nearest, an exact half going down
+    let (l, k) = (metres.div_ceil(book.rs), (10 * speed * book.rt + 18 * book.rs - 1) / (36 * book.rs));
     if !(1..=8).contains(&l) || !(1..=8).contains(&k) {
         return Err(7);
     }

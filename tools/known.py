@@ -58,15 +58,29 @@ def book_m(first, last, form=NEW):
 REFUTATION_M = step_frame([], [16, 17, 19])
 
 
-def row_spec(count, joined=True, length=100, speed=36):
-    spec = Spec()
+def row_spec(count, joined=True, length=100, speed=36, rs=100, rt=10):
+    spec = Spec(rs, rt)
     spec.nodes = [0] * (count + 1)
     spec.segments = [(s, s + 1, 0) for s in range(count)]
     if joined:
         spec.joins = [(s + 1, s, s + 1) for s in range(count - 1)]
-    l = ref.rounded_up(length, 100)
+    l = ref.rounded_up(length, rs)
     add_train(spec, [2 * s for s in range(l)], length=length, speed=speed)
     return spec
+
+
+# rs, rt, km/h and the speed in segments: P3's six edges, then exact halves and what lies beside them, up to the greatest that fields hold
+SPEEDS = (
+    (100, 10, 18, 0), (100, 10, 19, 1), (100, 10, 54, 1), (100, 10, 55, 2), (100, 10, 306, 8), (100, 10, 307, 9),
+    (5, 27, 1, 1), (5, 27, 3, 4), (1, 9, 3, 7), (65535, 39321, 3, 0), (65535, 39321, 9, 1), (65535, 58982, 6, 2), (65535, 39321, 51, 8),
+    (2, 1, 4, 1), (65535, 13110, 65535, 3642), (65535, 1, 65535, 0), (65535, 2, 65535, 1), (65535, 65535, 30, 8), (65535, 65535, 31, 9), (65535, 65535, 65535, 18204),
+    (1, 65535, 65535, 1193010062), (1, 1, 30, 8), (1, 1, 31, 9), (1, 1, 1, 0), (1, 1, 2, 1),
+)
+
+
+def speed_spec(rs, rt, speed):
+    """A row of nine segments of rs metres, and a train of one segment at this speed."""
+    return row_spec(9, length=rs, speed=speed, rs=rs, rt=rt)
 
 
 # ------------------------------------------------- books that touch a limit
@@ -145,7 +159,7 @@ def explosion(over):
     spec.segments = [(0, 1, 0)] * tracks
     spec.joins = [(v, x, y) for v in (0, 1) for x in range(tracks)
                   for y in range(x + 1, tracks)]
-    add_train(spec, [0, 3, 4, 7], speed=323)
+    add_train(spec, [0, 3, 4, 7], speed=306)
     return spec
 
 

@@ -90,8 +90,9 @@ def random_lengths(rng, spec, l, k):
     """Metres and km/h that round to l and k, often on the edge."""
     length = rng.choice((l * spec.rs, (l - 1) * spec.rs + 1,
                          rng.randint((l - 1) * spec.rs + 1, l * spec.rs)))
-    low = ref.rounded_up(18 * spec.rs * k, 5 * spec.rt)
-    high = ref.rounded_up(18 * spec.rs * (k + 1), 5 * spec.rt) - 1
+    # more than k less a half, at most k and a half
+    low = (2 * k - 1) * 18 * spec.rs // (10 * spec.rt) + 1
+    high = (2 * k + 1) * 18 * spec.rs // (10 * spec.rt)
     if high < low or high > 65535:
         return None
     return length, rng.choice((low, high, rng.randint(low, high)))
@@ -270,8 +271,8 @@ def wrong_fields(T, form=NEW):
     wrong += [train(d=d) for d in held((T, T - 1, 255, 256, 256 + T - 1, 256 * (T - 1), 65535))]
     wrong += [train(length=0),
               train(place=(0, 8)), train(place=(9, 2)), train(place=(0, 255)),
-              train(length=801), train(length=65535), train(speed=35),
-              train(speed=0), train(speed=324), train(speed=323),
+              train(length=801), train(length=65535), train(speed=18), train(speed=19),
+              train(speed=0), train(speed=307), train(speed=306),
               train(speed=65535), train(length=100), train(length=201),
               train(place=()), train(place=(0,)), train(place=(0, 2, 4)),
               train(place=(0, 0)), train(place=(0, 1)), train(place=(0, 3)),

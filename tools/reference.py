@@ -1,7 +1,8 @@
 #!/usr/bin/env python3
 """A plain reference of document 01: book, plan, formula, verdict; with
-document 02's requests P1: times of two bytes, and old books rewritten; and P2:
-a train graph on paper, printed by `print_graph BOOK PLAN`.
+document 02's requests P1: times of two bytes, and old books rewritten; P2: a
+train graph on paper, printed by `print_graph BOOK PLAN`; and P3: speeds to the
+nearest segment.
 
 Every function states sentences of the documents as simply as it can.  Nothing
 here is fast on purpose; the only care taken is that no input can make a
@@ -100,6 +101,16 @@ def two_bytes(data, at):
 
 def rounded_up(a, b):
     return -(-a // b)
+
+
+def to_the_nearest(a, b):
+    """P3: "to the nearest whole segment, an exact half going down".  Of the two
+    whole numbers about a/b the nearer one; both ways are counted in b-ths, so
+    that all is "exact at the half"."""
+    below = a // b
+    above = below + 1
+    way_down, way_up = a - below * b, above * b - a
+    return above if way_up < way_down else below
 
 
 # ---------------------------------------------------------------- the book
@@ -212,10 +223,10 @@ def take_train(book, p):
     refuse_if(len(book.trains) == MOST_TRAINS, 5)
     refuse_if(length < 1 or departure >= book.T, 6)
     refuse_if(any(x // 2 >= len(book.segments) for x in place), 6)
-    # "l is length/rs rounded up", "k is speed x rt x 5 / (18 x rs) rounded
-    # down. Both are 1 to 8."
+    # "l is length/rs rounded up", "k is speed x rt x 5 / (18 x rs)", by P3 "to
+    # the nearest whole segment, an exact half going down". "Both are 1 to 8."
     l = rounded_up(length, book.rs)
-    k = speed * book.rt * 5 // (18 * book.rs)
+    k = to_the_nearest(speed * book.rt * 5, 18 * book.rs)
     refuse_if(not 1 <= l <= 8 or not 1 <= k <= 8, 7)
     refuse_if(len(place) != l or not is_path(book, place), 8)
     book.trains.append(Train(length, speed, departure, place, l, k))

@@ -15,8 +15,8 @@ from .all_plans import keeping, plans_to_try
 from .books import Spec, spec_bytes, split
 from .counts import answer_name, listed
 from .inputs import TooLong, encode_steps, plan_bytes, step_frame
-from .known import (BOOK_GRAPH, BOOK_L, FORMULA_L, OLD_L, PAGE_GRAPH, PAGE_L, PLAN_GRAPH, PLAN_L, add_train, book_m, circling, lone_spec,
-                    outgrowing, padded, row_spec, spec_l)
+from .known import (BOOK_GRAPH, BOOK_L, FORMULA_L, OLD_L, PAGE_GRAPH, PAGE_L, PLAN_GRAPH, PLAN_L, SPEEDS, add_train, book_m, circling,
+                    lone_spec, outgrowing, padded, row_spec, spec_l, speed_spec)
 from .passing_books import passing_book
 from .random_books import book_to_rewrite, damaged_book, random_book
 from .random_inputs import kept_plans, random_assignments, random_plans, random_refutations, solved, walked_plan
@@ -28,14 +28,15 @@ sys.setrecursionlimit(20000)
 
 
 def check_figures():
-    """Text: "36 km/h gives 1 ..." and "100 m gives 1 ..."."""
-    for speed, k in ((36, 1), (35, None), (71, 1), (72, 2), (323, 8),
-                     (324, None)):
-        data = spec_bytes(row_spec(2, speed=speed))
-        if k is None:
-            assert ref.entry_read_book(data) == ("refused", 7, 0)
+    """P3: "19 gives 1 ...", and of an old book too; document 01: "100 m gives 1 ..."."""
+    for rs, rt, speed, k in SPEEDS:
+        spec = speed_spec(rs, rt, speed)
+        new, old = spec_bytes(spec), spec_bytes(spec, ref.OLD)
+        if 1 <= k <= 8:
+            assert ref.read_book(new).trains[0].k == k
+            assert ref.upgrade_book(old) == new
         else:
-            assert ref.read_book(data).trains[0].k == k
+            assert ref.entry_read_book(new) == ref.entry_upgrade_book(old, 10 ** 6) == ("refused", 7, 0)
     for length, l in ((100, 1), (101, 2)):
         data = spec_bytes(row_spec(9, length=length))
         assert ref.read_book(data).trains[0].l == l

@@ -1,7 +1,7 @@
-"""Run lists: document 01's books and cases on runs, each limit met and passed by one, rows with trains of any l and k, random books and
-damaged ones. Of random books forty have a long list."""
+"""Run lists: document 01's books and cases on runs, P3's edges, each limit met and passed by one, rows with trains of any l and k, random
+books and damaged ones. Of random books forty have a long list."""
 from ..books import spec_bytes
-from ..known import BOOK_L, LIMITS, add_train, book_m, row_spec
+from ..known import BOOK_L, LIMITS, SPEEDS, add_train, book_m, row_spec, speed_spec
 from ..random_books import damaged_book, random_book, random_lengths
 from .records import Record, runs_answer
 
@@ -32,8 +32,8 @@ def made_books():
     yield book_m(0, 1)
     for joined in (True, False):
         yield spec_bytes(row_spec(2, joined))
-    for speed in (36, 35, 71, 72, 323, 324):
-        yield spec_bytes(row_spec(9, speed=speed))
+    for rs, rt, speed, _ in SPEEDS:
+        yield spec_bytes(speed_spec(rs, rt, speed))
     for length in (100, 101, 800, 801):
         yield spec_bytes(row_spec(9, length=length))
     for maker in LIMITS:

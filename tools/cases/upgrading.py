@@ -1,9 +1,10 @@
 """Old books that are rewritten: books L and M and a book with every kind of frame, some frames repeated, cut at every byte; L with every byte
-damaged in four ways, the other with each field wrong by one; each limit met and passed by one; as many intervals as an old book has, and one more;
-books of the format in force; as much lent as the new book is long, a byte less and a byte more; then random and damaged old books."""
+damaged in four ways, the other with each field wrong by one; each limit met and passed by one; as many intervals as an old book has, and one
+more; P3's edges; books of the format in force; as much lent as the new book is long, a byte less and a byte more; then random and damaged
+old books."""
 from .. import reference
 from ..books import encode, frames_of, put, spec_bytes
-from ..known import BOOK_L, LIMITS, OLD_L, book_m, explosion, late_m, limit_joins, lone_spec
+from ..known import BOOK_L, LIMITS, OLD_L, SPEEDS, book_m, explosion, late_m, limit_joins, lone_spec, speed_spec
 from ..random_books import book_to_rewrite, damaged_book, random_old_book, rich_spec, wrong_fields
 from ..reference import CALL, HEAD, NEW, OLD, TRAIN, UNBREAKABLE
 from .records import ACCEPTED, Record, lending
@@ -49,6 +50,12 @@ def interval_cases():
         yield case(spec_bytes(lone_spec(T, 0, 0, T), OLD), said)
     for times, said in (((31, 32, 32), ACCEPTED), ((31, 0, 0), ACCEPTED), ((32, 0, 32), "6 0"), ((0, 0, 33), "6 0"), ((0, 32, 31), "6 0")):
         yield case(spec_bytes(lone_spec(32, *times), OLD), said)
+
+
+def speed_cases():
+    """P3's edges and exact halves."""
+    for rs, rt, speed, k in SPEEDS:
+        yield case(spec_bytes(speed_spec(rs, rt, speed), OLD), ACCEPTED if 1 <= k <= 8 else "7 0")
 
 
 def limit_cases():
@@ -125,6 +132,7 @@ def records(rng, note):
     yield from document_cases(spec_bytes(rich, OLD))
     yield from damaged_cases(rich)
     yield from interval_cases()
+    yield from speed_cases()
     yield from limit_cases()
     yield from other_formats(rich)
     yield from repeats(rich)

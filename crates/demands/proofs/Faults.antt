@@ -9,6 +9,7 @@ use mathlib.Core.List.{List, [], _∷_, _++_}
 use lib.Dec.{T}
 use Rattle.spec.specs.Lists.{all, Fault, _when_, firstFault}
 use Rattle.laws.proofs.Tests.{and-iff, denied-of, from-denied}
+use Rattle.laws.proofs.Rows.{all-append}
 unfoldable pub use Rattle.demands.specs.Reasons.{passes}
 pub use Rattle.demands.specs.Reasons.{FirstHolds}
 
@@ -60,3 +61,10 @@ holds-first n fs h = rw (h .split) (go (h .before) (h .clear))
     go (f ∷ before) c =
         let p = and-iff (not (f .holds)) (all passes before) .0 c in
         rw (denied-of (f .holds) (p .0), firstFault) (go before (p .1))
+
+-- a test that every line passes is passed by the line that is found
+pub first-passes : (p : Fault → Bool) (n : ℕ) (fs : List Fault) → T (all p fs) → FirstHolds n fs → T (p (n when true))
+unfolding all
+first-passes p n fs h r =
+    let q = rw (r .split, all-append) at h in
+    and-iff (p (n when true)) _ .0 (and-iff (all p (r .before)) _ .0 q .1) .0

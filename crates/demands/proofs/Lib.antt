@@ -27,7 +27,8 @@ pub mod Variables
 pub mod Reasons
 pub mod Refusals
 pub mod Demands
--- The requests: old books rewritten, the train graph
+-- The requests: old books rewritten, the train graph, speeds
 pub mod Widening
 pub mod Upgrading
 pub mod Pages
+pub mod Speeds

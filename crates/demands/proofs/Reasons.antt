@@ -10,7 +10,6 @@ use mathlib.Core.List.{List, [], _∷_}
 use lib.ListN.{length, getD}
 use lib.Dec.{T, leb, nleb→lt, T-not, not-T, leb→le}
 use Rattle.laws.proofs.Tests.{neither-iff, and-iff, or-iff, leb-iff, decide, true-of, denied-of}
-use Rattle.laws.proofs.Rows.{all-append}
 use Rattle.laws.proofs.Frames.{length-behind}
 use Rattle.spec.specs.Lists.{Bytes, all, empty, Fault, firstFault, Verdict, accepted, refused, andThen}
 use Rattle.spec.specs.Frames.{Format, bookFormat, Kind, headKind, nodeKind, segmentKind, joinKind, trainKind, callKind, unbreakableKind, endKind, kindField, kindOrder, findKind, payloadOf, behind, cutShort}
@@ -23,7 +22,7 @@ use Rattle.spec.specs.Assignment.{holds, firstFalse, assigned, assignmentFits, 
 use Rattle.spec.specs.Refutation.{Lent, clauseAt, stepFaults, checkSteps, checkFile, isBad}
 use Rattle.spec.specs.Entry.{demand, findNone, readInstance, writeFormula, formulaText, judgeAssignment, judgePlan, decodedFor, checkAssignment, encodedFor, checkPlan, checkRefutation, refutedFor, formulaFits, writtenFor}
 pub use Rattle.demands.specs.Reasons.{Refusal, ofBook, ofRoom, ofInput, LeastFalse, AssignmentFault, assignmentUnfit, clauseFalse, PlanFault, planUnfit, ruleBroken, StepsTo, firstStep, nextStep, RefutationFault, stepFault, noEnding, bytesAfter, Within}
-use Rattle.demands.proofs.Faults.{passes, FirstHolds, first-none, first-some}
+use Rattle.demands.proofs.Faults.{passes, FirstHolds, first-none, first-some, first-passes}
 use Rattle.demands.proofs.Reading.{as-refused, refusal-has-reason}
 use Rattle.demands.proofs.Refuting.{stepAt, added}
 use Rattle.demands.proofs.Entries.{accepted≢refused, demand-iff, instance-read, ofPlan, plan-checked}
@@ -235,10 +234,7 @@ refutation-refusal book s lent k d e =
 
 -- a test that the number of each line passes is passed by the number that is found
 numbered : (p : ℕ → Bool) (n : ℕ) (fs : List Fault) → T (all (λ f. p (f .number)) fs) → FirstHolds n fs → T (p n)
-unfolding all
-numbered p n fs h r =
-    let q = rw (r .split, all-append) at h in
-    and-iff (p n) _ .0 (and-iff (all (λ f. p (f .number)) (r .before)) _ .0 q .1) .0
+numbered p n fs h r = first-passes (λ f. p (f .number)) n fs h r
 
 -- A book is refused by 1 to 11, in every format.
 pub as-number : (F : Format) (book : Bytes) (k d : ℕ) → readAs F book ≡ refused k d → Within 1 11 k

@@ -1,16 +1,18 @@
--- What the theorems of demands 1 to 3 claim beside the definitions of the specification. Assumes nothing.
+-- What the theorems of demands 1 to 3, and of l and k, claim beside the definitions of the specification. Assumes nothing.
 use mathlib.Core.Path.{_≡_}
 use mathlib.Core.Bool.{Bool}
-use Prim.Native.Nat.{ℕ, _≤_, _<_}
+use Prim.Native.Nat.{ℕ, _+_, _*_, _-_, _≤_, _<_}
 use mathlib.Core.List.{List, [], _∷_, _++_, map, List·Memᴰ}
 use lib.ListN.{length, drop}
 use lib.Dec.{T, eqb}
 use Rattle.spec.specs.Lists.{Bytes, Verdict, accepted, refused}
+use Rattle.spec.specs.Book.{Book, Train}
 use Rattle.spec.specs.Instance.{Instance}
 use Rattle.spec.specs.Plan.{Plan, isGone, runs, isMove}
 use Rattle.spec.specs.Formula.{borderVar, runVar, goneVar, formula, variables}
 use Rattle.spec.specs.Refutation.{ProofStep, Lent, fileOf, InFields, GoodSteps, clausesFit}
 use Rattle.spec.specs.Entry.{formulaFits}
+use Rattle.demands.specs.Reasons.{Within}
 
 -- ---- outputs, assignments, refutations
 
@@ -41,6 +43,30 @@ LongEnough I file lent =
     T (formulaFits lent I)
     × ((steps : List ProofStep) → file ≡ fileOf steps → ((st : ProofStep) → List·Memᴰ st steps → InFields st)
     → T (clausesFit lent (formula I ++ map (λ st. st .literals) steps)))
+
+-- ---- l and k
+
+-- "rounded up": k is the least whole number that n / d is not above
+pub record RoundedUp (n d k : ℕ) : Type 0 where
+  pub notAbove : n ≤ k * d
+  pub least : (j : ℕ) → n ≤ j * d → k ≤ j
+
+-- how far apart two numbers are
+abbrev pub apart : ℕ → ℕ → ℕ
+apart m n = (m - n) + (n - m)
+
+-- P3: "to the nearest whole segment, an exact half going down": no whole number j is nearer to n / d than k, and if one is as near, k is not
+-- the greater. How far j is from n / d is counted in d-ths, so that it is a whole number: how far j × d is from n.
+pub record Nearest (n d k : ℕ) : Type 0 where
+  pub noneNearer : (j : ℕ) → apart (k * d) n ≤ apart (j * d) n
+  pub halfDown : (j : ℕ) → apart (k * d) n ≡ apart (j * d) n → k ≤ j
+
+-- A train's l and k: "Train length l is length/rs rounded up. Speed k is speed × rt × 5 / (18 × rs)", to the nearest. "Both are 1 to 8."
+pub record Reach (b : Book) (t : Train) (l k : ℕ) : Type 0 where
+  pub lengthUp : RoundedUp (t .metres) (b .segmentMetres) l
+  pub speedNearest : Nearest (t .speed * b .intervalSeconds * 5) (18 * b .segmentMetres) k
+  pub lengthWithin : Within 1 8 l
+  pub speedWithin : Within 1 8 k
 
 -- ---- run lists
 

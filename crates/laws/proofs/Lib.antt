@@ -8,3 +8,4 @@ pub mod Loops
 pub mod Least
 pub mod Stores
 pub mod Digits
+pub mod Rounding

@@ -128,12 +128,15 @@ pub fn length_in_segments(b: Book, t: Train) -> usize
     (t.metres + (b.segment_metres - 1)) / b.segment_metres
 }
 
-// A train's speed in segments an interval, rounded down.
+// A train's speed in segments an interval, to the nearest, an exact half going down: a half less, rounded up. Both sides of the
+// division are doubled, so that the half is a whole number.
 pub fn speed_in_segments(b: Book, t: Train) -> usize
     requires { ⌜ NumbersFit b × (1 ≤ b .«segment_metres») × (t .speed < 65536) ⌝ }
     ensures { λ r. ⌜ r ≡ book.speedInSegments (held b) (heldTrain t) ⌝ }
 {
-    t.speed * b.interval_seconds * 5 / (18 * b.segment_metres)
+    let n = t.speed * b.interval_seconds * 5;
+    let d = 18 * b.segment_metres;
+    (2 * n + (d - 1)) / (2 * d)
 }
 
 // Whether the first n directed segments of the place are on different segments.

@@ -1,14 +1,14 @@
--- Document 01's starred cases, and what the edits of the definitions need, as a table of what is asked and what is answered,
--- computed by one statement. Each goes through the reader, in a whole book; books L and M, which are old books, are rewritten
--- first. Assumes nothing.
+-- Document 01's starred cases, P3's edges in the place of its speeds, and what the edits of the definitions need, as a table of what
+-- is asked and what is answered, computed by one statement. What is asked of a book goes through the reader, in a whole book; books L
+-- and M, which are old books, are rewritten first. Assumes nothing.
 use mathlib.Core.Path.{_≡_, refl}
-use Prim.Native.Nat.{ℕ}
+use Prim.Native.Nat.{ℕ, _*_}
 use mathlib.Core.List.{List, [], _∷_, _++_, map}
 use lib.ListN.{length, replicate}
 use lib.IntN.{ℤ, pos, negsuc}
 use lib.Dec.{eqb}
 use Rattle.spec.specs.Lists.{Bytes, Verdict, accepted, refused, one, count, upTo, range, each, only, all, any, pick, empty, lastOr, same, has, different, sumTo, leastFrom, firstFault, andThen}
-use Rattle.spec.specs.Numbers.{littleEndian, number, field, signed, unsigned, digits, decimal, inDigits, aligned, decimalZ}
+use Rattle.spec.specs.Numbers.{littleEndian, number, field, signed, unsigned, digits, decimal, inDigits, aligned, decimalZ, nearest}
 use Rattle.spec.specs.Frames.{frame, payloadLength, kindField, payloadOf, behind, cutShort, kindNumber, isKind, stepKind, kindOrder, findKind, rankIn, rank, lengthFits, stepLengthFits}
 use Rattle.spec.specs.Book.{noBook, nodeKindAt, segmentAt, trainAt, callsOf, noCall, goalOf, deniesBorder, forcesBorder, greatestNodeKind, touches, shareNode, segmentOf, startNode, endNode, joinIs, joined, lengthInSegments, speedInSegments}
 use Rattle.spec.specs.Runs.{leadsTo, linked, isPath, directed, goesOn, extend, pathsOf, runsOf, startPlace, endPlace, contains}
@@ -119,6 +119,12 @@ oldM last =
 bookM : ℕ → Bytes
 bookM last = upgraded (oldM last)
 
+-- An old book of one train on one segment, at this speed
+oldAt : ℕ → Bytes
+oldAt speed =
+    oldHead 1 ++ nodeFrame 0 ++ nodeFrame 0 ++ segmentFrame 0 1
+    ++ frame 5 (littleEndian 2 80 ++ littleEndian 2 speed ++ (0 ∷ 1 ∷ 0 ∷ [])) ++ frame 6 (0 ∷ 0 ∷ 0 ∷ 1 ∷ []) ++ endFrame
+
 -- An old book whose four times are T 5, departure 2, first 3 and last 4, with TTD 0 unbreakable twice
 oldTwice : Bytes
 oldTwice =
@@ -147,13 +153,19 @@ passingBook first last =
 bookN : Bytes
 bookN = passingBook 1 2
 
--- Four segments in a row, and a train of two segments that may move two
+-- One train on one segment, with these rs and rt, at this speed
+speedBook : ℕ → ℕ → ℕ → Bytes
+speedBook rs rt speed =
+    frame 1 (littleEndian 2 rs ++ littleEndian 2 rt ++ time 1) ++ nodeFrame 0 ++ nodeFrame 0 ++ segmentFrame 0 1
+    ++ trainFrame rs speed (0 ∷ []) ++ callFrame 0 0 1 ++ endFrame
+
+-- Four segments in a row, and a train of two segments that may move two, since 55 km/h is over one and a half
 rowBook : List ℕ → ℕ → Bytes
 rowBook place goal =
     headFrame ++ nodeFrame 0 ++ nodeFrame 0 ++ nodeFrame 0 ++ nodeFrame 0 ++ nodeFrame 0
     ++ segmentFrame 0 1 ++ segmentFrame 1 2 ++ segmentFrame 2 3 ++ segmentFrame 3 4
     ++ frame 4 (1 ∷ 0 ∷ 1 ∷ []) ++ frame 4 (2 ∷ 1 ∷ 2 ∷ []) ++ frame 4 (3 ∷ 2 ∷ 3 ∷ [])
-    ++ trainFrame 180 72 place ++ callFrame goal 0 1 ++ endFrame
+    ++ trainFrame 180 55 place ++ callFrame goal 0 1 ++ endFrame
 
 -- Two trains that face each other over the same two segments, each with its call where the other stands
 facingBook : Bytes
@@ -267,12 +279,15 @@ variableNumber s v = answered (askVariable s v) λ m. rows (meant m)
 
 pub starred : List Case
 starred =
-    -- *36 km/h gives 1; *100 m gives 1
-    record { asked = reach (pairBook joinFrame 100 36 (0 ∷ [])); answer = rows ((1 ∷ 1 ∷ []) ∷ []) }
-    -- *35 is refused by 7
-    ∷ record { asked = reach (pairBook joinFrame 100 35 (0 ∷ [])); answer = refusal 7 0 }
-    -- *323 gives 8
-    ∷ record { asked = reach (pairBook joinFrame 100 323 (0 ∷ [])); answer = rows ((1 ∷ 8 ∷ []) ∷ []) }
+    -- P3's edges, in the place of document 01's: 18 km/h is refused by 7; 19 gives 1; 54 gives 1; 55 gives 2; 306 gives 8; 307 is refused
+    record { asked = reach (pairBook joinFrame 100 18 (0 ∷ [])); answer = refusal 7 0 }
+    ∷ record { asked = reach (pairBook joinFrame 100 19 (0 ∷ [])); answer = rows ((1 ∷ 1 ∷ []) ∷ []) }
+    ∷ record { asked = reach (pairBook joinFrame 100 54 (0 ∷ [])); answer = rows ((1 ∷ 1 ∷ []) ∷ []) }
+    ∷ record { asked = reach (pairBook joinFrame 100 55 (0 ∷ [])); answer = rows ((1 ∷ 2 ∷ []) ∷ []) }
+    ∷ record { asked = reach (pairBook joinFrame 100 306 (0 ∷ [])); answer = rows ((1 ∷ 8 ∷ []) ∷ []) }
+    ∷ record { asked = reach (pairBook joinFrame 100 307 (0 ∷ [])); answer = refusal 7 0 }
+    -- *100 m gives 1
+    ∷ record { asked = reach (pairBook joinFrame 100 36 (0 ∷ [])); answer = rows ((1 ∷ 1 ∷ []) ∷ []) }
     -- *101 m gives 2
     ∷ record { asked = reach (pairBook joinFrame 101 36 (0 ∷ 2 ∷ [])); answer = rows ((2 ∷ 1 ∷ []) ∷ []) }
     -- *joined at 1, six runs; *unjoined, four
@@ -342,6 +357,20 @@ further =
           ∷ 1 ∷ 0 ∷ 7 ∷ 0 ∷ 0 ∷ 1 ∷ 0 ∷ 7 ∷ 0 ∷ 0 ∷ 0 ∷ 0 ∷ 8 ∷ 0 ∷ []);
     }
     ∷ record { asked = times (upgraded oldTwice); answer = rows ((5 ∷ 2 ∷ 3 ∷ 4 ∷ []) ∷ []) }
+    -- the rewriter goes by the same speeds: it refuses 18 km/h by 7 and takes 19, takes 306 and refuses 307
+    ∷ record { asked = rewrites (oldAt 18) 99; answer = refusal 7 0 }
+    ∷ record { asked = reach (upgraded (oldAt 19)); answer = rows ((1 ∷ 1 ∷ []) ∷ []) }
+    ∷ record { asked = reach (upgraded (oldAt 306)); answer = rows ((1 ∷ 8 ∷ []) ∷ []) }
+    ∷ record { asked = rewrites (oldAt 307) 99; answer = refusal 7 0 }
+    -- 4 km/h is just over half of 2 metres in a second, and nothing is rounded on the way; fields of 16 bits, with a product of 33
+    ∷ record { asked = reach (speedBook 2 1 4); answer = rows ((1 ∷ 1 ∷ []) ∷ []) }
+    ∷ record { asked = reach (speedBook 65535 65535 30); answer = rows ((1 ∷ 8 ∷ []) ∷ []) }
+    ∷ record { asked = reach (speedBook 65535 13110 65535); answer = refusal 7 0 }
+    -- the nearest, where a half is exact, just over and just under; and the greatest that fields can hold, a half over 1193010062
+    ∷ record {
+      asked = rows ((nearest 27 18 ∷ nearest 28 18 ∷ nearest 26 18 ∷ nearest (65535 * 65535 * 5) 18 ∷ []) ∷ []);
+      answer = rows ((1 ∷ 2 ∷ 1 ∷ 1193010062 ∷ []) ∷ []);
+    }
     -- times have two bytes: 255 and 256 are two numbers, and a departure of 256 is not below T
     ∷ record { asked = times (longBook 255 255 256); answer = rows ((256 ∷ 255 ∷ 255 ∷ 256 ∷ []) ∷ []) }
     ∷ record { asked = times (longBook 256 0 0); answer = refusal 6 0 }
@@ -461,9 +490,9 @@ table = starred ++ (further ++ asked)
 
 pub cases : map (λ c. c .asked) table ≡ map (λ c. c .answer) table
 unfolding
-    table starred further asked answered sizes labels runShown runNumber meant variableNumber oldL bookL newL oldM oldHead oldTwice longBook time headWith headFrame trainFrom callOf passingBook bookN facingBook callingBook unbreakableBook refutedWith dividedBook totalsOf decodes encodes nodeFrame segmentFrame trainFrame callFrame endFrame pairBook joinFrame bookM tripleBook rewrites reach times runList sections oneSection clauseNumber emptyStep refuted
+    table starred further asked answered sizes labels runShown runNumber meant variableNumber oldL bookL newL oldM oldHead oldAt oldTwice longBook time headWith headFrame trainFrom callOf passingBook bookN facingBook speedBook callingBook unbreakableBook refutedWith dividedBook totalsOf decodes encodes nodeFrame segmentFrame trainFrame callFrame endFrame pairBook joinFrame bookM tripleBook rewrites reach times runList sections oneSection clauseNumber emptyStep refuted
     count upTo range each only all any pick empty lastOr same has different sumTo leastFrom firstFault andThen
-    littleEndian number field signed unsigned digits decimal decimalZ
+    littleEndian number field signed unsigned digits decimal decimalZ nearest
     frame payloadLength kindField payloadOf behind cutShort kindNumber isKind stepKind kindOrder findKind rankIn rank lengthFits stepLengthFits
     noBook nodeKindAt segmentAt trainAt callsOf noCall goalOf deniesBorder forcesBorder greatestNodeKind touches shareNode segmentOf startNode endNode joinIs joined lengthInSegments speedInSegments
     leadsTo linked isPath directed goesOn extend pathsOf runsOf startPlace endPlace contains

@@ -5,6 +5,7 @@ use mathlib.Core.List.{List, []}
 use lib.ListN.{getD}
 use lib.Dec.{eqb}
 use Rattle.spec.specs.Lists.{any, pick, lastOr}
+use Rattle.spec.specs.Numbers.{nearest}
 -- "3 Segment: node a, node b, TTD"; "4 Join: node, two different segments touching it"; "6 Call: train, segment, first, last"
 pub use Rattle.model.specs.declared.Segment.{Segment}
 pub use Rattle.model.specs.declared.Join.{Join}
@@ -94,6 +95,6 @@ joined b n s t = any (joinIs n s t) (b .joins)
 unfoldable pub lengthInSegments : Book → Train → ℕ
 lengthInSegments b t = (t .metres + (b .segmentMetres - 1)) / b .segmentMetres
 
--- "Speed k is speed × rt × 5 / (18 × rs) rounded down."
+-- "Speed k is speed × rt × 5 / (18 × rs)", and P3: "to the nearest whole segment, an exact half going down"
 unfoldable pub speedInSegments : Book → Train → ℕ
-speedInSegments b t = t .speed * b .intervalSeconds * 5 / (18 * b .segmentMetres)
+speedInSegments b t = nearest (t .speed * b .intervalSeconds * 5) (18 * b .segmentMetres)

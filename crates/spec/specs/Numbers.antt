@@ -1,6 +1,6 @@
--- Little-endian numbers, for any width in bytes, without and with a sign, and decimal digits.
+-- Little-endian numbers, for any width in bytes, without and with a sign, decimal digits, and rounding.
 -- Assumes nothing.
-use mathlib.Core.Bool.{true, false}
+use mathlib.Core.Bool.{true, false, cond}
 use Prim.Native.Nat.{ℕ, zero, suc, _+_, _*_, _-_, _/_, _%_, _^_}
 use mathlib.Core.List.{[], _∷_, _++_}
 use lib.ListN.{length, take, drop, replicate}
@@ -52,3 +52,7 @@ aligned w n = replicate (w - length (decimal n)) 32 ++ decimal n
 unfoldable pub decimalZ : ℤ → Bytes
 decimalZ (pos n) = decimal n
 decimalZ (negsuc n) = 45 ∷ decimal (suc n)
+
+-- P3: "to the nearest whole segment, an exact half going down": n / d, and one more where more than half of d is left over
+unfoldable pub nearest : ℕ → ℕ → ℕ
+nearest n d = cond (ltb d (2 * (n % d))) (n / d + 1) (n / d)

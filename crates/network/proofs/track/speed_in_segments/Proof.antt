@@ -1,35 +1,48 @@
--- `track::speed_in_segments` meets its contract: the code is the definition, and a product of two 16-bit numbers, five
--- times over, fits. Assumes nothing.
+-- `track::speed_in_segments` meets its contract: one division gives the nearest, and no number on the way has more than 36 bits.
+-- Assumes nothing.
 use borrow.Author.Needs.{needs}
-use mathlib.Core.Path.{refl}
-use Prim.Native.Nat.{ℕ, _*_, _≤_, _<_}
+use mathlib.Core.Path.{sym}
+use Prim.Native.Nat.{_*_, _≤_}
 use native.Mathlib.Nat.{mul-le-mul}
 use native.Mathlib.Omega.{arith}
 use Rattle.spec.specs.Book.{speedInSegments}
 use Rattle.spec.specs.Held.{held, heldTrain}
+use Rattle.laws.proofs.Rounding.{nearest-divided}
 use Rattle.network.proofs.track.speed_in_segments.Statement.{statement}
 use Rattle.network.proofs.track.speed_in_segments.Tie as tie
 
 -- the product of two numbers of 16 bits
-product : (a b : ℕ) → a < 65536 → b < 65536 → a * b ≤ 65536 * 65536
-product a b h k = mul-le-mul {n₂ = 65536} {m₂ = 65536} (omega arith) (omega arith)
+product : (s : tie.Start) → s .args .t .speed * s .args .b .«interval_seconds» ≤ 65535 * 65535
+product s = mul-le-mul {n₂ = 65535} {m₂ = 65535} (omega (arith, s .pre .2)) (omega (arith, s .pre .0 .seconds))
+
+mul-n : tie.Need-mul-n
+mul-n c = let p = product (c .before .before) in omega arith
+
+mul-n-2 : tie.Need-mul-n-2
+mul-n-2 c = let p = product (c .before .before) in omega arith
+
+mul-d : tie.Need-mul-d
+mul-d c = search needs
 
 mul-result : tie.Need-mul-result
-mul-result c = let p = product _ _ (c .before .before .pre .2) (c .before .before .pre .0 .seconds) in omega arith
+mul-result c = let p = product (c .before .before .before) in omega arith
+
+sub-result : tie.Need-sub-result
+sub-result c = search needs
+
+add-result : tie.Need-add-result
+add-result c = let p = product (c .before .before .before) in omega (arith, c .before .before .before .pre .0 .metres)
 
 mul-result-2 : tie.Need-mul-result-2
-mul-result-2 c = let p = product _ _ (c .before .before .pre .2) (c .before .before .pre .0 .seconds) in omega arith
-
-mul-result-3 : tie.Need-mul-result-3
-mul-result-3 c = search needs
+mul-result-2 c = search needs
 
 div-result : tie.Need-div-result
 div-result c = search needs
 
 returns : tie.Need-returns
 unfolding speedInSegments held heldTrain
-returns c = refl
+returns c = sym (nearest-divided _ _ (omega (arith, c .before .before .before .pre .1)))
 
 pub speed-in-segments-spec : {M : Type 1} → statement M
 speed-in-segments-spec =
-    tie.close (tie.spec mul-result mul-result-2 mul-result-3 div-result returns)
+    tie.close (tie.spec mul-n mul-n-2 mul-d mul-result sub-result add-result mul-result-2 div-result returns)
