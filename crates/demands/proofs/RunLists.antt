@@ -17,9 +17,9 @@ use Rattle.spec.specs.Book.{Book, Train, segmentOf, trainAt, lengthInSegments, 
 use Rattle.spec.specs.Read.{between, reachFits, wellFormed}
 use Rattle.spec.specs.Runs.{leadsTo, linked, isPath, directed, goesOn, extend, pathsOf, runsOf}
 use Rattle.spec.specs.Instance.{runLists, runAt, trainLength}
-use Rattle.laws.proofs.Tests.{and-iff, neither-iff, ltb-iff, leb-iff, all-at, eqb-sym, upTo-mem, count-iff, getD-mem}
+use Rattle.laws.proofs.Tests.{and-iff, neither-iff, ltb-iff, leb-iff, eqb-sym, upTo-mem, count-iff, getD-mem}
 use Rattle.laws.proofs.Rows.{all-append, all-nil, all-one}
-use Rattle.demands.proofs.Wellformed.{parts, runs-at}
+use Rattle.demands.proofs.Wellformed.{runs-at, train-fits}
 pub use Rattle.demands.specs.Claims.{Dictionary, here, later, Before, shorter, smaller, Rising, nothing, next}
 
 -- ---- membership
@@ -299,11 +299,8 @@ module _ (b : Book) where
 module _ (b : Book) (formed : T (wellFormed b)) (i : ℕ) (known : i < length (b .trains)) where
   -- l and k: "Both are 1 to 8"
   pub train-reach : (1 ≤ trainLength b i) × (trainLength b i ≤ 8) × (speedInSegments b (trainAt b i) ≤ 8)
-  unfolding reachFits trainAt between trainLength
-  train-reach =
-      let none-there : Train = record { metres = 0; speed = 0; departure = 0; place = [] } in
-      let p = simp (and-iff, leb-iff) at (all-at _ (b .trains) i none-there (parts b formed .trains) known) in
-      (p .0 .0 .1 .0 .0, p .0 .0 .1 .0 .1, p .0 .0 .1 .1 .1)
+  unfolding reachFits between trainLength
+  train-reach = let p = simp (and-iff, leb-iff) at (train-fits b formed i known .1) in (p .0 .0, p .0 .1, p .1 .1)
 
   -- "A run moves j from 0 to k and is a path of l + j", of the run with a number
   pub run-moves : (r : ℕ) → r < length (getD (runLists b) i [])

@@ -8,7 +8,7 @@ use mathlib.Core.Option.{Option, none, some}
 use Prim.Native.Nat.{ℕ, _+_, _*_, _-_, _/_, _≤_, _<_}
 use native.Mathlib.Nat.{mul-zero, div-mul-le-self, lt-div-mul-add, le-antisymm}
 use native.Mathlib.Omega.{arith}
-use mathlib.Core.List.{[], _∷_}
+use mathlib.Core.List.{_∷_}
 use lib.ListN.{length}
 use lib.Dec.{T, eqb, T-not}
 use Rattle.spec.specs.Lists.{Bytes, Fault, _when_, all, accepted, refused}
@@ -16,10 +16,10 @@ use Rattle.spec.specs.Numbers.{nearest}
 use Rattle.spec.specs.Frames.{Format, Kind, headKind, nodeKind, segmentKind, joinKind, trainKind, callKind, unbreakableKind, endKind, kindNumber, kindOrder, findKind, kindField, payloadOf, cutShort}
 use Rattle.spec.specs.Book.{Book, Train, trainAt, lengthInSegments, speedInSegments}
 use Rattle.spec.specs.Read.{Reading, headFits, reachFits, between, trainIn, contentFaults, kindFaults, frameFaults, bookFaults, unknownKind, outOfOrder, maxIntervals, readAs}
-use Rattle.laws.proofs.Tests.{and-iff, leb-iff, le-or-lt, all-at}
+use Rattle.laws.proofs.Tests.{and-iff, leb-iff, le-or-lt}
 use Rattle.laws.proofs.Rounding.{multiples, Halves, nearest-halves}
 use Rattle.demands.proofs.Faults.{FirstHolds, first-passes}
-use Rattle.demands.proofs.Wellformed.{parts}
+use Rattle.demands.proofs.Wellformed.{parts, train-fits}
 use Rattle.demands.proofs.Reading.{ReadsTo, Found, finds-kind, as-refused, as-formed}
 pub use Rattle.demands.specs.Claims.{RoundedUp, Nearest, Reach, apart}
 
@@ -135,11 +135,11 @@ module _ (F : Format) (s : Bytes) where
   -- Every train of a book that is read has l and k as the text has them.
   pub trains-reach : F .greatestT ≤ maxIntervals → (b : Book) → readAs F s ≡ accepted b → (i : ℕ) → i < length (b .trains)
       → Reach b (trainAt b i) (lengthInSegments b (trainAt b i)) (speedInSegments b (trainAt b i))
-  unfolding trainAt headFits
+  unfolding headFits
   trains-reach few b e i l =
-      let p = parts b (as-formed F s b few e) in
-      let t = simp and-iff at (all-at _ (b .trains) i (record { metres = 0; speed = 0; departure = 0; place = [] }) (p .trains) l) in
-      reach-iff b _ ((simp (and-iff, leb-iff) at (p .head)) .0 .0) _ _ .1 (refl, refl, t .0 .0 .1)
+      let formed = as-formed F s b few e in
+      let rs = (simp (and-iff, leb-iff) at (parts b formed .head)) .0 .0 in
+      reach-iff b (trainAt b i) rs _ _ .1 (refl, refl, train-fits b formed i l .1)
 
   -- A book is refused by 7 only at a Train frame whose train has no such l and k.
   pub seven-reach : (d : ℕ) → readAs F s ≡ refused 7 d

@@ -132,23 +132,28 @@ module _ (b : Book) where
 -- ---- a well-formed book, number by number
 
 -- what stands for a train that is not there
-noTrain : Train
+abbrev pub noTrain : Train
 noTrain = record { metres = 0; speed = 0; departure = 0; place = [] }
 
 -- a train's run list, by its number
 pub runs-at : (b : Book) (i : ℕ) → i < length (b .trains) → getD (runLists b) i [] ≡ runsOf b (trainAt b i)
-unfolding runLists trainAt noTrain
+unfolding runLists trainAt
 runs-at b i l = map-at (runsOf b) (b .trains) i noTrain [] l
 
 module _ (b : Book) (h : T (wellFormed b)) where
-  -- a train departs before T, and has at most 256 runs
-  train-sound : (i : ℕ) → i < length (b .trains)
-      → (trainAt b i .departure < b .intervals) × (length (runsOf b (trainAt b i)) ≤ 256)
-  unfolding trainFits trainAt noTrain
-  train-sound i l =
-      let w = parts b h .trains in
-      let p = simp (and-iff, ltb-iff, leb-iff) at (all-at _ (b .trains) i noTrain w l) in
-      (p .0 .0 .0 .0 .1, p .1)
+  -- 6, 7, 8 and 11 find nothing wrong with a train
+  pub train-fits : (i : ℕ) → i < length (b .trains)
+      → T (trainFits b (trainAt b i)) × T (reachFits b (trainAt b i)) × T (placeFits b (trainAt b i))
+      × (length (runsOf b (trainAt b i)) ≤ maxRuns)
+  unfolding trainAt
+  train-fits i l =
+      let p = simp (and-iff, leb-iff) at (all-at _ (b .trains) i noTrain (parts b h .trains) l) in
+      (p .0 .0 .0, p .0 .0 .1, p .0 .1, p .1)
+
+  -- a train departs before T
+  train-departs : (i : ℕ) → i < length (b .trains) → trainAt b i .departure < b .intervals
+  unfolding trainFits
+  train-departs i l = (simp (and-iff, ltb-iff) at (train-fits i l .0)) .0 .1
 
   -- a call's window is in order and within T
   call-sound : (i c : ℕ) → c < length (callsOf b i)
@@ -174,8 +179,8 @@ module _ (b : Book) (h : T (wellFormed b)) where
 pub sound : (b : Book) → T (wellFormed b) → Sound (instanceOf b)
 unfolding instanceOf compile deniesBorder forcesBorder
 sound b h = record {
-  departs = λ i l. train-sound b h i l .0;
-  fewRuns = λ i l. rw (runs-at b i l) (train-sound b h i l .1);
+  departs = train-departs b h;
+  fewRuns = λ i l. rw (runs-at b i l) (train-fits b h i l .3);
   inside = path-sound b h;
   ordered = λ i c l k. call-sound b h i c k .0;
   windows = λ i c l k. call-sound b h i c k .1;

@@ -119,11 +119,11 @@ oldM last =
 bookM : ℕ → Bytes
 bookM last = upgraded (oldM last)
 
--- An old book of one train on one segment, at this speed
+-- The old book of one train on one segment, with rs 100 and rt 10, at this speed
 oldAt : ℕ → Bytes
 oldAt speed =
     oldHead 1 ++ nodeFrame 0 ++ nodeFrame 0 ++ segmentFrame 0 1
-    ++ frame 5 (littleEndian 2 80 ++ littleEndian 2 speed ++ (0 ∷ 1 ∷ 0 ∷ [])) ++ frame 6 (0 ∷ 0 ∷ 0 ∷ 1 ∷ []) ++ endFrame
+    ++ frame 5 (littleEndian 2 100 ++ littleEndian 2 speed ++ (0 ∷ 1 ∷ 0 ∷ [])) ++ frame 6 (0 ∷ 0 ∷ 0 ∷ 1 ∷ []) ++ endFrame
 
 -- An old book whose four times are T 5, departure 2, first 3 and last 4, with TTD 0 unbreakable twice
 oldTwice : Bytes
@@ -359,10 +359,10 @@ further =
     ∷ record { asked = times (upgraded oldTwice); answer = rows ((5 ∷ 2 ∷ 3 ∷ 4 ∷ []) ∷ []) }
     -- the rewriter goes by the same speeds: it refuses 18 km/h by 7 and takes 19, takes 306 and refuses 307
     ∷ record { asked = rewrites (oldAt 18) 99; answer = refusal 7 0 }
-    ∷ record { asked = reach (upgraded (oldAt 19)); answer = rows ((1 ∷ 1 ∷ []) ∷ []) }
-    ∷ record { asked = reach (upgraded (oldAt 306)); answer = rows ((1 ∷ 8 ∷ []) ∷ []) }
+    ∷ record { asked = rewrites (oldAt 19) 99; answer = text (speedBook 100 10 19) }
+    ∷ record { asked = rewrites (oldAt 306) 99; answer = text (speedBook 100 10 306) }
     ∷ record { asked = rewrites (oldAt 307) 99; answer = refusal 7 0 }
-    -- 4 km/h is just over half of 2 metres in a second, and nothing is rounded on the way; fields of 16 bits, with a product of 33
+    -- 4 km/h is just over half of 2 metres in a second, and nothing is rounded on the way; then fields whose product has 33 bits
     ∷ record { asked = reach (speedBook 2 1 4); answer = rows ((1 ∷ 1 ∷ []) ∷ []) }
     ∷ record { asked = reach (speedBook 65535 65535 30); answer = rows ((1 ∷ 8 ∷ []) ∷ []) }
     ∷ record { asked = reach (speedBook 65535 13110 65535); answer = refusal 7 0 }

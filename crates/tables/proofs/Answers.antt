@@ -4,7 +4,7 @@ use mathlib.Core.Path.{_≡_, sym, ap, ap₂, _∙_}
 use mathlib.Core.Bool.{Bool}
 use Prim.Native.Nat.{ℕ, _+_, _≤_, _<_}
 use native.Mathlib.Omega.{arith}
-use mathlib.Core.List.{List, [], map}
+use mathlib.Core.List.{List, map}
 use lib.ListN.{length, getD, take, length-map, List·getD-append}
 use lib.Seq.{getD-take}
 use Rattle.model.specs.declared.Book.{Book as BookStruct}
@@ -15,8 +15,8 @@ use Rattle.spec.specs.Runs.{startPlace, endPlace}
 use Rattle.spec.specs.Read.{placeFits}
 use Rattle.spec.specs.Instance.{instanceOf, compile, runLists, runAt, callAt, trainLength, placeServes, mayLeave}
 use Rattle.spec.specs.Held.{held, heldTrain, packed, packedTrain, padded}
-use Rattle.laws.proofs.Tests.{and-iff, eqb-iff, all-at}
-use Rattle.demands.proofs.Wellformed.{parts, map-at}
+use Rattle.laws.proofs.Tests.{and-iff, eqb-iff}
+use Rattle.demands.proofs.Wellformed.{noTrain, map-at, train-fits}
 use Rattle.listing.specs.Listed.{trainBytes, placeAt}
 use Rattle.reader.proofs.Packing.{trains-counted}
 use Rattle.tables.specs.Placed.{sizeAt, endAt}
@@ -40,10 +40,6 @@ module _ (b : BookStruct) (n : ℕ) (h : n < b .«node_count») where
 
 -- ---- a train of the struct
 
--- what stands for a train that is not there
-abbrev noTrain : Train
-noTrain = record { metres = 0; speed = 0; departure = 0; place = [] }
-
 module _ (b : BookStruct) (p : Passed b) (i : ℕ) (below : i < b .«train_count») (d : TrainStruct) where
   inside : i < length (held b .trains)
   inside = omega (arith, trains-counted (p .packed))
@@ -59,10 +55,10 @@ module _ (b : BookStruct) (p : Passed b) (i : ℕ) (below : i < b .«train_count
 
   -- its place is as long as l says
   pub size-held : getD (b .trains) i d .size ≡ trainLength (held b) i
-  unfolding packedTrain trainLength trainAt placeFits
+  unfolding packedTrain trainLength placeFits
   size-held =
-      let q = simp and-iff at (all-at _ (held b .trains) i noTrain (parts (held b) (p .formed) .trains) inside) in
-      ap (λ (t : TrainStruct). t .size) train-packed ∙ eqb-iff _ _ .0 (q .0 .1 .0)
+      let q = simp and-iff at (train-fits (held b) (p .formed) i inside .2) in
+      ap (λ (t : TrainStruct). t .size) train-packed ∙ eqb-iff _ _ .0 (q .0)
 
   pub train-held : heldTrain (getD (b .trains) i d) ≡ trainAt (held b) i
   unfolding trainAt held
