@@ -3,7 +3,7 @@
 
 use std::io::Write;
 
-use crate::plain::{holds, meets, read_book, refuse_if, tables, two, walk, Book, Count, Sink, Store};
+use crate::plain::{holds, may_leave, meets, read_book, refuse_if, tables, two, walk, Book, Count, Sink, Store};
 
 type Verdict<T> = Result<T, (usize, usize)>;
 
@@ -97,7 +97,7 @@ fn broken_by_train(book: &Book, tr: usize, moves: &[usize]) -> usize {
     }
     for i in d + 1..moves.len() {
         let before = moves[i - 1];
-        let may = before == 65535 || holds(end(before), goal);
+        let may = before == 65535 || may_leave(book, end(before), goal);
         if moves[i] == 65535 && !may || before == 65535 && moves[i] != 65535 {
             return 3;
         }
@@ -129,7 +129,7 @@ fn judged(book: &Book, plan: &[u8]) -> Verdict<(Vec<Vec<usize>>, Vec<usize>)> {
     let moves = moves(book, plan);
     let fits = |tr: usize| moves[tr].iter().all(|&m| m < book.runs[tr].len() || m >= 65534);
     plainly(refuse_if(!(0..moves.len()).all(fits), 15))?;
-    if !(0..nodes).all(|n| book.nodes[n] == 1 || plan[n] == book.nodes[n] / 2) {
+    if !(0..nodes).all(|n| book.nodes[n] == 1 || plan[n] == (book.nodes[n] == 2) as u8) {
         return Err((16, 1));
     }
     let broken = (0..moves.len()).map(|tr| broken_by_train(book, tr, &moves[tr])).filter(|&b| b != 0).min();

@@ -20,7 +20,7 @@ import sys
 
 HERE = os.path.dirname(os.path.abspath(__file__))
 sys.path.insert(0, os.path.dirname(HERE))
-from tools.books import Spec, spec_bytes    # noqa: E402 (the path has to be right first)
+from tools.books import EXIT, Spec, spec_bytes    # noqa: E402 (the path has to be right first)
 from tools.passing_books import make_book   # noqa: E402
 from tools.random_books import random_spec, refused_books    # noqa: E402
 from tools.reference import read_book       # noqa: E402
@@ -50,7 +50,7 @@ def star():
     """62 segments of one TTD at one node, 63 joins there: 124 + 126 = 250 runs; family H is large."""
     spec = Spec()
     n = 62
-    spec.nodes = [1] + [x % 3 for x in range(n)]
+    spec.nodes = [1] + [x % 4 for x in range(n)]
     spec.segments = [(0, s + 1, 0) if s % 2 else (s + 1, 0, 0) for s in range(n)]
     spec.joins = [(0, s, (s + 1) % n) for s in range(n)] + [(0, 0, 2)]
     return with_trains(spec, 7, 2)
@@ -59,7 +59,7 @@ def star():
 def ring(n):
     """A ring of n segments, each its own TTD: 2n + 2n runs, with 64 the most, 256; no H."""
     spec = Spec()
-    spec.nodes = [1] * n
+    spec.nodes = [1, 1, 1, EXIT] * (n // 4)
     spec.segments = [(s, (s + 1) % n, s) for s in range(n)]
     spec.joins = [((s + 1) % n, s, (s + 1) % n) for s in range(n)]
     return with_trains(spec, n // 8, 1)
@@ -69,7 +69,7 @@ def lanes():
     """12 tracks side by side between two nodes, all joined at one and most at the other, with 8 stubs:
     few segments, many joins, so that each run has many followers; family E is large."""
     spec = Spec()
-    spec.nodes = [1, 1] + [0] * 8
+    spec.nodes = [1, 1] + [EXIT] * 8
     spec.segments = [(0, 1, 0)] * 12 + [(1, 2 + s, 1) for s in range(8)]
     pairs = [(v, x, y) for v in (0, 1) for x in range(12) for y in range(x + 1, 12)]
     spec.joins = pairs[:105]
@@ -134,7 +134,7 @@ def filled(spec):
 def scale_line():
     """A line of 64 segments, each its own TTD: 128 + 126 runs."""
     spec = Spec()
-    spec.nodes = [1] * 65
+    spec.nodes = [EXIT] + [1] * 63 + [EXIT]
     spec.segments = [(s, s + 1, s) for s in range(64)]
     spec.joins = [(s + 1, s, s + 1) for s in range(63)]
     return with_short_trains(spec, 8, (5, 7, 9, 0))

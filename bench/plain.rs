@@ -1,7 +1,10 @@
-// A plain Rust implementation of document 01's reader, with times of two bytes and speeds to the nearest segment, and formula, to time
+// A plain Rust implementation of document 01's reader, with times of two bytes, speeds to the nearest segment and exits, and formula, to time
 // the proved one against: structs, Vec and iterators, follow lists and meeting triples worked out once a book, one walk over the
 // families that is generic in where its words go (counted, or stored in a slice).  Written from tools/reference.py; nothing in it is
 // tuned by hand.
+
+// a node's kind
+const EXIT: u8 = 3;
 
 pub struct Train {
     pub departure: usize,
@@ -134,7 +137,7 @@ fn take_head(book: &mut Book, p: &[u8]) -> Result<(), usize> {
 
 fn take_node(book: &mut Book, p: &[u8]) -> Result<(), usize> {
     refuse_if(book.nodes.len() == 96, 5)?;
-    refuse_if(p[0] > 2, 6)?;
+    refuse_if(p[0] > EXIT, 6)?;
     book.nodes.push(p[0]);
     Ok(())
 }
@@ -185,7 +188,7 @@ fn take_unbreakable(book: &Book, p: &[u8]) -> Result<(), usize> {
     for (node, &kind) in book.nodes.iter().enumerate() {
         let there = (0..book.segments.len() as u8)
             .filter(|&s| book.segments[s as usize].ttd == p[0] && book.touches(s, node as u8));
-        refuse_if(kind != 0 && there.count() >= 2, 9)?;
+        refuse_if((kind == 1 || kind == 2) && there.count() >= 2, 9)?;
     }
     Ok(())
 }
@@ -272,6 +275,11 @@ pub fn holds(place: &[u8], segment: usize) -> bool {
     place.iter().any(|&d| d as usize / 2 == segment)
 }
 
+// Whether a train with this goal may be gone from a place: its front ends at an exit.
+pub fn may_leave(book: &Book, place: &[u8], goal: usize) -> bool {
+    holds(place, goal) && book.nodes[book.end_node(place[place.len() - 1]) as usize] == EXIT
+}
+
 // What meets: a node, and two segments of one TTD there.
 pub fn meets(book: &Book) -> Vec<(i32, i32, i32)> {
     let n = book.segments.len() as u8;
@@ -312,7 +320,7 @@ pub fn tables(book: &Book) -> Tables {
         t.width.push(width);
         next += width * book.intervals as i32;
         t.follow.push(runs.iter().map(|r| numbers(&|q| q[..l] == r[end(r)..])).collect());
-        t.leaves.push(runs.iter().map(|r| holds(&r[end(r)..], goal)).collect());
+        t.leaves.push(runs.iter().map(|r| may_leave(book, &r[end(r)..], goal)).collect());
         t.elsewhere.push(numbers(&|r| r[..l] != train.place[..]));
         t.serving.push(
             train.calls.iter().map(|c| numbers(&|r| holds(&r[end(r)..], c.segment))).collect(),
@@ -332,7 +340,7 @@ pub fn walk<S: Sink>(book: &Book, t: &Tables, out: &mut S) {
     for (node, &kind) in book.nodes.iter().enumerate() {
         let v = node as i32 + 1;
         match kind {
-            0 => out.clause(&[-v]),
+            0 | EXIT => out.clause(&[-v]),
             2 => out.clause(&[v]),
             _ => {}
         }

@@ -228,7 +228,7 @@ fn likely(space: &Space, variables: usize, length: usize, random: &mut Random) -
     for node in 0..book.nodes {
         plan[node] = match book.kinds[node] {
             1 => random.below(2) as u8,
-            kind => kind / 2 ^ (random.below(200) == 0) as u8,
+            kind => (kind == 2) as u8 ^ (random.below(200) == 0) as u8,
         };
     }
     values[..book.nodes].copy_from_slice(&plan);
@@ -239,7 +239,7 @@ fn likely(space: &Space, variables: usize, length: usize, random: &mut Random) -
         let mut gone = false;
         for interval in 0..book.intervals {
             let runs = &list.by_start[list.first[place] as usize..list.first[place + 1] as usize];
-            let leaves = interval > train.departure && list.masks[place] >> train.goal() & 1 == 1;
+            let leaves = interval > train.departure && list.goals[place] >> train.goal() & 1 == 1;
             gone = (gone || leaves && random.below(3) == 0) && random.below(50) != 0;
             let mut code = if random.below(200) == 0 { random.below(list.count) } else { runs[random.below(runs.len())] as usize };
             if interval < train.departure && random.below(200) != 0 {

@@ -1,4 +1,4 @@
-// Rust of document 01's reader, with times of two bytes and speeds to the nearest segment, that is tuned for speed, to time the proved
+// Rust of document 01's reader, with times of two bytes, speeds to the nearest segment and exits, that is tuned for speed, to time the proved
 // one against; tuned_formula.rs and tuned_checks.rs go on from it. What was done:
 //
 // - Everything lies in fixed arrays of a space that the caller keeps: nothing is allocated a call, and nothing is cleared that is not used.
@@ -12,6 +12,7 @@ pub const SEGMENTS: usize = 64;
 pub const TRAINS: usize = 8;
 pub const RUNS: usize = 256;
 pub const INTERVALS: usize = 256;
+pub const EXIT: u8 = 3; // a node's kind
 
 #[derive(Clone, Copy, Default)]
 pub struct Call {
@@ -68,10 +69,11 @@ pub struct List {
     pub masks: [u64; RUNS],       // the segments on it
     pub sizes: [u8; RUNS],        // how many
     pub start: [u8; RUNS],        // the place where it starts
-    pub end: [u8; RUNS],          // the place where it ends; this and the next two are for formula and checks
+    pub end: [u8; RUNS],          // the place where it ends; this and the rest are for formula and checks
     pub by_start: [u8; RUNS],     // the runs by the place where they start
     pub first: [u16; RUNS + 1],   // by place: where its runs begin there
     pub ending: [u16; RUNS],      // by place: how many runs end there
+    pub goals: [u64; RUNS],       // by place: the segments on it where its front ends at an exit, else none
 }
 
 // By train and interval a number.
@@ -175,7 +177,7 @@ fn take_node(book: &mut Book, p: &[u8]) -> Result<(), usize> {
     if at == NODES {
         return Err(5);
     }
-    if kind > 2 {
+    if kind > EXIT {
         return Err(6);
     }
     book.kinds[at] = kind;
@@ -295,7 +297,7 @@ fn take_unbreakable(book: &Book, p: &[u8]) -> Result<(), usize> {
     }
     let all = book.of_ttd[ttd as usize];
     let nodes = book.touching[..book.nodes].iter().zip(&book.kinds);
-    let divided = nodes.into_iter().any(|(here, &kind)| kind != 0 && (here & all).count_ones() >= 2);
+    let divided = nodes.into_iter().any(|(here, &kind)| (kind == 1 || kind == 2) && (here & all).count_ones() >= 2);
     if divided { Err(9) } else { Ok(()) }
 }
 
@@ -373,6 +375,11 @@ pub fn index_runs(book: &Book, lists: &mut [List]) {
         let place_bytes = u64::MAX >> (64 - 8 * l);
         list.first[..=list.places].fill(0);
         list.ending[..list.places].fill(0);
+        for p in 0..list.places {
+            let front = (list.paths[p] >> (8 * (l - 1))) as usize & 0x7f;
+            let exit = book.kinds[book.ends[front / 2][1 - front % 2] as usize] == EXIT;
+            list.goals[p] = if exit { list.masks[p] } else { 0 };
+        }
         for r in 0..list.count {
             let end = list.place(l, (list.paths[r] >> (8 * (list.sizes[r] as usize - l))) as u64 & place_bytes);
             list.end[r] = end;

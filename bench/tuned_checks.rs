@@ -89,7 +89,7 @@ fn judge(space: &mut Space, sizes: &Sizes, values: &[u8]) -> Result<(), usize> {
     let mut before = 0;
     for (&kind, &border) in book.kinds[..book.nodes].iter().zip(values) {
         before += (kind != 1) as usize;
-        if kind != 1 && border != kind / 2 {
+        if kind != 1 && border != (kind == 2) as u8 {
             return Err(before);
         }
     }
@@ -208,7 +208,7 @@ fn first_shared(claims: &Table<u64>, interval: usize, trains: usize, segments: u
 fn goes_on(list: &List, goal: u8, was: u16, is: u16) -> bool {
     match (was, is) {
         (GONE, _) => is == GONE,
-        (_, GONE) => list.masks[list.end[was as usize] as usize] >> goal & 1 == 1,
+        (_, GONE) => list.goals[list.end[was as usize] as usize] >> goal & 1 == 1,
         _ => list.start[is as usize] == list.end[was as usize],
     }
 }
@@ -281,7 +281,7 @@ pub fn check_plan(s: &[u8], plan: &[u8], out: &mut [u8], space: &mut Space) -> V
     if wrong {
         return Err((15, 0));
     }
-    if book.kinds.iter().zip(borders).any(|(&kind, &border)| kind != 1 && border != kind / 2) {
+    if book.kinds.iter().zip(borders).any(|(&kind, &border)| kind != 1 && border != (kind == 2) as u8) {
         return Err((16, 1));
     }
     let by_train = book.train[..book.trains].iter().zip(&*moves);

@@ -9,7 +9,7 @@
 
 use std::arch::x86_64::{__m128i, _mm_add_epi32, _mm_setr_epi32, _mm_storeu_si128};
 
-use crate::tuned::{bits, index_runs, read_book, Book, Call, List, Space, Train};
+use crate::tuned::{bits, index_runs, read_book, Book, Call, List, Space, Train, EXIT};
 
 #[derive(Clone, Copy, Default, PartialEq, Debug)]
 pub struct Totals {
@@ -28,9 +28,9 @@ pub fn met_at_departure(train: &Train, given: u64, c: Call) -> bool {
     (c.first as usize..=c.last as usize).contains(&train.departure) && given >> c.segment & 1 == 1
 }
 
-// How many of the runs end at a place with the segment.
-fn serving(list: &List, segment: u8) -> usize {
-    (0..list.places).map(|p| list.ending[p] as usize * (list.masks[p] >> segment & 1) as usize).sum()
+// How many of the runs end at a place whose mask, by place, has the segment.
+fn serving(list: &List, masks: &[u64], segment: u8) -> usize {
+    (0..list.places).map(|p| list.ending[p] as usize * (masks[p] >> segment & 1) as usize).sum()
 }
 
 // Fills the table of family H: the words of each clause with a claim counted from 0; a border is its variable.
@@ -74,11 +74,11 @@ fn measure(space: &Space) -> Sizes {
         words += (t - d) * (r + 2 + 3 * (r * (r + 1) / 2));
         clauses[3] += elsewhere + 1;
         clauses[4] += (t - 1 - d) * (r + 1);
-        words += (t - 1 - d) * (2 * r + follow + serving(list, train.goal()) + 3);
+        words += (t - 1 - d) * (2 * r + follow + serving(list, &list.goals, train.goal()) + 3);
         for &c in train.calls() {
             if !met_at_departure(train, given_mask, c) {
                 clauses[5] += 1;
-                words += 1 + (c.last as usize + 1).saturating_sub((c.first as usize).max(d + 1)) * serving(list, c.segment);
+                words += 1 + (c.last as usize + 1).saturating_sub((c.first as usize).max(d + 1)) * serving(list, &list.masks, c.segment);
             }
         }
         clauses[6] += t * segments;
@@ -192,7 +192,7 @@ pub fn write(space: &Space, out: &mut [i32]) {
         for (node, &kind) in book.kinds[..book.nodes].iter().enumerate() {
             let v = node as i32 + 1;
             match kind {
-                0 => pen.put([-v, 0]),
+                0 | EXIT => pen.put([-v, 0]),
                 2 => pen.put([v, 0]),
                 _ => {}
             }
@@ -238,7 +238,7 @@ pub fn write(space: &Space, out: &mut [i32]) {
                     for &q in &list.by_start[list.first[end] as usize..list.first[end + 1] as usize] {
                         pen.put([to + q as i32]);
                     }
-                    if list.masks[end] >> goal & 1 == 1 {
+                    if list.goals[end] >> goal & 1 == 1 {
                         pen.put([to + list.count as i32]);
                     }
                     pen.put([0]);

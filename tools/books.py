@@ -4,12 +4,13 @@ import struct
 from .reference import CALL, END, FIELDS, HEAD, JOIN, NEW, NODE, SEGMENT, TIME, TRAIN, UNBREAKABLE, fields_bytes, two_bytes, widths
 
 # Each border kind: the words that are shown for it, and the bytes that a plan may have at such a node. Besides the reference, which says it
-# from document 01 by itself, the kinds stand nowhere else; random books have all of them, and books that are known by name what they need.
-NEVER, MAY_BE_SET, ALWAYS = range(3)
+# from the documents by itself, the kinds stand nowhere else; random books have all of them, and books that are known by name what they need.
+NEVER, MAY_BE_SET, ALWAYS, EXIT = range(4)
 BORDER_KINDS = {
     NEVER: ("never", (0,)),
     MAY_BE_SET: ("may be set", (0, 1)),
     ALWAYS: ("always set", (1,)),
+    EXIT: ("never; an exit", (0,)),
 }
 
 

@@ -2,6 +2,7 @@
 import itertools
 
 from . import reference as ref
+from .books import EXIT
 
 # a search for a ring ends after so many paths
 MOST_PATHS = 20000
@@ -76,4 +77,6 @@ def features(book):
         "k above 1": any(train.k > 1 for train in book.trains),
         "a window shut before departure": shut_window(book),
         "a late departure": any(train.departure for train in book.trains),
+        "an exit": EXIT in book.nodes,
+        "no exit": EXIT not in book.nodes,
     }

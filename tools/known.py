@@ -1,7 +1,7 @@
 """Books that are known by name: document 01's, rows, stars and rings, books on each limit, books with many intervals, books as long as a slice,
 and books whose train graphs show every kind of cell; with the inputs and pages of some that were worked out by hand."""
 from . import reference as ref
-from .books import Spec, spec_bytes
+from .books import EXIT, Spec, spec_bytes
 from .inputs import plan_bytes, step_frame
 from .reference import NEW, OLD
 
@@ -171,11 +171,11 @@ LIMITS = (limit_nodes, limit_segments, limit_joins, limit_trains, limit_calls,
 
 # the words of a ring's formula, then the ring: nodes, intervals, spare nodes, TTDs, and l and k of each train
 RINGS = (
-    (16384, (7, 4, 14, 1, ((1, 1), (1, 2)))),
-    (16384, (6, 4, 6, 3, ((2, 1), (1, 1), (1, 2)))),
-    (16385, (7, 2, 4, 3, ((1, 3), (1, 1), (1, 2)))),
-    (16385, (6, 3, 37, 1, ((1, 2), (1, 3)))),
-    (33226, (6, 4, 0, 1, ((2, 3), (1, 2), (1, 2)))),
+    (16384, (7, 4, 23, 1, ((1, 1), (1, 2)))),
+    (16384, (6, 4, 25, 3, ((2, 1), (1, 1), (1, 2)))),
+    (16385, (7, 2, 6, 3, ((1, 3), (1, 1), (1, 2)))),
+    (16385, (6, 3, 44, 1, ((1, 2), (1, 3)))),
+    (33166, (6, 4, 0, 1, ((2, 3), (1, 2), (1, 2)))),
 )
 # smaller ones
 SMALL_RINGS = (
@@ -188,12 +188,12 @@ SMALL_RINGS = (
 
 
 def ring(nodes, intervals, spare, ttds, trains):
-    """Nodes of kinds 0, 1 and 2 in turn, and spare ones of kind 0, two words each.
+    """Nodes of kinds 0 to 3 in turn, and spare ones of kind 0, two words each.
 
     Each train stands ahead of the one before it, and all but the first depart late.
     """
     spec = Spec(100, 10, intervals)
-    spec.nodes = [v % 3 for v in range(nodes)] + [0] * spare
+    spec.nodes = [v % 4 for v in range(nodes)] + [0] * spare
     spec.segments = [(s, (s + 1) % nodes, s * ttds // nodes) for s in range(nodes)]
     spec.joins = [((s + 1) % nodes, s, (s + 1) % nodes) for s in range(nodes)]
     at = 0
@@ -215,6 +215,37 @@ def great_ring(intervals):
         spec.trains.append((100, 36, train % 3, [2 * train]))
         spec.calls.append((train, train, 0, intervals))
     return spec_bytes(spec)
+
+
+# ------------------------------------------------------------------- exits
+
+
+def leaving_spec(kinds, place, goal, departure):
+    """Two joined segments, the three nodes of these kinds, two intervals, and a train as long as its place, with its goal."""
+    spec = Spec(100, 10, 2)
+    spec.nodes, spec.segments, spec.joins = list(kinds), [(0, 1, 0), (1, 2, 0)], [(1, 0, 1)]
+    spec.trains, spec.calls = [(100 * len(place), 36, departure, place)], [(0, goal, 0, 2)]
+    return spec
+
+
+# P4's cases: the nodes' kinds, the train's place, goal and departure, its moves, and the least broken rule, or 0. Run 0 is the place itself
+# where that is [0] or [0, 2]; run 3 is [3], and run 5 moves to segment 0 from there.
+LEAVING = (
+    ((0, 0, 0), [0], 0, 0, (0, ref.GONE), 3),               # a goal reached, and no exit
+    ((0, 0, 0), [0], 0, 0, (0, 0), 0),                      # so it stays
+    ((EXIT, 0, 0), [0], 0, 0, (0, ref.GONE), 3),            # an exit behind the train
+    ((0, 0, EXIT), [0], 0, 0, (0, ref.GONE), 3),            # where another segment ends
+    ((0, EXIT, 0), [0], 0, 0, (0, ref.GONE), 0),            # in mid line
+    ((0, EXIT, 0), [0], 0, 0, (4, ref.GONE), 3),            # it has run through
+    ((0, EXIT, 0), [0], 1, 0, (0, ref.GONE), 3),            # front at the exit, and the goal not in the place
+    ((0, EXIT, 0), [3], 1, 0, (3, ref.GONE), 0),            # the other way
+    ((EXIT, 0, 0), [3], 0, 0, (5, ref.GONE), 0),            # it moves to the exit first
+    ((0, 0, EXIT), [0, 2], 0, 0, (0, ref.GONE), 0),         # front at the exit, the goal under the rear
+    ((0, 0, EXIT), [0, 2], 1, 0, (0, ref.GONE), 0),         # under the front
+    ((0, EXIT, 0), [0, 2], 0, 0, (0, ref.GONE), 3),         # the rear ends at an exit, the front does not
+    ((0, EXIT, 0), [0], 0, 1, (ref.ABSENT, 0), 0),          # T = d + 1: the run of interval d
+    ((0, EXIT, 0), [0], 0, 1, (ref.ABSENT, ref.GONE), 2),   # which gone cannot replace
+)
 
 
 # ------------------------------------------------- inputs as long as a slice
@@ -292,10 +323,10 @@ PAGE_L = page_of(b"  0  00-00 0")
 
 
 def graph_spec():
-    """A row of ten segments, and unjoined ones beside it up to segment 63, each a TTD of its own. A train of two segments departs in interval 1,
-    and may move 8; another has its place on segment 63."""
+    """A row of ten segments with an exit at its end, and unjoined ones beside it up to segment 63, each a TTD of its own. A train of two segments
+    departs in interval 1, and may move 8; another has its place on segment 63."""
     spec = Spec(100, 10, 3)
-    spec.nodes = [0] * 12
+    spec.nodes = [0] * 10 + [EXIT, 0]
     spec.segments = [(s, s + 1, s) for s in range(10)] + [(10, 11, s) for s in range(10, 64)]
     spec.joins = [(s + 1, s, s + 1) for s in range(9)]
     spec.trains = [(200, 288, 1, [0, 2]), (100, 36, 0, [126])]
@@ -321,9 +352,11 @@ def moving(l, back, moved):
 
 
 def lone(T, departure, gone):
-    """A train on the one segment that there is, which stands there from its departure until it is gone. Book and plan."""
+    """A train on the one segment that there is, which ends at an exit: it stands there from its departure until it is gone. Book and plan."""
+    spec = lone_spec(T, departure, 0, T)
+    spec.nodes[1] = EXIT
     moves = [ref.ABSENT] * departure + [0] * (gone - departure) + [ref.GONE] * (T - gone)
-    return spec_bytes(lone_spec(T, departure, 0, T)), plan_bytes([0, 0], [moves])
+    return spec_bytes(spec), plan_bytes([0, 0], [moves])
 
 
 def on_segment(segment):

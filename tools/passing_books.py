@@ -162,6 +162,7 @@ def passing_book(rng):
             continue
         spec.T = fitting_intervals(rng, track, paces)
         if add_passing_trains(rng, spec, places, paces, plain):
+            random_books.random_exits(rng, spec)
             return spec_bytes(spec)
 
 

@@ -5,7 +5,7 @@ import itertools
 import struct
 
 from . import reference as ref
-from .books import (BORDER_KINDS, MAY_BE_SET, NEVER, Spec, bordered_kinds, encode, frames_of, put, spec_bytes, split, time_bytes,
+from .books import (BORDER_KINDS, EXIT, MAY_BE_SET, NEVER, Spec, bordered_kinds, encode, frames_of, put, spec_bytes, split, time_bytes,
                     train_payload)
 from .known import LIMITS
 from .reference import CALL, END, HEAD, JOIN, NEW, NODE, OLD, SEGMENT, TRAIN, UNBREAKABLE
@@ -169,6 +169,18 @@ def random_calls(rng, spec, book):
     rng.shuffle(spec.calls)
 
 
+def random_exits(rng, spec):
+    """Exits, mostly: where a line ends at a train's goal, now and then elsewhere at a goal, seldom anywhere."""
+    if rng.random() < 0.2:
+        return
+    goals = {tr: segment for tr, segment, _, _ in spec.calls}
+    ends = {node for segment in goals.values() for node in spec.segments[segment][:2]}
+    for node in range(len(spec.nodes)):
+        outer = sum(node in segment[:2] for segment in spec.segments) < 2
+        if rng.random() < (0.05 if node not in ends else 0.8 if outer else 0.3):
+            spec.nodes[node] = EXIT
+
+
 # the most segments, intervals and trains tried, and the range of clauses; a long book has more intervals than the others, and little else
 SIZES = {"tiny": (4, 3, 2, 1, 300), "small": (8, 6, 4, 200, 3000), "long": (2, None, 1, 1, 3000)}
 
@@ -183,6 +195,7 @@ def random_spec(rng, size, form=NEW):
     for _ in range(rng.randint(1, most_trains)):
         random_train(rng, spec, book)
     random_calls(rng, spec, book)
+    random_exits(rng, spec)
     if size == "long":
         set_late(rng, spec)
     return spec
@@ -240,7 +253,7 @@ def random_size(rng):
 def rich_spec(rng):
     """A book with every kind of frame, and fields worth damaging."""
     spec = Spec(100, 10, rng.randint(2, 4))
-    spec.nodes = [1, 0, 0, 2, 1]
+    spec.nodes = [1, 0, 0, 2, EXIT]
     spec.segments = [(0, 1, 3), (1, 2, 3), (2, 3, 3), (3, 4, 5)]
     spec.joins = [(1, 0, 1), (2, 2, 1), (3, 2, 3)]
     spec.trains = [(150, 72, 0, [0, 2]), (100, 36, 1, [6])]

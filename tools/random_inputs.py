@@ -21,8 +21,8 @@ def random_walk(rng, book, tr, still):
     train, runs, place = book.trains[tr], book.runs[tr], book.trains[tr].place
     row_, gone = [ABSENT] * train.departure, False
     while len(row_) < book.T:
-        home = ref.holds(place, train.goal()) and len(row_) > train.departure
-        gone = gone or (home and rng.random() < 0.4)
+        free = ref.may_leave(book, train, place) and len(row_) > train.departure
+        gone = gone or (free and rng.random() < 0.4)
         if gone:
             row_.append(GONE)
             continue
@@ -54,7 +54,9 @@ def break_plan(rng, book, borders, moves):
     elif style == 2:
         moves[tr][d] = rng.choice((GONE, ABSENT, any_run))
     elif style == 3:
-        moves[tr][rng.randint(min(d + 1, T - 1), T - 1)] = GONE
+        at = rng.randint(min(d + 1, T - 1), T - 1)
+        count = rng.choice((1, T - at))
+        moves[tr][at:at + count] = [GONE] * count
     elif style == 4:
         moves[tr][rng.randint(min(d + 1, T - 1), T - 1)] = any_run
     else:

@@ -1,8 +1,8 @@
 #!/usr/bin/env python3
 """A plain reference of document 01: book, plan, formula, verdict; with
 document 02's requests P1: times of two bytes, and old books rewritten; P2: a
-train graph on paper, printed by `print_graph BOOK PLAN`; and P3: speeds to the
-nearest segment.
+train graph on paper, printed by `print_graph BOOK PLAN`; P3: speeds to the
+nearest segment; and P4: a terminating train stays on the track.
 
 Every function states sentences of the documents as simply as it can.  Nothing
 here is fast on purpose; the only care taken is that no input can make a
@@ -34,6 +34,9 @@ FIELDS = {HEAD: (2, 2, TIME), NODE: (1,), SEGMENT: (1, 1, 1), JOIN: (1, 1, 1),
 # "At most 96 ... 64 ... 128 ... 8", "one to four a train", "at most 256 a train"
 MOST_NODES, MOST_SEGMENTS, MOST_JOINS, MOST_TRAINS = 96, 64, 128, 8
 MOST_CALLS, MOST_RUNS = 4, 256
+
+# P4: "Node kind 3 is an exit without a border"
+EXIT = 3
 
 # "A file of frames ... of kind 20"
 STEP = 20
@@ -187,9 +190,10 @@ def take_head(book, p):
 
 
 def take_node(book, p):
-    """Text: "border kind, 0 never, 1 may be set, 2 always set. At most 96"."""
+    """Text: "border kind, 0 never, 1 may be set, 2 always set. At most 96";
+    P4: "Node kind 3 is an exit without a border"."""
     refuse_if(len(book.nodes) == MOST_NODES, 5)
-    refuse_if(p[0] > 2, 6)
+    refuse_if(p[0] > EXIT, 6)
     book.nodes.append(p[0])
 
 
@@ -244,7 +248,7 @@ def take_call(book, p):
 
 def take_unbreakable(book, p):
     """Text: "a TTD that some segment has. A repeat is allowed"; then "unbreakable
-    TTD with two segments at a node of kind 1 or 2"."""
+    TTD with two segments at a node of kind 1 or 2", so not of kind 3."""
     ttd = p[0]
     refuse_if(all(t != ttd for _, _, t in book.segments), 6)
     for node, kind in enumerate(book.nodes):
@@ -368,6 +372,18 @@ def holds(place, segment):
     return any(x // 2 == segment for x in place)
 
 
+def may_leave(book, train, end):
+    """P4: "Gone may follow a run only if its end contains the goal and its
+    front segment ends at an exit"."""
+    return holds(end, train.goal()) and front_at_exit(book, end)
+
+
+def front_at_exit(book, place):
+    """P4: the node at which the front directed segment ends is the exit, in mid
+    line too.  A place is "rear first", so its front is its last."""
+    return book.nodes[end_of(book, place[-1])] == EXIT
+
+
 # ------------------------------------------------------------ the sections
 
 
@@ -410,8 +426,9 @@ def broken_rule(book, borders, moves):
 
 
 def keeps_rule_1(book, borders, moves):
-    """Text: "Borders respect their kinds"."""
-    return all((kind, border) not in ((0, 1), (2, 0))
+    """Text: "Borders respect their kinds"; P4: "Node kind 3 is an exit without
+    a border"."""
+    return all((kind, border) not in ((0, 1), (2, 0), (EXIT, 1))
                for kind, border in zip(book.nodes, borders))
 
 
@@ -436,8 +453,10 @@ def keeps_rule_2(book, borders, moves):
 
 
 def keeps_rule_3(book, borders, moves):
-    """Text: "Gone only after d, after gone or after a run whose end place contains
-    the goal's segment. After gone, gone"."""
+    """Text: "Gone only after d, after gone or after a run whose end place
+    contains the goal's segment. After gone, gone"; P4: "Gone may follow a
+    run only if its end contains the goal and its front segment ends at an
+    exit"."""
     for tr, train in enumerate(book.trains):
         for i in range(book.T):
             if i > 0 and moves[tr][i - 1] == GONE and moves[tr][i] != GONE:
@@ -454,7 +473,7 @@ def may_be_gone(book, moves, tr, i):
     before = run_in(book, moves, tr, i - 1)
     if before is None:
         return moves[tr][i - 1] == GONE
-    return holds(end_place(train, before), train.goal())
+    return may_leave(book, train, end_place(train, before))
 
 
 def keeps_rule_4(book, borders, moves):
@@ -551,9 +570,10 @@ def each_clause(book):
 
 
 def family_a(book, v):
-    """Text: "kind 0: not border; kind 2: border"."""
+    """Text: "kind 0: not border; kind 2: border"; P4: kind 3's "variable is
+    denied as for kind 0"."""
     for node, kind in enumerate(book.nodes):
-        if kind == 0:
+        if kind in (0, EXIT):
             yield [-v.border(node)]
         if kind == 2:
             yield [v.border(node)]
@@ -591,9 +611,10 @@ def family_d(book, v):
 
 
 def family_e(book, v):
-    """Text: "after d: each run of the interval before implies a run starting at its
-    end, in list order, or, last, gone if its end contains the goal; then gone
-    implies gone"."""
+    """Text: "after d: each run of the interval before implies a run starting
+    at its end, in list order, or, last, gone if its end contains the goal;
+    then gone implies gone"; P4: "Gone may follow a run only if its end
+    contains the goal and its front segment ends at an exit"."""
     for tr, train in enumerate(book.trains):
         starts = [start_place(train, run) for run in book.runs[tr]]
         ends = [end_place(train, run) for run in book.runs[tr]]
@@ -603,7 +624,7 @@ def family_e(book, v):
             for r, end in enumerate(ends):
                 clause = [-v.run(tr, i - 1, r)]
                 clause += [v.run(tr, i, q) for q in nexts[r]]
-                if holds(end, train.goal()):
+                if may_leave(book, train, end):
                     clause.append(v.gone(tr, i))
                 yield clause
             yield [-v.gone(tr, i - 1), v.gone(tr, i)]

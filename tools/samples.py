@@ -1,6 +1,6 @@
 """Tests the reference by itself, on inputs made from SEED: document 01's examples ("On each edge", starred or not), whose books L and M are
 rewritten; random and damaged books, with every refusal of the book among them; old books, good and damaged, rewritten: the formula stays, and
-so does every number; train graphs, read back by their columns; assignments, plans and refutations, with every rule broken; and brute force: on
+so does every number; trains that leave over an exit, and that may not; train graphs, read back by their columns; assignments, plans and refutations, with every rule broken; and brute force: on
 tiny books every plan is enumerated, and a plan that keeps the rules exists exactly where the formula is satisfiable. Prints counts.
 
 Exit status: 0 all held, 1 something did not (an assertion says what), 2 wrong usage.
@@ -12,11 +12,11 @@ from collections import Counter
 
 from . import reference as ref
 from .all_plans import keeping, plans_to_try
-from .books import Spec, spec_bytes, split
+from .books import BORDER_KINDS, EXIT, Spec, bordered_kinds, spec_bytes, split
 from .counts import answer_name, listed
 from .inputs import TooLong, encode_steps, plan_bytes, step_frame
-from .known import (BOOK_GRAPH, BOOK_L, FORMULA_L, OLD_L, PAGE_GRAPH, PAGE_L, PLAN_GRAPH, PLAN_L, SPEEDS, add_train, book_m, circling,
-                    lone_spec, outgrowing, padded, row_spec, spec_l, speed_spec)
+from .known import (BOOK_GRAPH, BOOK_L, FORMULA_L, LEAVING, OLD_L, PAGE_GRAPH, PAGE_L, PLAN_GRAPH, PLAN_L, SPEEDS, add_train, book_m,
+                    circling, leaving_spec, lone_spec, outgrowing, padded, row_spec, spec_l, speed_spec)
 from .passing_books import passing_book
 from .random_books import book_to_rewrite, damaged_book, random_book
 from .random_inputs import kept_plans, random_assignments, random_plans, random_refutations, solved, walked_plan
@@ -75,6 +75,40 @@ def check_books_l_and_m():
     assert check(shut, step_frame([], [19]), *lent) == ("accepted",)
     assert check(shut, good, *lent) == ("accepted",)
     assert check(shut, bad, *lent) == ("refused", 20, 1)
+
+
+def check_exits():
+    """P4: who may be gone, in the plan rules and in the formula; an exit has no border; no kind 4; and the same of an old book."""
+    for kinds, place, goal, departure, moves, rule in LEAVING:
+        spec = leaving_spec(kinds, place, goal, departure)
+        data, plan = spec_bytes(spec), plan_bytes([0, 0, 0], [list(moves)])
+        book, answer = ref.read_book(data), ref.entry_check_plan(data, plan, 100)
+        assert answer[1:] == (16, rule) if rule else answer[0] == "accepted"
+        check_written(data, book, plan, answer)
+        assert ref.upgrade_book(spec_bytes(spec, ref.OLD)) == data
+        if EXIT in kinds:
+            set_there = plan_bytes([int(kind == EXIT) for kind in kinds], [list(moves)])
+            assert ref.entry_check_plan(data, set_there, 100) == ("refused", 16, 1)
+            assert [-1 - kinds.index(EXIT)] in ref.formula(book)[1]
+        spec.nodes[0] = max(BORDER_KINDS) + 1
+        assert ref.entry_read_book(spec_bytes(spec)) == ref.entry_upgrade_book(spec_bytes(spec, ref.OLD), 1000) == ("refused", 6, 0)
+    for kind in BORDER_KINDS:
+        spec = leaving_spec((0, kind, 0), [0], 0, 0)
+        spec.unbreakable = [0]
+        assert ref.entry_read_book(spec_bytes(spec)) == (("refused", 9, 0) if kind in bordered_kinds() else ("accepted",))
+
+
+def check_left(book, moves, tally):
+    """P4, of a plan that keeps the rules: who is gone had its goal in its place and its front at an exit; "A book without exits keeps every
+    train to the last interval"."""
+    tally["plans of books without exits"] += EXIT not in book.nodes
+    for train, runs, row in zip(book.trains, book.runs, moves):
+        if ref.GONE in row:
+            assert EXIT in book.nodes
+            last = runs[row[row.index(ref.GONE) - 1]]
+            assert train.goal() in [x // 2 for x in last[-train.l:]]
+            assert book.nodes[book.segments[last[-1] // 2][1 - last[-1] % 2]] == EXIT
+            tally["trains that leave"] += 1
 
 
 # ------------------------------------------------- old books and new ones
@@ -245,6 +279,8 @@ def check_meaning(data, tally):
     tally["all plans tried"] += 1
     tally["plans that keep the rules"] += len(plans)
     assert satisfiable == bool(plans)
+    for borders, moves in plans:
+        check_left(book, moves, tally)
     for borders, moves in some_of(plans, 20):
         check_kept(data, plan_bytes(borders, moves))
 
@@ -348,6 +384,7 @@ def run(options):
     check_figures()
     check_shapes()
     check_books_l_and_m()
+    check_exits()
     check_lengths()
     check_rewritten_l_and_m()
     check_pages()

@@ -1,11 +1,13 @@
 """Assignments and plans: book L with its assignment and its plan cut, lengthened and spoiled at each byte; book M; books on each limit; as
-much lent as there is, and one byte too little; more variables than a slice holds, and nearly as many; more than 32 intervals; damaged books;
+much lent as there is, and one byte too little; more variables than a slice holds, and nearly as many; more than 32 intervals; trains that
+leave over an exit, and that may not; damaged books;
 then random books, each with assignments and plans that satisfy or keep all, that nearly do, and hostile ones; each refusal of a book."""
 import struct
 
 from .. import reference
 from ..books import spec_bytes
-from ..known import ASSIGNMENT_L, BOOK_L, LIMITS, PLAN_L, book_m, great_ring, lone_spec
+from ..inputs import plan_bytes
+from ..known import ASSIGNMENT_L, BOOK_L, LEAVING, LIMITS, PLAN_L, book_m, great_ring, leaving_spec, lone_spec
 from ..random_books import damaged_book, random_book, refused_books
 from ..random_inputs import random_assignments, random_plans, solved
 from .records import Record, lending
@@ -86,7 +88,7 @@ def long_cases():
         good = reference.check_two("check_plan", data, plan)[1]
         yield Record("P", data, plan, b"", "accepted")
         yield Record("A", data, good, b"", "accepted")
-        yield Record("P", data, plan[:-2] + b"\xff\xff", b"", "16 5" if departure + 1 < T else "16 2")
+        yield Record("P", data, plan[:-2] + b"\xff\xff", b"", "16 3" if departure + 1 < T else "16 2")
         yield Record("P", data, plan[:-2] + b"\1\0", b"", "16 4" if departure + 1 < T else "16 2")
         yield Record("P", data, plan[:-2], b"", "15 0")
         yield Record("P", data, plan, lending("P", len(good) - 1), "12 0")
@@ -95,6 +97,16 @@ def long_cases():
     # the window ends before the train is there
     data = spec_bytes(lone_spec(256, 255, 0, 254))
     yield Record("P", data, absent_before(256, 255), b"", "16 5")
+
+
+def leaving_cases():
+    """P4's cases: the plan, and with a border at each node, which none of them may have; and the least claims of each as an assignment."""
+    for kinds, place, goal, departure, moves, rule in LEAVING:
+        data = spec_bytes(leaving_spec(kinds, place, goal, departure))
+        for borders in ([0, 0, 0], [1, 0, 0], [0, 1, 0], [0, 0, 1]):
+            least = 1 if any(borders) else rule
+            yield Record("P", data, plan_bytes(borders, [list(moves)]), b"", f"16 {least}" if least else "accepted")
+            yield Record("A", data, reference.write_assignment(reference.read_book(data), borders, [list(moves)]))
 
 
 def random_cases(rng):
@@ -126,6 +138,7 @@ def records(rng, note):
     yield from lent_cases(BOOK_L, ASSIGNMENT_L, PLAN_L)
     yield from great_ring_cases()
     yield from long_cases()
+    yield from leaving_cases()
     yield from random_cases(rng)
     for number, data in refused_books(rng, 3):
         yield Record("A", data, ASSIGNMENT_L, lending("A", 0), f"{number} 0")

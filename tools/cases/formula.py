@@ -5,7 +5,7 @@ as many words lent as there are, and one too few; and each refusal of a book, wi
 import itertools
 
 from .. import reference
-from ..books import spec_bytes
+from ..books import EXIT, spec_bytes
 from ..known import BOOK_L, LIMITS, OLD_L, RINGS, SMALL_RINGS, add_train, book_m, great_ring, late_m, lone_spec, ring, star
 from ..random_books import damaged_book, random_book, refused_books
 from .records import Record, formula_answer, lending
@@ -23,7 +23,7 @@ def word_count(data):
 def long_text():
     """All intervals and all nodes, so that the literals have many figures: a text of more than 64 KiB."""
     spec = star(3, 32)
-    spec.nodes = [1] * 4 + [0] * 92
+    spec.nodes = [EXIT] * 4 + [0] * 92
     for train in range(4):
         add_train(spec, [2 * (train % 3)])
     data = spec_bytes(spec)

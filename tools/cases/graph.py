@@ -5,9 +5,10 @@ books with plans that keep the rules, that nearly do, and hostile ones; each ref
 import itertools
 
 from .. import reference
-from ..books import Spec, spec_bytes
+from ..books import EXIT, Spec, spec_bytes
 from ..inputs import plan_bytes
-from ..known import (BOOK_GRAPH, BOOK_L, LIMITS, PAGE_GRAPH, PAGE_L, PLAN_GRAPH, PLAN_L, book_m, circling, lone, moving, on_segment, page_of)
+from ..known import (BOOK_GRAPH, BOOK_L, LEAVING, LIMITS, PAGE_GRAPH, PAGE_L, PLAN_GRAPH, PLAN_L, book_m, circling, leaving_spec, lone, moving,
+                     on_segment, page_of)
 from ..passing_books import passing_book
 from ..random_books import random_book, refused_books
 from ..random_inputs import kept_plans, random_plans, solved
@@ -85,42 +86,51 @@ def interval_cases():
 
 
 def ruled():
-    """Two trains on neighbouring segments of one TTD, which a border at node 1 parts: runs [0] [1] [2] [3] [0,2] [3,1]. The second departs in
-    interval 1, and has to be on its segment at the last time."""
+    """Two trains on neighbouring segments of one TTD, back to back, which a border at node 1 parts: runs [0] [1] [2] [3] [0,2] [3,1]. Each has
+    an exit ahead. The second departs in interval 1, and has to be on its segment at the last time. Beside the line are nodes of kinds 2 and 0."""
     spec = Spec(100, 10, 3)
-    spec.nodes, spec.segments, spec.joins = [0, 1, 2], [(0, 1, 0), (1, 2, 0)], [(1, 0, 1)]
-    spec.trains, spec.calls = [(100, 36, 0, [0]), (100, 36, 1, [2])], [(0, 0, 0, 3), (1, 1, 3, 3)]
+    spec.nodes, spec.segments, spec.joins = [EXIT, 1, EXIT, 2, 0], [(0, 1, 0), (1, 2, 0)], [(1, 0, 1)]
+    spec.trains, spec.calls = [(100, 36, 0, [1]), (100, 36, 1, [2])], [(0, 0, 0, 3), (1, 1, 3, 3)]
     return spec_bytes(spec)
 
 
 # borders and moves of that book, with the answer
-FIRST, SECOND = [0, 0, 0], [ABSENT, 2, 2]
+PARTED, WHOLE = (0, 1, 0, 1, 0), (0, 0, 0, 1, 0)
+FIRST, SECOND = [1, 1, 1], [ABSENT, 2, 2]
 RULED_PAGE = page_of(b"  0  00-00 0  .", b"  1  00-00 0  01-01 0", b"  2  00-00 0  01-01 0")
 BROKEN = (
-    ("16 1", (1, 1, 1), FIRST, SECOND), ("16 1", (0, 1, 0), FIRST, SECOND),
-    ("16 2", (0, 1, 1), [ABSENT, 0, 0], SECOND), ("16 2", (0, 1, 1), [2, 2, 2], SECOND), ("16 2", (0, 1, 1), FIRST, [2, 2, 2]),
-    ("16 2", (0, 1, 1), FIRST, [GONE, 2, 2]), ("16 2", (0, 1, 1), [0, 0, ABSENT], SECOND),
-    ("16 3", (0, 1, 1), [4, GONE, GONE], SECOND), ("16 3", (0, 1, 1), [0, GONE, 0], SECOND),
-    ("16 4", (0, 1, 1), [0, 1, 1], SECOND), ("16 4", (0, 1, 1), [4, 0, 0], SECOND),
-    ("16 5", (0, 1, 1), FIRST, [ABSENT, 2, GONE]),
-    ("16 6", (0, 0, 1), FIRST, SECOND), ("16 6", (0, 1, 1), [0, 0, 4], SECOND),
+    ("16 1", (1, 1, 0, 1, 0), FIRST, SECOND), ("16 1", (0, 1, 1, 1, 0), FIRST, SECOND), ("16 1", (0, 1, 0, 0, 0), FIRST, SECOND),
+    ("16 1", (0, 1, 0, 1, 1), FIRST, SECOND),
+    ("16 2", PARTED, [ABSENT, 1, 1], SECOND), ("16 2", PARTED, [2, 2, 2], SECOND), ("16 2", PARTED, FIRST, [2, 2, 2]),
+    ("16 2", PARTED, FIRST, [GONE, 2, 2]), ("16 2", PARTED, [1, 1, ABSENT], SECOND),
+    ("16 3", PARTED, [1, GONE, 1], SECOND), ("16 3", PARTED, [1, 4, GONE], SECOND),
+    ("16 4", PARTED, [1, 0, 0], SECOND), ("16 4", PARTED, FIRST, [ABSENT, 2, 3]),
+    ("16 5", PARTED, FIRST, [ABSENT, 2, GONE]),
+    ("16 6", WHOLE, FIRST, SECOND),
     # the least of several
-    ("16 1", (1, 0, 1), [0, 1, 1], SECOND), ("16 2", (0, 0, 1), [1, 0, GONE], SECOND), ("16 4", (0, 0, 1), [0, 1, 1], [ABSENT, 2, GONE]),
+    ("16 1", (1, 0, 0, 1, 0), [1, 0, 0], SECOND), ("16 2", WHOLE, [0, 1, GONE], SECOND), ("16 4", WHOLE, [1, 0, 0], [ABSENT, 2, GONE]),
     # no run, no border: ahead of a broken rule
-    ("15 0", (0, 1, 1), [0, 0, 6], SECOND), ("15 0", (0, 1, 1), FIRST, [ABSENT, 2, ABSENT - 1]), ("15 0", (0, 1, 1), [256, 0, 0], SECOND),
-    ("15 0", (0, 2, 1), FIRST, SECOND), ("15 0", (255, 1, 1), FIRST, SECOND), ("15 0", (1, 0, 0), [1, 0, GONE], [6, 6, 6]),
+    ("15 0", PARTED, [1, 1, 6], SECOND), ("15 0", PARTED, FIRST, [ABSENT, 2, ABSENT - 1]), ("15 0", PARTED, [256, 1, 1], SECOND),
+    ("15 0", (0, 2, 0, 1, 0), FIRST, SECOND), ("15 0", (255, 1, 0, 1, 0), FIRST, SECOND), ("15 0", (1, 0, 0, 0, 0), [0, 1, GONE], [6, 6, 6]),
 )
 
 
 def rule_cases():
     """Each rule broken, and a plan that keeps them; 12 comes ahead of each, where a byte too little is lent."""
-    data, good = ruled(), plan_bytes((0, 1, 1), [FIRST, SECOND])
+    data, good = ruled(), plan_bytes(PARTED, [FIRST, SECOND])
     yield worked(data, good, RULED_PAGE)
-    yield worked(data, plan_bytes((0, 1, 1), [[0, 0, GONE], SECOND]), RULED_PAGE[:162] + page_of(b"  2  *        01-01 0"))
+    yield worked(data, plan_bytes(PARTED, [[1, 1, GONE], SECOND]), RULED_PAGE[:162] + page_of(b"  2  *        01-01 0"))
     for said, borders, *moves in BROKEN:
         yield case(data, plan_bytes(borders, moves), said)
         yield case(data, plan_bytes(borders, moves), said, 81 * 3)
         yield case(data, plan_bytes(borders, moves), "12 0", 81 * 3 - 1)
+
+
+def leaving_cases():
+    """P4's cases: a page where the train may be gone, or stays."""
+    for kinds, place, goal, departure, moves, rule in LEAVING:
+        data = spec_bytes(leaving_spec(kinds, place, goal, departure))
+        yield case(data, plan_bytes((0, 0, 0), [list(moves)]), f"16 {rule}" if rule else ACCEPTED)
 
 
 def lent_cases(data, plan):
@@ -177,6 +187,7 @@ def records(rng, note):
     yield from train_cases()
     yield from interval_cases()
     yield from rule_cases()
+    yield from leaving_cases()
     for data, plan in ((BOOK_L, PLAN_L), (BOOK_GRAPH, PLAN_GRAPH), circling(2)):
         yield from lent_cases(data, plan)
     yield case(*circling(256), "12 0", 81 * 256 - 1)

@@ -180,6 +180,11 @@ def present(answered, tr):
     return {i for i in range(T) if moves[tr][i] < reference.ABSENT}
 
 
+def leaves(answered):
+    """Whether the plan has a train that is gone in the end."""
+    return answered.plan is not None and any(reference.GONE in row for row in reference.read_plan(answered.book, answered.plan)[1])
+
+
 def against(answered):
     """How many trains have to take a segment that another has to take the other way, both on the track at once."""
     trains = [(forced(answered.book, train), present(answered, tr)) for tr, train in enumerate(answered.book.trains)]
@@ -192,6 +197,7 @@ def shown_by(answered):
     there = features(answered.book)
     there.update({f"{word} trains against each other": opposed == n for n, word in ((2, "two"), (3, "three"), (4, "four"))})
     there["a plan only with a border set"] = answered.needs_border
+    there["a train that leaves"] = leaves(answered)
     return {(name, answered.satisfiable) for name, has in there.items() if has}
 
 
@@ -211,6 +217,9 @@ LEAST = {
     "three trains against each other": (15, 15),
     "four trains against each other": (10, 10),
     "a plan only with a border set": (0, 30),
+    "an exit": (60, 60),
+    "no exit": (20, 20),
+    "a train that leaves": (0, 60),
 }
 
 

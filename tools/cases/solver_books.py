@@ -1,6 +1,6 @@
 """Random books for a solver: trains on one way, or against each other, over loops and junctions; and books nearly alike."""
 from .. import reference
-from ..books import MAY_BE_SET, NEVER, Spec, encode, put, spec_bytes, split
+from ..books import EXIT, MAY_BE_SET, NEVER, Spec, encode, put, spec_bytes, split
 from ..random_books import random_lengths, random_path, random_track, ring, row, track_of, turned
 
 # ---------------------------------------------------------------- the track
@@ -121,6 +121,14 @@ def set_calls(rng, spec, way):
     spec.calls = [random_call(rng, spec, way) for _ in range(rng.choice((0, 0, 0, 0, 0, 1, 1, 2)))] + goals
 
 
+def set_exits(rng, spec, way):
+    """Exits at the ends of the way, mostly: who has come there can leave."""
+    for x in (way[-1], way[0] ^ 1):
+        if rng.random() < 0.85:
+            a, b, _ = spec.segments[x // 2]
+            spec.nodes[a if x % 2 else b] = EXIT
+
+
 def trains_on_a_way(rng):
     """A book of trains that share a way; the more there are, the smaller is the track."""
     spec = Spec(*rng.choice(((100, 10), (100, 10), (1, 1), (250, 30), (7, 13))))
@@ -129,6 +137,7 @@ def trains_on_a_way(rng):
     way = long_way(rng, track_of(spec))
     spec.T = add_trains(rng, spec, way, count, against) + rng.randint(0, 3) + (count > 3)
     set_calls(rng, spec, way)
+    set_exits(rng, spec, way)
     return spec_bytes(spec)
 
 

@@ -32,3 +32,4 @@ pub mod Widening
 pub mod Upgrading
 pub mod Pages
 pub mod Speeds
+pub mod Leaving

@@ -102,6 +102,18 @@ absent-of {m = run r} h = absurd h
 absent-of {m = absent} h = refl
 absent-of {m = gone} h = absurd h
 
+pub is-run : (f : ℕ → Bool) {m : Move} {r : ℕ} → m ≡ run r → T (f r) → T (runs m f)
+unfolding runs
+is-run f e h = subst (λ (m : Move). T (runs m f)) (sym e) h
+
+pub is-gone : {m : Move} → m ≡ gone → T (isGone m)
+unfolding isGone
+is-gone e = subst (λ (m : Move). T (isGone m)) (sym e) tt
+
+pub is-absent : {m : Move} → m ≡ absent → T (isAbsent m)
+unfolding isAbsent
+is-absent e = subst (λ (m : Move). T (isAbsent m)) (sym e) tt
+
 -- ---- what a valuation that codes a plan says
 
 module _ (I : Instance) (α : ℕ → Bool) (p : Plan) (code : Codes I α p) (i : ℕ) (l : i < I .trains) (t : ℕ) (h : t < I .intervals) where

@@ -21,6 +21,7 @@ use Rattle.spec.specs.Entry.{overwrite, written}
 use Rattle.spec.specs.Page.{blank, newline, Shown, shownRun, shownAbsent, shownGone, shownMove, shownOf, marked, cell, cells, pageLine, page, pageBytes, pageFor, printGraph, pageOutput}
 use Rattle.laws.proofs.Tests.{and-iff, ltb-iff, leb-iff, all-iff, all-upTo, le-or-lt}
 use Rattle.laws.proofs.Rows.{all-append, all-each}
+use Rattle.laws.proofs.Last.{last-map, last-drop, last-below}
 use Rattle.laws.proofs.Parts.{front-same, head-same, Part, part-here, part-behind, part-in, part-at, part-placed, part-taken, parts-same, part-each, length-each, sum-below, sum-constant}
 use Rattle.laws.proofs.Digits.{decimal-one, decimal-more, inDigits-back, length-aligned, aligned-back}
 pub use Rattle.demands.specs.Pages.{rearOf, frontOf, IsLine, SameLine, SamePage}
@@ -231,33 +232,16 @@ lines-same I J few many p q t u short brief fits others e =
 
 -- ---- of a book that was read
 
--- what stands first and last in a row of numbers below a bound
+-- what stands first in a row of numbers below a bound
 first-below : (n : ℕ) (xs : List ℕ) → 0 < n → ((x : ℕ) → List·Memᴰ x xs → x < n) → getD xs 0 0 < n
 first-below n [] l h = l
 first-below n (x ∷ xs) l h = h x (List·Memᴰ·head refl)
-
-last-below : (n d : ℕ) (xs : List ℕ) → d < n → ((x : ℕ) → List·Memᴰ x xs → x < n) → lastOr d xs < n
-unfolding lastOr
-last-below n d [] l h = l
-last-below n d (x ∷ xs) l h = last-below n x xs (h x (List·Memᴰ·head refl)) (λ y m. h y (List·Memᴰ·tail m))
 
 -- and in what is made of each element of a part of it
 first-same : (f : ℕ → ℕ) (n : ℕ) (xs : List ℕ) → 1 ≤ n → getD (map f xs) 0 0 ≡ getD (map f (take n xs)) 0 0
 first-same f zero xs h = absurd (omega arith)
 first-same f (suc n) [] h = refl
 first-same f (suc n) (x ∷ xs) h = refl
-
-last-other : (d e : ℕ) (xs : List ℕ) → 1 ≤ length xs → lastOr d xs ≡ lastOr e xs
-unfolding lastOr
-last-other d e [] h = absurd (omega arith)
-last-other d e (x ∷ xs) h = refl
-
-last-dropped : (f : ℕ → ℕ) (n d : ℕ) (xs : List ℕ) → n < length xs → lastOr d (map f (drop n xs)) ≡ lastOr d (map f xs)
-unfolding lastOr
-last-dropped f zero d xs h = refl
-last-dropped f (suc n) d [] h = absurd (omega arith)
-last-dropped f (suc n) d (x ∷ xs) h =
-    last-dropped f n d xs (omega arith) ∙ last-other d (f x) (map f xs) (omega (arith, length-map xs f))
 
 module _ (b : Book) (formed : T (wellFormed b)) where
   abbrev I : Instance
@@ -329,7 +313,7 @@ module _ (book : Bytes) (b : Book) (read : readBook book ≡ accepted b) where
       → (j : ℕ) × (length (runAt (runLists b) i r) ≡ trainLength b i + j) × (j ≤ speedInSegments b (trainAt b i))
       × (shownMove (instanceOf b) i (run r) ≡ shownRun (rearOf (startPlace (trainLength b i) (runAt (runLists b) i r)))
       (frontOf (endPlace (trainLength b i) (runAt (runLists b) i r))) j)
-  unfolding shownMove instanceOf compile startPlace endPlace rearOf frontOf
+  unfolding shownMove instanceOf compile startPlace endPlace rearOf frontOf segmentOf
   run-shown i r h k =
       let p = runAt (runLists b) i r in
       let l = trainLength b i in
@@ -337,7 +321,9 @@ module _ (book : Bytes) (b : Book) (read : readBook book ≡ accepted b) where
       let some = train-reach b formed i h .0 in
       let first : getD (map segmentOf p) 0 0 ≡ getD (map segmentOf (take l p)) 0 0 = first-same segmentOf l p some in
       let last : lastOr 0 (map segmentOf p) ≡ lastOr 0 (map segmentOf (drop (length p - l) p)) =
-      sym (last-dropped segmentOf (length p - l) 0 p (omega (arith, m .2, some))) in
+      last-map segmentOf 0 p
+      ∙ ap segmentOf (sym (last-drop (length p - l) 0 p (omega (arith, m .2, some))))
+      ∙ sym (last-map segmentOf 0 (drop (length p - l) p)) in
       let moved : length p - l ≡ m .0 = omega (arith, m .2) in
       (m .0, m .2, m .1, λ z. shownRun (first z) (last z) (moved z))
 

@@ -15,10 +15,11 @@ use lib.Dec.{T, ltb, eqb}
 use Rattle.spec.specs.Lists.{all, any, count, upTo, each, one, lastOr, different, has}
 use Rattle.spec.specs.Book.{Book, Train, segmentOf, trainAt, lengthInSegments, speedInSegments}
 use Rattle.spec.specs.Read.{between, reachFits, wellFormed}
-use Rattle.spec.specs.Runs.{leadsTo, linked, isPath, directed, goesOn, extend, pathsOf, runsOf}
+use Rattle.spec.specs.Runs.{leadsTo, linked, isPath, directed, goesOn, extend, pathsOf, runsOf, endPlace}
 use Rattle.spec.specs.Instance.{runLists, runAt, trainLength}
-use Rattle.laws.proofs.Tests.{and-iff, neither-iff, ltb-iff, leb-iff, eqb-sym, upTo-mem, count-iff, getD-mem}
+use Rattle.laws.proofs.Tests.{and-iff, neither-iff, ltb-iff, leb-iff, eqb-sym, upTo-mem, count-iff, getD-mem, all-at}
 use Rattle.laws.proofs.Rows.{all-append, all-nil, all-one}
+use Rattle.laws.proofs.Last.{last-at, last-drop}
 use Rattle.demands.proofs.Wellformed.{runs-at, train-fits}
 pub use Rattle.demands.specs.Claims.{Dictionary, here, later, Before, shorter, smaller, Rising, nothing, next}
 
@@ -302,11 +303,28 @@ module _ (b : Book) (formed : T (wellFormed b)) (i : ℕ) (known : i < length (b
   unfolding reachFits between trainLength
   train-reach = let p = simp (and-iff, leb-iff) at (train-fits b formed i known .1) in (p .0 .0, p .0 .1, p .1 .1)
 
-  -- "A run moves j from 0 to k and is a path of l + j", of the run with a number
+  -- the run with a number is in the train's list
+  run-listed : (r : ℕ) → r < length (getD (runLists b) i []) → List·Memᴰ (runAt (runLists b) i r) (runsOf b (trainAt b i))
+  unfolding runAt
+  run-listed r l =
+      let run = getD (getD (runLists b) i []) r [] in
+      subst (λ (runs : List (List ℕ)). List·Memᴰ run runs) (runs-at b i known) (getD-mem (getD (runLists b) i []) r [] l)
+
+  -- "A run moves j from 0 to k and is a path of l + j"
   pub run-moves : (r : ℕ) → r < length (getD (runLists b) i [])
       → (j : ℕ) × (j ≤ speedInSegments b (trainAt b i)) × (length (runAt (runLists b) i r) ≡ trainLength b i + j)
-  unfolding runAt trainLength
-  run-moves r l =
-      let run = getD (getD (runLists b) i []) r [] in
-      let m = subst (λ (runs : List (List ℕ)). List·Memᴰ run runs) (runs-at b i known) (getD-mem (getD (runLists b) i []) r [] l) in
-      runs-iff b (trainAt b i) (train-reach .0) run .0 m .2
+  unfolding trainLength
+  run-moves r l = runs-iff b (trainAt b i) (train-reach .0) _ .0 (run-listed r l) .2
+
+  -- the front of the place where it ends is a directed segment of the book
+  pub front-known : (r : ℕ) → r < length (getD (runLists b) i [])
+      → lastOr 0 (endPlace (trainLength b i) (runAt (runLists b) i r)) < 2 * length (b .segments)
+  unfolding endPlace trainLength
+  front-known r l =
+      let run = runAt (runLists b) i r in
+      let j = run-moves r l in
+      let some : 1 ≤ length run = omega (arith, train-reach .0, j .2) in
+      let inside = runs-iff b (trainAt b i) (train-reach .0) run .0 (run-listed r l) .1 in
+      let front = all-at (inBook b) run (length run - 1) 0 inside (omega arith) in
+      rw (last-drop (length run - trainLength b i) 0 run (omega (arith, train-reach .0, j .2)), last-at run 0 0 some)
+      (ltb-iff _ _ .0 front)

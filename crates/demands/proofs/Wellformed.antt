@@ -1,8 +1,9 @@
 -- What the later proofs need of a well-formed book, said of its instance: `Sound`. The main theorem is `sound`.
 -- Assumes nothing.
 use mathlib.Core.Path.{_≡_, refl}
-use mathlib.Core.Bool.{Bool, true, false, not, _&&_}
-use Prim.Native.Nat.{ℕ, zero, suc, _+_, _*_, _-_, _/_, _≤_, _<_}
+use mathlib.Core.Logic.{_↔_, _⊎_, inl, inr}
+use mathlib.Core.Bool.{Bool, true, false, not, _&&_, cond}
+use Prim.Native.Nat.{ℕ, zero, suc, _+_, _*_, _-_, _/_, _%_, _≤_, _<_}
 use native.Mathlib.Nat.{not-suc-le-zero, le-of-suc-le-suc}
 use native.Mathlib.Omega.{arith}
 use mathlib.Core.List.{List, [], _∷_, _++_, map, List·Memᴰ, Memᴰ·of-map}
@@ -10,11 +11,11 @@ use lib.ListN.{length, getD}
 use lib.Dec.{T, leb, ltb, eqb}
 use Rattle.spec.specs.Lists.{all, upTo, only, one, pick, empty, passes, faultless}
 use Rattle.spec.specs.Frames.{bookFormat}
-use Rattle.spec.specs.Book.{Book, Train, greatestNodeKind, nodeKindAt, trainAt, callsOf, noCall, deniesBorder, forcesBorder, segmentOf, lengthInSegments}
+use Rattle.spec.specs.Book.{Book, Train, greatestNodeKind, nodeKindAt, segmentAt, trainAt, callsOf, noCall, isExit, deniesBorder, forcesBorder, segmentOf, endNode, lengthInSegments}
 use Rattle.spec.specs.Runs.{directed, goesOn, extend, pathsOf, runsOf}
 use Rattle.spec.specs.Read.{wellFormed, growing, bookFaults, headFits, segmentFits, joinFits, joinsOnce, trainFits, reachFits, placeFits, trainAllFits, callFits, between, maxNodes, maxSegments, maxJoins, maxTrains, maxCalls, maxRuns}
 use Rattle.spec.specs.Instance.{Instance, instanceOf, compile, runLists, runAt, callAt}
-use Rattle.laws.proofs.Tests.{and-iff, neither-iff, eqb-iff, ltb-iff, leb-iff, all-iff, all-upTo, all-at}
+use Rattle.laws.proofs.Tests.{and-iff, or-iff, neither-iff, eqb-iff, ltb-iff, leb-iff, all-iff, all-upTo, all-at}
 use Rattle.demands.proofs.Growing.{Few, growing-parts, none-iff, all-weaken, not-above}
 use Rattle.laws.proofs.Rows.{all-append, all-cons, all-each}
 
@@ -140,6 +141,11 @@ pub runs-at : (b : Book) (i : ℕ) → i < length (b .trains) → getD (runLists
 unfolding runLists trainAt
 runs-at b i l = map-at (runsOf b) (b .trains) i noTrain [] l
 
+-- either of two numbers below a bound
+either-below : (c : Bool) {x y n : ℕ} → x < n → y < n → cond c x y < n
+either-below true l k = l
+either-below false l k = k
+
 module _ (b : Book) (h : T (wellFormed b)) where
   -- 6, 7, 8 and 11 find nothing wrong with a train
   pub train-fits : (i : ℕ) → i < length (b .trains)
@@ -149,6 +155,14 @@ module _ (b : Book) (h : T (wellFormed b)) where
   train-fits i l =
       let p = simp (and-iff, leb-iff) at (all-at _ (b .trains) i noTrain (parts b h .trains) l) in
       (p .0 .0 .0, p .0 .0 .1, p .0 .1, p .1)
+
+  -- a directed segment ends at a node of the book
+  pub end-known : (d : ℕ) → d < 2 * length (b .segments) → endNode b d < length (b .nodes)
+  unfolding endNode segmentAt segmentOf segmentFits
+  end-known d l =
+      let fits = all-at (segmentFits b) (b .segments) (d / 2) (record { a = 0; b = 0; ttd = 0 }) (parts b h .segments) (omega arith) in
+      let s = simp (and-iff, ltb-iff) at fits in
+      either-below (eqb (d % 2) 0) (s .0 .0 .1) (s .0 .0 .0)
 
   -- a train departs before T
   train-departs : (i : ℕ) → i < length (b .trains) → trainAt b i .departure < b .intervals
@@ -175,9 +189,17 @@ module _ (b : Book) (h : T (wellFormed b)) where
       let e : p .0 / 2 ≡ s = p .2 in
       omega arith
 
+-- "denied as for kind 0": kinds 0 and 3 have no border
+pub denied-iff : (kind : ℕ) → T (deniesBorder kind) ↔ (kind ≡ 0) ⊎ (kind ≡ 3)
+unfolding deniesBorder isExit
+denied-iff kind = (
+  (λ h. elim (or-iff (eqb kind 0) (eqb kind 3) .0 h) [ inl e ↦ inl (eqb-iff kind 0 .0 e) | inr e ↦ inr (eqb-iff kind 3 .0 e) ]),
+  (λ h. or-iff (eqb kind 0) (eqb kind 3) .1 (elim h [ inl e ↦ inl (eqb-iff kind 0 .1 e) | inr e ↦ inr (eqb-iff kind 3 .1 e) ])),
+)
+
 -- The instance of a well-formed book is sound.
 pub sound : (b : Book) → T (wellFormed b) → Sound (instanceOf b)
-unfolding instanceOf compile deniesBorder forcesBorder
+unfolding instanceOf compile forcesBorder
 sound b h = record {
   departs = train-departs b h;
   fewRuns = λ i l. rw (runs-at b i l) (train-fits b h i l .3);
@@ -185,5 +207,6 @@ sound b h = record {
   ordered = λ i c l k. call-sound b h i c k .0;
   windows = λ i c l k. call-sound b h i c k .1;
   kinds = λ n l d f.
-      let e = eqb-iff (nodeKindAt b n) 0 .0 d in let g = eqb-iff (nodeKindAt b n) 2 .0 f in omega arith;
+      let g = eqb-iff (nodeKindAt b n) 2 .0 f in
+      elim (denied-iff (nodeKindAt b n) .0 d) [ inl e ↦ omega arith | inr e ↦ omega arith ];
 }

@@ -1,14 +1,16 @@
--- What the theorems of demands 1 to 3, and of l and k, claim beside the definitions of the specification. Assumes nothing.
+-- What the theorems of demands 1 to 3, of l and k, and of exits claim beside the definitions of the specification. Assumes nothing.
 use mathlib.Core.Path.{_≡_}
+use mathlib.Core.Logic.{_⊎_}
 use mathlib.Core.Bool.{Bool}
 use Prim.Native.Nat.{ℕ, _+_, _*_, _-_, _≤_, _<_}
 use mathlib.Core.List.{List, [], _∷_, _++_, map, List·Memᴰ}
 use lib.ListN.{length, drop}
 use lib.Dec.{T, eqb}
-use Rattle.spec.specs.Lists.{Bytes, Verdict, accepted, refused}
-use Rattle.spec.specs.Book.{Book, Train}
-use Rattle.spec.specs.Instance.{Instance}
-use Rattle.spec.specs.Plan.{Plan, isGone, runs, isMove}
+use Rattle.spec.specs.Lists.{Bytes, one, Verdict, accepted, refused}
+use Rattle.spec.specs.Book.{Book, Train, nodeKindAt, trainAt, goalOf, segmentOf, endNode}
+use Rattle.spec.specs.Runs.{endPlace}
+use Rattle.spec.specs.Instance.{Instance, trainLength, runLists, runAt}
+use Rattle.spec.specs.Plan.{Plan, Move, run, gone, isGone, runs, isMove}
 use Rattle.spec.specs.Formula.{borderVar, runVar, goneVar, formula, variables}
 use Rattle.spec.specs.Refutation.{ProofStep, Lent, fileOf, InFields, GoodSteps, clausesFit}
 use Rattle.spec.specs.Entry.{formulaFits}
@@ -67,6 +69,32 @@ pub record Reach (b : Book) (t : Train) (l k : ℕ) : Type 0 where
   pub speedNearest : Nearest (t .speed * b .intervalSeconds * 5) (18 * b .segmentMetres) k
   pub lengthWithin : Within 1 8 l
   pub speedWithin : Within 1 8 k
+
+-- ---- exits
+
+-- P4: "its end contains the goal and its front segment ends at an exit", of a run of train i, rear first: one of its last l directed
+-- segments is on the goal's segment, and the very last one ends at a node of kind 3.
+pub record Leaves (b : Book) (i : ℕ) (run : List ℕ) : Type 0 where
+  pub goal : (d : ℕ) × List·Memᴰ d (endPlace (trainLength b i) run) × (segmentOf d ≡ goalOf b i .segment)
+  pub exit : (behind : List ℕ) × (front : ℕ) × (run ≡ behind ++ one front) × (nodeKindAt b (endNode b front) ≡ 3)
+
+-- "A book without exits": no node of kind 3
+abbrev pub WithoutExits : Book → Type 0
+WithoutExits b = (n : ℕ) → n < length (b .nodes) → nodeKindAt b n ≡ 3 → ⊥
+
+-- Rule 3 of a train's moves, as the texts have it: "Gone only after d, after gone or after a run" that gone may follow. "After gone, gone."
+pub record LeavesRightly (b : Book) (i : ℕ) (move : ℕ → Move) : Type 0 where
+  pub afterDeparture : (t : ℕ) → t ≤ trainAt b i .departure → move t ≡ gone → ⊥
+  pub afterRun : (t : ℕ) → t + 1 < b .intervals → move (t + 1) ≡ gone
+      → (move t ≡ gone) ⊎ ((r : ℕ) × (move t ≡ run r) × Leaves b i (runAt (runLists b) i r))
+  pub afterGone : (t : ℕ) → t + 1 < b .intervals → move t ≡ gone → move (t + 1) ≡ gone
+
+-- What P4 says of a plan: rule 3 of each train, and "A book without exits keeps every train to the last interval": it has a run in each
+-- interval from its departure on.
+pub record Stays (b : Book) (p : Plan) : Type 0 where
+  pub leaving : (i : ℕ) → i < length (b .trains) → LeavesRightly b i (p .move i)
+  pub remaining : WithoutExits b → (i : ℕ) → i < length (b .trains) → (t : ℕ) → trainAt b i .departure ≤ t → t < b .intervals
+      → (r : ℕ) × (p .move i t ≡ run r)
 
 -- ---- run lists
 

@@ -6,7 +6,6 @@ use native.Mathlib.Omega.{arith}
 use native.Mathlib.Nat.{add-zero}
 use mathlib.Core.List.{List, map}
 use lib.ListN.{length, getD, length-map, List·getD-map}
-use lib.Seq.{take-all}
 use Rattle.model.specs.declared.Book.{Book as BookStruct}
 use Rattle.spec.specs.Lists.{Bytes, lastOr}
 use Rattle.spec.specs.Book.{segmentOf}
@@ -17,16 +16,12 @@ use Rattle.spec.specs.Held.{held}
 use Rattle.layout.specs.declared.moves.Move.{Move}
 use Rattle.layout.specs.Moves.{heldMove}
 use Rattle.listing.specs.Listed.{placeAt, startAt}
-use Rattle.listing.proofs.Leaves.{last-take}
+use Rattle.laws.proofs.Last.{last-at}
 use Rattle.listing.proofs.Successors.{getD-slice}
 use Rattle.tables.specs.Placed.{sizeAt, runHeld}
 use Rattle.demands.proofs.RunLists.{train-reach}
 use Rattle.tables.proofs.Here.{in-instance}
 use Rattle.plan_rules.specs.Kept.{TrainReady}
-
--- the last of a row that is not empty
-last-at : (xs : List ℕ) → 1 ≤ length xs → lastOr 0 xs ≡ getD xs (length xs - 1) 0
-last-at xs h = ap (lastOr 0) (sym (take-all (length xs) xs (omega arith))) ∙ last-take xs (length xs) 0 0 h (omega arith)
 
 -- the segment at a place of a path
 segment-at : (ds : List ℕ) (j : ℕ) → getD (map segmentOf ds) j 0 ≡ getD ds j 0 / 2
@@ -53,7 +48,7 @@ module _ {b : BookStruct} {i l : ℕ} {runs : Bytes} (h : TrainReady b i l runs)
   front : lastOr 0 (map segmentOf path) ≡ getD runs (startAt r + sizeAt runs r - 1) 0 / 2
   front =
       let size : length (map segmentOf path) ≡ sizeAt runs r = length-map path segmentOf ∙ sym (h .table .size r k) in
-      last-at (map segmentOf path) (omega (arith, size, run-some))
+      last-at (map segmentOf path) 0 0 (omega (arith, size, run-some))
       ∙ ap (λ (n : ℕ). getD (map segmentOf path) (n - 1) 0) size
       ∙ segment-at path (sizeAt runs r - 1)
       ∙ ap (λ (d : ℕ). d / 2) (path-at (sizeAt runs r - 1) (omega (arith, run-some)))

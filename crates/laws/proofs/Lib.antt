@@ -1,5 +1,6 @@
 pub mod Tests
 pub mod Rows
+pub mod Last
 pub mod Numbers
 pub mod Frames
 pub mod Parts

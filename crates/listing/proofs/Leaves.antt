@@ -60,21 +60,6 @@ module _ {ℓ} {A : Type ℓ} where
 
 -- ---- a path by value
 
--- the last element of a row that has grown, and of the first n of an array
-module _ {ℓ} {A : Type ℓ} where
-  pub last-append : (xs : List A) (z x : A) → lastOr z (xs ++ one x) ≡ x
-  unfolding lastOr
-  last-append [] z x = refl
-  last-append (y ∷ xs) z x = last-append xs y x
-
-  pub last-take : (xs : List A) (n : ℕ) (z d : A) → 1 ≤ n → n ≤ length xs → lastOr z (take n xs) ≡ getD xs (n - 1) d
-  last-take xs n z d some fits =
-      let e : n ≡ suc (n - 1) = omega arith in
-      let l : n - 1 < length xs = omega arith in
-      ap (λ (k : ℕ). lastOr z (take k xs)) e
-      ∙ ap (lastOr z) (take-suc xs (n - 1) d l)
-      ∙ last-append (take (n - 1) xs) z (getD xs (n - 1) d)
-
 -- the path that holds a row, and the path that holds one more
 pub path-next : (p : Path) (ds : List ℕ) (d : ℕ) → p ≡ packedPath ds → p .n < 16
     → _≡_ {A = Path} (record { at = set (p .at) (p .n) d; n = p .n + 1 }) (packedPath (ds ++ one d))

@@ -20,7 +20,8 @@ use Rattle.laws.proofs.Parts.{Part, part-here, part-behind, part-in, part-at, e
 use Rattle.listing.specs.Listed.{successorsBy, SuccessorsHeld, Covered, extendBy, pathsBy}
 use Rattle.listing.specs.Listed.{placeAt, placeIn, placesIn, PlacesCovered, longerBy, furtherBy}
 use Rattle.listing.specs.Listed.{trainBytes, entryAt, entryOf, runsAfter, countAfter}
-use Rattle.listing.proofs.Leaves.{last-append, part-sets, part-slice}
+use Rattle.laws.proofs.Last.{last-append}
+use Rattle.listing.proofs.Leaves.{part-sets, part-slice}
 use Rattle.listing.proofs.Lists.{short, unless, unless-all, onward, each-nothing, each-next, each-short, extend-short}
 use Rattle.listing.proofs.Lists.{kept-first, length-entry, length-entries, Listed}
 use Rattle.listing.proofs.Successors.{paths-same, successors-below, place-short, place-stays}

@@ -23,7 +23,8 @@ use Rattle.laws.proofs.Arrays.{padded-next}
 use Rattle.laws.proofs.Parts.{length-upTo, each-append, each-same, map-at}
 use Rattle.listing.specs.Listed.{successors, successorTable, fanWidths, successorsBy, SuccessorsHeld, Covered, extendBy, pathsBy}
 use Rattle.listing.specs.Listed.{entryAt, entryOf, placeAt, placeIn, keptOf, runsAfter}
-use Rattle.listing.proofs.Leaves.{last-append, part-slice, part-sets}
+use Rattle.laws.proofs.Last.{last-append}
+use Rattle.listing.proofs.Leaves.{part-slice, part-sets}
 use Rattle.laws.proofs.Stores.{getD-sets-in}
 use Rattle.listing.proofs.Lists.{each-nothing, each-next, unless, onward, held-segments}
 

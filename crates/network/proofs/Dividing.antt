@@ -9,7 +9,7 @@ use native.Mathlib.Omega.{arith}
 use borrow.Author.Tests.{eqb-false, eq-eqb, ne-eqb}
 use mathlib.Core.List.{List}
 use lib.ListN.{length, getD, set, replicate, length-set, length-take}
-use lib.Seq.{getD-set-same, getD-set-other, getD-take}
+use lib.Seq.{getD-set-same, getD-set-other}
 use lib.Dec.{T, eqb, eqb-refl, eqb→eq}
 use lib.Arith.{lt-of-le-ne}
 use Rattle.model.specs.declared.Book.{Book as BookStruct}
@@ -20,7 +20,7 @@ use Rattle.spec.specs.Held.{held, zeroSegment}
 use Rattle.laws.proofs.Tests.{meaning, and-iff, or-iff, eqb-iff, any-upTo, bool-ext, le-or-lt, decide, true-of, denied-of, all-at}
 use Rattle.laws.proofs.Rows.{any-append, any-one}
 use Rattle.laws.proofs.Parts.{upTo-suc}
-use Rattle.network.proofs.Held.{segment-at}
+use Rattle.network.proofs.Held.{kind-at, segment-at}
 
 -- a segment's ends are what it touches
 touches-a : (s : Segment) → T (touches s (s .a))
@@ -204,9 +204,9 @@ module _ (b : BookStruct) (ttd i : ℕ) (l : i < b .«segment_count») (room : b
 
   module _ (marks : List ℕ) (known : Marks b ttd i marks) where
     open-at : (m : ℕ) → m < b .«node_count» → opens (held b) ttd i m ≡ openHere b marks m
-    unfolding opens nodeKindAt held
+    unfolding opens
     open-at m h =
-        ap (λ (k : ℕ). not (deniesBorder k) && touched (held b) ttd i m) (getD-take (b .«node_count») (b .nodes) m 0 h)
+        ap (λ (k : ℕ). not (deniesBorder k) && touched (held b) ttd i m) (kind-at b m h)
         ∙ ap (λ (t : Bool). not (deniesBorder (getD (b .nodes) m 0)) && t) (sym (known m))
 
     pub hits-here : hits (held b) ttd i ≡ (eqb (x .ttd) ttd && (openHere b marks (x .a) || openHere b marks (x .b)))

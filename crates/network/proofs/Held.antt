@@ -8,12 +8,16 @@ use lib.ListN.{getD}
 use lib.Seq.{getD-take}
 use lib.Dec.{eqb}
 use Rattle.model.specs.declared.Book.{Book as BookStruct}
-use Rattle.spec.specs.Book.{Segment, segmentAt, segmentOf, startNode, touches, shareNode}
+use Rattle.spec.specs.Book.{Segment, nodeKindAt, segmentAt, segmentOf, startNode, touches, shareNode}
 use Rattle.spec.specs.Held.{held, zeroSegment}
 
 pub segment-at : (b : BookStruct) (s : ℕ) → s < b .«segment_count» → segmentAt (held b) s ≡ getD (b .segments) s zeroSegment
 unfolding segmentAt held
 segment-at b s h = getD-take (b .«segment_count») (b .segments) s zeroSegment h
+
+pub kind-at : (b : BookStruct) (n : ℕ) → n < b .«node_count» → nodeKindAt (held b) n ≡ getD (b .nodes) n 0
+unfolding nodeKindAt held
+kind-at b n h = getD-take (b .«node_count») (b .nodes) n 0 h
 
 -- where a directed segment begins, by the element of its segment
 pub start-at : (b : BookStruct) (d : ℕ) → d < 2 * b .«segment_count»

@@ -21,11 +21,18 @@ ghost use Rattle.spec.specs.Runs as runs;
 ghost use Rattle.spec.specs.Read.{maxJoins, maxReach};
 ghost use Rattle.spec.specs.Held.{held, heldTrain, CountsFit, NumbersFit};
 
+// Whether a node of this kind is an exit.
+fn is_exit(kind: u8) -> bool
+    ensures { λ r. ⌜ r ≡ book.isExit kind ⌝ }
+{
+    kind == 3
+}
+
 // Whether a node of this kind may never have a border.
 pub fn denies_border(kind: u8) -> bool
     ensures { λ r. ⌜ r ≡ book.deniesBorder kind ⌝ }
 {
-    kind == 0
+    kind == 0 || is_exit(kind)
 }
 
 // Whether a node of this kind always has a border.
@@ -68,6 +75,15 @@ pub fn end_node(b: Book, d: usize) -> usize
     } else {
         wide(b.segments[s].a)
     }
+}
+
+// Whether a directed segment ends at an exit.
+pub fn ends_at_exit(b: Book, d: usize) -> bool
+    requires { ⌜ CountsFit b × (d < 2 * b .«segment_count») × (book.endNode (held b) d < b .«node_count») ⌝ }
+    ensures { λ r. ⌜ r ≡ book.isExit (book.nodeKindAt (held b) (book.endNode (held b) d)) ⌝ }
+{
+    let node = end_node(b, d);
+    is_exit(b.nodes[node])
 }
 
 // Whether the join is of these two segments at this node, in either order.

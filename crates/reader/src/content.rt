@@ -120,7 +120,7 @@ pub fn add_node(b: Book, p: &[u8]) -> Added
         return refused(b, 5);
     }
     let kind = p[0];
-    if 2 < kind {
+    if 3 < kind {
         return refused(b, 6);
     }
     let mut next = b;

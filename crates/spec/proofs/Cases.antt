@@ -10,10 +10,10 @@ use lib.Dec.{eqb}
 use Rattle.spec.specs.Lists.{Bytes, Verdict, accepted, refused, one, count, upTo, range, each, only, all, any, pick, empty, lastOr, same, has, different, sumTo, leastFrom, firstFault, andThen}
 use Rattle.spec.specs.Numbers.{littleEndian, number, field, signed, unsigned, digits, decimal, inDigits, aligned, decimalZ, nearest}
 use Rattle.spec.specs.Frames.{frame, payloadLength, kindField, payloadOf, behind, cutShort, kindNumber, isKind, stepKind, kindOrder, findKind, rankIn, rank, lengthFits, stepLengthFits}
-use Rattle.spec.specs.Book.{noBook, nodeKindAt, segmentAt, trainAt, callsOf, noCall, goalOf, deniesBorder, forcesBorder, greatestNodeKind, touches, shareNode, segmentOf, startNode, endNode, joinIs, joined, lengthInSegments, speedInSegments}
+use Rattle.spec.specs.Book.{noBook, nodeKindAt, segmentAt, trainAt, callsOf, noCall, goalOf, isExit, deniesBorder, forcesBorder, greatestNodeKind, touches, shareNode, segmentOf, startNode, endNode, joinIs, joined, lengthInSegments, speedInSegments}
 use Rattle.spec.specs.Runs.{leadsTo, linked, isPath, directed, goesOn, extend, pathsOf, runsOf, startPlace, endPlace, contains}
 use Rattle.spec.specs.Read.{segmentIn, joinIn, trainIn, callIn, grown, between, headFits, segmentFits, joinFits, joinRepeats, trainFits, reachFits, placeFits, callFits, someHas, mayDivide, contentFaults, add, readingStart, isHead, isEnd, unknownKind, outOfOrder, kindFaults, frameFaults, addFound, pastFrame, bookFaults, refuseOr, frameReadAt, readFrame, readFrom, readAs, readBook}
-use Rattle.spec.specs.Instance.{placeServes, mayLeave, trainLength, runAt, callAt, compile, runLists, instanceOf, inWindow, servedAtDeparture}
+use Rattle.spec.specs.Instance.{placeServes, endsAtExit, mayLeave, trainLength, runAt, callAt, compile, runLists, instanceOf, inWindow, servedAtDeparture}
 use Rattle.spec.specs.Sections.{neighbours, togetherBelow, together, sectionLabels, shareSection}
 use Rattle.spec.specs.Plan.{isAbsent, isGone, runs, ifRun, ofRun, moveCode, moveOf, bit, planBytes, planLength, moveAt, planOf, isBit, isMove, planFits, rule1, absentBefore, departs, rule2, leavesRightly, rule3, runsOn, rule4, keepsCalls, servedBy, rule5, rule6, ruleFaults, brokenRule, keepsRules}
 use Rattle.spec.specs.Extra.{extraVariables, extraClauses, extraCondition, extraValues}
@@ -143,11 +143,11 @@ tripleBook lastNode =
     ++ segmentFrame 0 1 ++ segmentFrame 1 2 ++ segmentFrame 2 lastNode
     ++ trainFrame 80 36 (0 ∷ []) ++ callFrame 0 0 1 ++ endFrame
 
--- Two trains that must pass over two joined segments of one TTD, with three intervals: train 1 stands on segment 1 and leaves,
--- train 0 departs in interval 1 from segment 0 and calls on segment 1, in N at time 1 or 2.
+-- Two trains that must pass over two joined segments of one TTD, with three intervals: train 1 stands on segment 1 and leaves over
+-- the exit at node 2, train 0 departs in interval 1 from segment 0 and calls on segment 1, in N at time 1 or 2.
 passingBook : ℕ → ℕ → Bytes
 passingBook first last =
-    headWith 3 ++ nodeFrame 0 ++ nodeFrame 1 ++ nodeFrame 0 ++ segmentFrame 0 1 ++ segmentFrame 1 2 ++ joinFrame
+    headWith 3 ++ nodeFrame 0 ++ nodeFrame 1 ++ nodeFrame 3 ++ segmentFrame 0 1 ++ segmentFrame 1 2 ++ joinFrame
     ++ trainFrom 1 80 36 (0 ∷ []) ++ trainFrame 80 36 (2 ∷ []) ++ callOf 0 1 first last ++ callOf 1 1 0 0 ++ endFrame
 
 bookN : Bytes
@@ -173,10 +173,26 @@ facingBook =
     headFrame ++ nodeFrame 0 ++ nodeFrame 1 ++ nodeFrame 0 ++ segmentFrame 0 1 ++ segmentFrame 1 2 ++ joinFrame
     ++ trainFrame 80 36 (0 ∷ []) ++ trainFrame 80 36 (3 ∷ []) ++ callOf 0 1 0 1 ++ callOf 1 0 0 1 ++ endFrame
 
--- One train with two calls, on segment 0 and, its goal, on segment 1
+-- Two joined segments, the three nodes of these kinds, two intervals, and a train as long as its place, with its goal
+leavingBook : ℕ → List ℕ → List ℕ → ℕ → Bytes
+leavingBook departure kinds place goal =
+    headWith 2 ++ each kinds nodeFrame ++ segmentFrame 0 1 ++ segmentFrame 1 2 ++ joinFrame
+    ++ trainFrom departure (100 * length place) 36 place ++ callFrame goal 0 2 ++ endFrame
+
+-- With a train of one segment that departs in interval 0 from segment 0, its goal
+platform : List ℕ → Bytes
+platform kinds = leavingBook 0 kinds (0 ∷ []) 0
+
+-- The same as an old book
+oldPlatform : List ℕ → Bytes
+oldPlatform kinds =
+    oldHead 2 ++ each kinds nodeFrame ++ segmentFrame 0 1 ++ segmentFrame 1 2 ++ joinFrame
+    ++ frame 5 (100 ∷ 0 ∷ 36 ∷ 0 ∷ 0 ∷ 1 ∷ 0 ∷ []) ++ frame 6 (0 ∷ 0 ∷ 0 ∷ 2 ∷ []) ++ endFrame
+
+-- One train with two calls, on segment 0 and, its goal, on segment 1; between them an exit
 callingBook : Bytes
 callingBook =
-    headWith 2 ++ nodeFrame 0 ++ nodeFrame 0 ++ nodeFrame 0 ++ segmentFrame 0 1 ++ segmentFrame 1 2 ++ joinFrame
+    headWith 2 ++ nodeFrame 0 ++ nodeFrame 3 ++ nodeFrame 0 ++ segmentFrame 0 1 ++ segmentFrame 1 2 ++ joinFrame
     ++ trainFrame 80 36 (0 ∷ []) ++ callFrame 0 0 2 ++ callFrame 1 0 2 ++ endFrame
 
 -- Segments of two TTDs at node 1; node 0 is of kind 2
@@ -236,6 +252,13 @@ decodes s a n = answered (checkAssignment s a n) text
 
 encodes : Bytes → Bytes → ℕ → Answer
 encodes s p n = answered (checkPlan s p n) text
+
+-- the plan of a train that stands for an interval, by its run 0, and is gone; and as an assignment of one that has six runs
+standsAndGoes : Bytes
+standsAndGoes = 0 ∷ 0 ∷ 0 ∷ 0 ∷ 0 ∷ 255 ∷ 255 ∷ []
+
+goneAssigned : Bytes
+goneAssigned = 0 ∷ 0 ∷ 0 ∷ 1 ∷ 0 ∷ 0 ∷ 0 ∷ 0 ∷ 0 ∷ 0 ∷ 1 ∷ 1 ∷ 0 ∷ 0 ∷ 0 ∷ 0 ∷ 0 ∷ 0 ∷ 1 ∷ 0 ∷ 0 ∷ []
 
 draws : Bytes → Bytes → ℕ → Answer
 draws s p n = answered (printGraph s p n) text
@@ -378,6 +401,37 @@ further =
     -- 16: a run before the departure breaks rule 2, gone away from the goal rule 3
     ∷ record { asked = encodes bookN (0 ∷ 1 ∷ 0 ∷ 0 ∷ 0 ∷ 4 ∷ 0 ∷ 2 ∷ 0 ∷ 2 ∷ 0 ∷ 255 ∷ 255 ∷ 255 ∷ 255 ∷ []) 57; answer = refusal 16 2 }
     ∷ record { asked = encodes bookN (0 ∷ 1 ∷ 0 ∷ 254 ∷ 255 ∷ 0 ∷ 0 ∷ 255 ∷ 255 ∷ 2 ∷ 0 ∷ 255 ∷ 255 ∷ 255 ∷ 255 ∷ []) 57; answer = refusal 16 3 }
+    -- P4. A goal reached, then gone: not without an exit, not with one behind the train or where another segment ends, and at the end of
+    -- the segment where the train stands, in mid line; but not there if the goal is elsewhere
+    ∷ record { asked = encodes (platform (0 ∷ 0 ∷ 0 ∷ [])) standsAndGoes 21; answer = refusal 16 3 }
+    ∷ record { asked = encodes (platform (3 ∷ 0 ∷ 0 ∷ [])) standsAndGoes 21; answer = refusal 16 3 }
+    ∷ record { asked = encodes (platform (0 ∷ 0 ∷ 3 ∷ [])) standsAndGoes 21; answer = refusal 16 3 }
+    ∷ record { asked = encodes (platform (0 ∷ 3 ∷ 0 ∷ [])) standsAndGoes 21; answer = text goneAssigned }
+    ∷ record { asked = encodes (leavingBook 0 (0 ∷ 3 ∷ 0 ∷ []) (0 ∷ []) 1) standsAndGoes 21; answer = refusal 16 3 }
+    -- a train of two segments: the exit is where its front ends and not where its rear does, the goal anywhere in its place
+    ∷ record {
+      asked = encodes (leavingBook 0 (0 ∷ 0 ∷ 3 ∷ []) (0 ∷ 2 ∷ []) 0) standsAndGoes 13;
+      answer = text (0 ∷ 0 ∷ 0 ∷ 1 ∷ 0 ∷ 0 ∷ 1 ∷ 1 ∷ 0 ∷ 0 ∷ 1 ∷ 0 ∷ 0 ∷ []);
+    }
+    ∷ record { asked = encodes (leavingBook 0 (0 ∷ 3 ∷ 0 ∷ []) (0 ∷ 2 ∷ []) 0) standsAndGoes 13; answer = refusal 16 3 }
+    -- T = d + 1: the train has its run of interval d, and cannot be gone in its place
+    ∷ record {
+      asked = encodes (leavingBook 1 (0 ∷ 3 ∷ 0 ∷ []) (0 ∷ []) 0) (0 ∷ 0 ∷ 0 ∷ 254 ∷ 255 ∷ 0 ∷ 0 ∷ []) 21;
+      answer = text (0 ∷ 0 ∷ 0 ∷ 0 ∷ 0 ∷ 0 ∷ 0 ∷ 0 ∷ 0 ∷ 0 ∷ 0 ∷ 0 ∷ 1 ∷ 0 ∷ 0 ∷ 0 ∷ 0 ∷ 0 ∷ 0 ∷ 1 ∷ 1 ∷ []);
+    }
+    ∷ record { asked = encodes (leavingBook 1 (0 ∷ 3 ∷ 0 ∷ []) (0 ∷ []) 0) (0 ∷ 0 ∷ 0 ∷ 254 ∷ 255 ∷ 255 ∷ 255 ∷ []) 21; answer = refusal 16 2 }
+    -- family E has gone where rule 3 has it, and an assignment is judged by it; also of an old book, rewritten
+    ∷ record { asked = clauseNumber 53 (platform (3 ∷ 0 ∷ 0 ∷ [])); answer = clause (negsuc 3 ∷ pos 13 ∷ pos 17 ∷ []) }
+    ∷ record { asked = clauseNumber 53 (platform (0 ∷ 3 ∷ 0 ∷ [])); answer = clause (negsuc 3 ∷ pos 13 ∷ pos 17 ∷ pos 19 ∷ []) }
+    ∷ record { asked = decodes (platform (3 ∷ 0 ∷ 0 ∷ [])) goneAssigned 7; answer = refusal 14 53 }
+    ∷ record { asked = decodes (platform (0 ∷ 3 ∷ 0 ∷ [])) goneAssigned 7; answer = text standsAndGoes }
+    ∷ record { asked = rewrites (oldPlatform (0 ∷ 3 ∷ 0 ∷ [])) 99; answer = text (platform (0 ∷ 3 ∷ 0 ∷ [])) }
+    ∷ record { asked = rewrites (oldPlatform (0 ∷ 4 ∷ 0 ∷ [])) 99; answer = refusal 6 0 }
+    -- an exit has no border: its variable is denied, a plan that sets it breaks rule 1, and it gives no 9; there is no kind 4
+    ∷ record { asked = clauseNumber 2 (platform (0 ∷ 3 ∷ 0 ∷ [])); answer = clause (one (negsuc 1)) }
+    ∷ record { asked = encodes (platform (0 ∷ 3 ∷ 0 ∷ [])) (0 ∷ 1 ∷ 0 ∷ 0 ∷ 0 ∷ 255 ∷ 255 ∷ []) 21; answer = refusal 16 1 }
+    ∷ record { asked = totalsOf (unbreakableBook 3) 0; answer = refusal 12 0 }
+    ∷ record { asked = totalsOf (platform (0 ∷ 4 ∷ 0 ∷ [])) 0; answer = refusal 6 0 }
     -- without a border each train claims the whole section
     ∷ record {
       asked = encodes bookN (0 ∷ 0 ∷ 0 ∷ 254 ∷ 255 ∷ 4 ∷ 0 ∷ 2 ∷ 0 ∷ 2 ∷ 0 ∷ 255 ∷ 255 ∷ 255 ∷ 255 ∷ []) 57;
@@ -431,7 +485,7 @@ further =
     ∷ record { asked = clauseNumber 152 (passingBook 3 3); answer = clause (pos 24 ∷ pos 25 ∷ pos 26 ∷ []) }
     -- a window that shuts before the departure: no refusal, and a clause that nothing satisfies
     ∷ record { asked = clauseNumber 152 (passingBook 0 0); answer = clause [] }
-    -- two calls of one train: the goal is the last, so that who ends on the first call's segment may not go
+    -- two calls of one train: the goal is the last, so that who ends on the first call's segment, at the exit, may not go
     ∷ record { asked = clauseNumber 53 callingBook; answer = clause (negsuc 3 ∷ pos 13 ∷ pos 17 ∷ []) }
     -- two TTDs at a node are two sections without a border
     ∷ record { asked = sections dividedBook 9; answer = rows ((0 ∷ []) ∷ (1 ∷ []) ∷ []) }
@@ -490,14 +544,14 @@ table = starred ++ (further ++ asked)
 
 pub cases : map (λ c. c .asked) table ≡ map (λ c. c .answer) table
 unfolding
-    table starred further asked answered sizes labels runShown runNumber meant variableNumber oldL bookL newL oldM oldHead oldAt oldTwice longBook time headWith headFrame trainFrom callOf passingBook bookN facingBook speedBook callingBook unbreakableBook refutedWith dividedBook totalsOf decodes encodes nodeFrame segmentFrame trainFrame callFrame endFrame pairBook joinFrame bookM tripleBook rewrites reach times runList sections oneSection clauseNumber emptyStep refuted
+    table starred further asked answered sizes labels runShown runNumber meant variableNumber oldL bookL newL oldM oldHead oldAt oldTwice longBook time headWith headFrame trainFrom callOf passingBook bookN facingBook speedBook leavingBook platform oldPlatform standsAndGoes goneAssigned callingBook unbreakableBook refutedWith dividedBook totalsOf decodes encodes nodeFrame segmentFrame trainFrame callFrame endFrame pairBook joinFrame bookM tripleBook rewrites reach times runList sections oneSection clauseNumber emptyStep refuted
     count upTo range each only all any pick empty lastOr same has different sumTo leastFrom firstFault andThen
     littleEndian number field signed unsigned digits decimal decimalZ nearest
     frame payloadLength kindField payloadOf behind cutShort kindNumber isKind stepKind kindOrder findKind rankIn rank lengthFits stepLengthFits
-    noBook nodeKindAt segmentAt trainAt callsOf noCall goalOf deniesBorder forcesBorder greatestNodeKind touches shareNode segmentOf startNode endNode joinIs joined lengthInSegments speedInSegments
+    noBook nodeKindAt segmentAt trainAt callsOf noCall goalOf isExit deniesBorder forcesBorder greatestNodeKind touches shareNode segmentOf startNode endNode joinIs joined lengthInSegments speedInSegments
     leadsTo linked isPath directed goesOn extend pathsOf runsOf startPlace endPlace contains
     segmentIn joinIn trainIn callIn grown between headFits segmentFits joinFits joinRepeats trainFits reachFits placeFits callFits someHas mayDivide contentFaults add readingStart isHead isEnd unknownKind outOfOrder kindFaults frameFaults addFound pastFrame bookFaults refuseOr frameReadAt readFrame readFrom readAs readBook
-    placeServes mayLeave trainLength runAt callAt compile runLists instanceOf inWindow servedAtDeparture
+    placeServes endsAtExit mayLeave trainLength runAt callAt compile runLists instanceOf inWindow servedAtDeparture
     neighbours togetherBelow together sectionLabels shareSection
     freeNodesOf sizesOf measureBook bordersFit labelledFor labelSections runAmong runAsked askRun meaningsIn meanings meaningOf askVariable
     isAbsent isGone runs ifRun ofRun moveCode moveOf bit planBytes planLength moveAt planOf isBit isMove planFits rule1 absentBefore departs rule2 leavesRightly rule3 runsOn rule4 keepsCalls servedBy rule5 rule6 ruleFaults brokenRule keepsRules

@@ -54,16 +54,20 @@ noCall = record { train = 0; segment = 0; first = 0; last = 0 }
 unfoldable pub goalOf : Book → ℕ → Call
 goalOf b i = lastOr noCall (callsOf b i)
 
--- Node kinds: "0 never, 1 may be set, 2 always set"
+-- Node kinds: "0 never, 1 may be set, 2 always set", and P4: "Node kind 3 is an exit without a border, and its variable is denied as
+-- for kind 0."
+unfoldable pub isExit : ℕ → Bool
+isExit kind = eqb kind 3
+
 unfoldable pub deniesBorder : ℕ → Bool
-deniesBorder kind = eqb kind 0
+deniesBorder kind = eqb kind 0 || isExit kind
 
 unfoldable pub forcesBorder : ℕ → Bool
 forcesBorder kind = eqb kind 2
 
 -- the greatest node kind that there is
 unfoldable pub greatestNodeKind : ℕ
-greatestNodeKind = 2
+greatestNodeKind = 3
 
 unfoldable pub touches : Segment → ℕ → Bool
 touches s n = eqb (s .a) n || eqb (s .b) n

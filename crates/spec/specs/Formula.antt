@@ -90,8 +90,8 @@ module _ (I : Instance) where
       (each (upTo (I .runs i)) λ r. only (not (I .given i r)) (one (one (not′ (runVariable x r)))))
       ++ one (one (not′ (goneVariable (I .runs i) x)))
 
-  -- E, of one run: it "implies a run starting at its end, in list order, or, last, gone if its end contains the goal"; y is the
-  -- first variable of the next interval
+  -- E, of one run: it "implies a run starting at its end, in list order, or, last, gone" if that may follow it (`mayLeave`, P4); y is
+  -- the first variable of the next interval
   unfoldable pub followersE : ℕ → ℕ → ℕ → List ℤ
   followersE i y r = each (upTo (I .runs i)) λ q. only (I .follows i r q) (one (is (runVariable y q)))
 

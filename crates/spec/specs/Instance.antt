@@ -5,9 +5,9 @@ use mathlib.Core.Bool.{Bool, _&&_}
 use Prim.Native.Nat.{ℕ, _-_}
 use mathlib.Core.List.{List, [], map}
 use lib.ListN.{length, getD}
-use Rattle.spec.specs.Lists.{same}
+use Rattle.spec.specs.Lists.{same, lastOr}
 use Rattle.spec.specs.Book.{Book, Call, nodeKindAt, trainAt, callsOf, noCall, goalOf}
-use Rattle.spec.specs.Book.{deniesBorder, forcesBorder, shareNode, segmentOf, lengthInSegments}
+use Rattle.spec.specs.Book.{isExit, deniesBorder, forcesBorder, shareNode, segmentOf, endNode, lengthInSegments}
 use Rattle.spec.specs.Runs.{runsOf, startPlace, endPlace, contains}
 use Rattle.spec.specs.Read.{between}
 
@@ -43,9 +43,13 @@ pub record Instance : Type 0 where
 unfoldable pub placeServes : Book → Call → List ℕ → Bool
 placeServes b c place = contains place (c .segment)
 
--- who may be gone: after "a run whose end place contains the goal's segment"
+-- "its front segment ends at an exit": a place is rear first, so its last directed segment is the front
+unfoldable pub endsAtExit : Book → List ℕ → Bool
+endsAtExit b place = isExit (nodeKindAt b (endNode b (lastOr 0 place)))
+
+-- who may be gone, P4: "Gone may follow a run only if its end contains the goal and its front segment ends at an exit."
 unfoldable pub mayLeave : Book → ℕ → List ℕ → Bool
-mayLeave b i place = placeServes b (goalOf b i) place
+mayLeave b i place = placeServes b (goalOf b i) place && endsAtExit b place
 
 -- a train's l, by its number
 unfoldable pub trainLength : Book → ℕ → ℕ

@@ -2,14 +2,14 @@
 -- the given one, whether it serves a call, whether the train may leave after it; and the kinds of nodes. Assumes nothing.
 use mathlib.Core.Path.{_≡_, sym, ap, ap₂, _∙_}
 use mathlib.Core.Bool.{Bool}
-use Prim.Native.Nat.{ℕ, _+_, _≤_, _<_}
+use Prim.Native.Nat.{ℕ, _+_, _*_, _≤_, _<_}
 use native.Mathlib.Omega.{arith}
 use mathlib.Core.List.{List, map}
 use lib.ListN.{length, getD, take, length-map, List·getD-append}
 use lib.Seq.{getD-take}
 use Rattle.model.specs.declared.Book.{Book as BookStruct}
 use Rattle.model.specs.declared.Train.{Train as TrainStruct}
-use Rattle.spec.specs.Lists.{Bytes, same}
+use Rattle.spec.specs.Lists.{Bytes, same, lastOr}
 use Rattle.spec.specs.Book.{Call, Train, nodeKindAt, trainAt, deniesBorder, forcesBorder}
 use Rattle.spec.specs.Runs.{startPlace, endPlace}
 use Rattle.spec.specs.Read.{placeFits}
@@ -17,8 +17,10 @@ use Rattle.spec.specs.Instance.{instanceOf, compile, runLists, runAt, callAt, t
 use Rattle.spec.specs.Held.{held, heldTrain, packed, packedTrain, padded}
 use Rattle.laws.proofs.Tests.{and-iff, eqb-iff}
 use Rattle.demands.proofs.Wellformed.{noTrain, map-at, train-fits}
+use Rattle.demands.proofs.RunLists.{train-reach, front-known}
+use Rattle.network.proofs.Held.{kind-at}
 use Rattle.listing.specs.Listed.{trainBytes, placeAt}
-use Rattle.reader.proofs.Packing.{trains-counted}
+use Rattle.reader.proofs.Packing.{segments-counted, trains-counted}
 use Rattle.tables.specs.Placed.{sizeAt, endAt}
 use Rattle.tables.specs.Tables.{Passed}
 use Rattle.tables.specs.Ready.{RunsHeld}
@@ -27,8 +29,7 @@ use Rattle.tables.specs.Ready.{RunsHeld}
 
 module _ (b : BookStruct) (n : ℕ) (h : n < b .«node_count») where
   kind-held : getD (b .nodes) n 0 ≡ nodeKindAt (held b) n
-  unfolding nodeKindAt held
-  kind-held = sym (getD-take (b .«node_count») (b .nodes) n 0 h)
+  kind-held = sym (kind-at b n h)
 
   pub denied-held : {test : Bool} → test ≡ deniesBorder (getD (b .nodes) n 0) → test ≡ instanceOf (held b) .denied n
   unfolding instanceOf compile
@@ -102,3 +103,17 @@ module _ (b : BookStruct) (i r : ℕ) {l : ℕ} (reached : l ≡ trainLength (he
 
     pub ending-held : placeAt runs (endAt runs r l) l ≡ endPlace l run
     ending-held = rw reached (h .ending r below)
+
+    -- what `places::may_leave` asks of the place that the run ends at
+    pub leave-asks : Passed b → i < b .«train_count» → {at : ℕ} → at ≡ endAt runs r l
+        → (1 ≤ l) × (at + l ≤ length runs) × (lastOr 0 (placeAt runs at l) < 2 * b .«segment_count»)
+    unfolding instanceOf compile
+    leave-asks p known {at} e =
+        let inside : i < length (held b .trains) = omega (arith, trains-counted (p .packed)) in
+        let front = front-known (held b) (p .formed) i inside r below in
+        let same-front : lastOr 0 (placeAt runs at l) ≡ lastOr 0 (endPlace (trainLength (held b) i) run) =
+        ap (λ (n : ℕ). lastOr 0 (placeAt runs n l)) e ∙ ap (lastOr 0) (ending-held ∙ ap (λ (k : ℕ). endPlace k run) reached) in (
+          rw reached (train-reach (held b) (p .formed) i inside .0),
+          end-inside runs r l at (h .long) (omega (arith, h .few)) least-held (h .most r below) e,
+          omega (arith, front, same-front, segments-counted (p .packed)),
+        )

@@ -6,11 +6,12 @@ use listing::ENTRY_BYTES;
 use model::Book;
 use model::Call;
 use model::Train;
+use network::track::ends_at_exit;
 ghost use mathlib.Core.Path.{_≡_};
 ghost use mathlib.Core.Bool.{_&&_};
-ghost use Prim.Native.Nat.{_+_, _≤_, _<_};
+ghost use Prim.Native.Nat.{_+_, _*_, _≤_, _<_};
 ghost use lib.ListN.{length};
-ghost use Rattle.spec.specs.Lists.{same};
+ghost use Rattle.spec.specs.Lists.{same, lastOr};
 ghost use Rattle.spec.specs.Book.{goalOf};
 ghost use Rattle.spec.specs.Runs as paths;
 ghost use Rattle.spec.specs.Read.{maxReach, maxRuns, between};
@@ -18,6 +19,7 @@ ghost use Rattle.spec.specs.Instance.{placeServes, mayLeave};
 ghost use Rattle.spec.specs.Held.{held, heldTrain};
 ghost use Rattle.listing.specs.Listed.{runSegments, trainBytes, placeAt, startAt};
 ghost use Rattle.tables.specs.Placed.{sizeAt, endAt};
+ghost use Rattle.tables.specs.Tables.{Passed};
 
 // Where the directed segments of the run with a number begin: the place that the run starts at.
 pub fn start_of(r: usize) -> usize
@@ -124,10 +126,12 @@ pub fn served_at_departure(b: Book, c: Call, t: Train) -> bool
     in_window(c, t.departure) && given_serves(b, c, t)
 }
 
-// Whether a train with this goal that ends at a place of l directed segments may be gone after that.
+// Whether a train with this goal that ends at a place of l directed segments may be gone after that: the
+// place serves the goal, and its last directed segment, the front, ends at an exit.
 pub fn may_leave(b: Book, train: usize, to: Call, table: &[u8], at: usize, l: usize) -> bool
-    requires { ⌜ (to ≡ goalOf (held b) train) × (at + l ≤ length (now table)) ⌝ }
+    requires { ⌜ Passed b × (to ≡ goalOf (held b) train) × (1 ≤ l) × (at + l ≤ length (now table))
+        × (lastOr 0 (placeAt (now table) at l) < 2 * b .«segment_count») ⌝ }
     ensures { λ r. ⌜ r ≡ mayLeave (held b) train (placeAt (now (table .entry)) at l) ⌝ }
 {
-    serves(b, to, table, at, l)
+    serves(b, to, table, at, l) && ends_at_exit(b, wide(table[at + l - 1]))
 }

@@ -14,7 +14,7 @@ use borrow.Fn.PlainCycle.{Measures, is, falls, and}
 use Rattle.spec.specs.Lists.{upTo, each, one, all, has, lastOr}
 use Rattle.spec.specs.Book.{segmentOf}
 use Rattle.listing.specs.Listed.{pathOf, successorsBy, Covered, extendBy}
-use Rattle.listing.proofs.Leaves.{last-append}
+use Rattle.laws.proofs.Last.{last-append}
 use Rattle.listing.proofs.Lists.{Listed, listed-none, listed-long, listed-next, listed-skip, listed-end}
 use Rattle.listing.proofs.Lists.{short, count-one, each-nothing, each-short, onward, onward-taken, onward-left, onward-short}
 use Rattle.listing.proofs.Lists.{extend-none, extend-more, path-of, path-size, path-packed}

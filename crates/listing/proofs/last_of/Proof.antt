@@ -5,7 +5,7 @@ use mathlib.Core.Path.{_≡_, sym, _∙_}
 use Prim.Native.Nat.{_≤_}
 use lib.ListN.{length}
 use Rattle.listing.specs.Listed.{pathOf}
-use Rattle.listing.proofs.Leaves.{last-take}
+use Rattle.laws.proofs.Last.{last-take}
 use Rattle.listing.proofs.last_of.Statement.{statement}
 use Rattle.listing.proofs.last_of.Tie as tie
 

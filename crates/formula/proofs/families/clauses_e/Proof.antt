@@ -18,8 +18,8 @@ use Rattle.demands.proofs.Words.{words-append}
 use Rattle.clauses.proofs.Turns.{words-row, Ahead, ahead-start, turn, turned}
 use Rattle.listing.specs.Listed.{placeAt}
 use Rattle.tables.specs.Placed.{sizeAt}
-use Rattle.tables.proofs.Answers.{end-inside, leaves-answer}
-use Rattle.tables.proofs.Held.{few-n, sizes-n, least-n, ending-n}
+use Rattle.tables.proofs.Answers.{leave-asks, leaves-answer}
+use Rattle.tables.proofs.Held.{few-n, least-n, ending-n}
 use Rattle.tables.proofs.Small.{width-is}
 use Rattle.formula.specs.Chained.{Chained}
 use Rattle.clauses.specs.Walked.{literalRoom}
@@ -96,10 +96,11 @@ module _ (c : tie.In-loop Inv-loop μ-loop) where
 may-leave-requires : tie.Need-may-leave-requires Inv-loop μ-loop
 may-leave-requires c κs =
     let i = c .before in
-    let p = first i .pre in (
-      i .before .before .goal .ensures,
-      end-inside _ _ _ _ (p .1 .long) (below i) (least i) (sizes-n (p .1) _ (p .0 .runs) _ (i .loop-test .taken)) (c .end-of .ensures),
-    )
+    let s = first i in
+    let h = s .pre .0 in
+    let own = rw (h .runs) at (i .loop-test .taken) in
+    let place = leave-asks (s .args .b) (s .args .t .train) (r i) (h .length) (s .pre .1) own (h .passed) (h .known) (c .end-of .ensures) in
+    (h .passed, i .before .before .goal .ensures, place .0, place .1, place .2)
 
 clause-e-requires : tie.Need-clause-e-requires Inv-loop μ-loop
 clause-e-requires c κs =

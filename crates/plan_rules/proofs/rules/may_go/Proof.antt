@@ -1,8 +1,8 @@
 -- `rules::may_go` meets its contract, case by case. Assumes nothing.
 use borrow.Author.Needs.{needs}
 use mathlib.Core.Path.{_∙_}
-use Rattle.tables.proofs.Answers.{leaves-answer}
-use Rattle.plan_rules.proofs.Ready.{runs-run, runs-absent, runs-gone, run-asks, run-room, run-ends}
+use Rattle.tables.proofs.Answers.{leaves-answer, leave-asks}
+use Rattle.plan_rules.proofs.Ready.{runs-run, runs-absent, runs-gone, below, run-asks, run-ends}
 use Rattle.plan_rules.proofs.rules.may_go.Statement.{statement}
 use Rattle.plan_rules.proofs.rules.may_go.Tie as tie
 
@@ -11,7 +11,12 @@ end-of-requires : tie.Need-end-of-requires
 end-of-requires c κs = let s = c .before .before .before .before in run-asks (s .pre .0) (s .pre .1) (c .before .m .given .1)
 
 may-leave-requires : tie.Need-may-leave-requires
-may-leave-requires c κs = let s = c .before .before .before .before .before in (s .pre .2, run-room (s .pre .0) (s .pre .1) (c .before .before .m .given .1) (c .end-of .ensures))
+may-leave-requires c κs =
+    let s = c .before .before .before .before .before in
+    let h = s .pre .0 in
+    let own = below h (s .pre .1) (c .before .before .m .given .1) in
+    let place = leave-asks (s .args .b) (s .args .train) _ (h .reached) (h .table) own (h .passed) (h .known) (c .end-of .ensures) in
+    (h .passed, s .pre .2, place .0, place .1, place .2)
 
 returns : tie.Need-returns
 returns c =
