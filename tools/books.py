@@ -10,7 +10,7 @@ BORDER_KINDS = {
     NEVER: ("never", (0,)),
     MAY_BE_SET: ("may be set", (0, 1)),
     ALWAYS: ("always set", (1,)),
-    EXIT: ("never; an exit", (0,)),
+    EXIT: ("an exit, never set", (0,)),
 }
 
 

@@ -19,6 +19,7 @@ use Rattle.spec.specs.Read.{segmentIn, joinIn, trainIn, callIn, grown, between,
 use Rattle.demands.proofs.Faults.{passes}
 use Rattle.laws.proofs.Tests.{and-iff, or-iff, ltb-iff, leb-iff, all-iff, all-upTo, from-true, neither-iff}
 use Rattle.laws.proofs.Rows.{all-append, any-append}
+use Rattle.laws.proofs.Last.{pick-append}
 
 -- at most n, and each passes the test
 unfoldable pub Few : {A : Type 0} → ℕ → (A → Bool) → List A → Type 0
@@ -213,12 +214,6 @@ once-grow {js} (longer j) k h = all-upTo _ (length (js ++ one j)) .1 (λ n l. go
     go n (no l) m =
         let e : n ≡ length js = omega arith in
         rw (e, take-append-seam js (one j), getD-append-seam js j [] noJoin) k
-
--- what is picked from a longer row
-pub pick-append : {A : Type 0} (f : A → Bool) (xs ys : List A) → pick f (xs ++ ys) ≡ pick f xs ++ pick f ys
-unfolding pick
-pick-append f [] ys = refl
-pick-append f (x ∷ xs) ys = rw (pick-append f xs ys) (sym (append-assoc (only (f x) (one x)) (pick f xs) (pick f ys)))
 
 -- the calls of train i
 ofTrain : ℕ → List Call → List Call

@@ -2,52 +2,87 @@
 -- has no border; and that a book without exits keeps every train to the last interval. Assumes nothing.
 use mathlib.Core.Path.{_≡_, refl, sym, ap, _∙_, subst}
 use mathlib.Core.Logic.{_↔_, Iff·rfl, _⊎_, inl, inr}
-use mathlib.Core.Bool.{Bool, _&&_}
+use mathlib.Core.Bool.{Bool, not, _&&_}
+use mathlib.Core.Option.{none, some}
 use Prim.Native.Nat.{ℕ, zero, suc, _+_, _-_, _≤_, _<_}
 use native.Mathlib.Omega.{arith}
-use mathlib.Core.List.{List, [], _∷_, _++_, map, List·Memᴰ, Memᴰ·of-map}
+use mathlib.Core.List.{List, _++_, List·Memᴰ, List·Memᴰ·head, Memᴰ·append-left}
 use lib.ListN.{length, getD, drop, List·getD-eq-default}
 use lib.Dec.{T, eqb, leb}
-use Rattle.spec.specs.Lists.{Bytes, all, any, upTo, one, has, lastOr, accepted}
-use Rattle.spec.specs.Book.{Book, nodeKindAt, segmentAt, goalOf, isExit, greatestNodeKind, shareNode, deniesBorder, segmentOf, endNode}
+use Rattle.spec.specs.Lists.{Bytes, all, upTo, one, only, pick, has, lastOr, firstFault, accepted, refused}
+use Rattle.spec.specs.Book.{Book, Call, nodeKindAt, segmentAt, callsOf, noCall, goalOf, isExit, greatestNodeKind, shareNode, deniesBorder, segmentOf, endNode}
 use Rattle.spec.specs.Runs.{endPlace, contains}
-use Rattle.spec.specs.Read.{readBook, wellFormed, mayDivide}
+use Rattle.spec.specs.Read.{between, readBook, wellFormed, mayDivide}
 use Rattle.spec.specs.Instance.{Instance, instanceOf, compile, runLists, runAt, trainLength, placeServes, endsAtExit, mayLeave}
-use Rattle.spec.specs.Plan.{Plan, Move, run, absent, gone, isAbsent, isGone, runs, isMove, IsPlan, planFits, planOf, keepsRules, rule3}
-use Rattle.spec.specs.Formula.{borderVar, runVar, goneVar, familyE, formula}
+use Rattle.spec.specs.Plan.{Plan, Move, run, absent, gone, isGone, runs, isMove, IsPlan, planFits, planOf, ruleFaults, keepsRules, rule1, rule2, rule3, rule4, rule5, rule6}
+use Rattle.spec.specs.Formula.{not′, borderVar, runVar, goneVar, familyA, familyE, formula, variables}
 use Rattle.spec.specs.Assignment.{satisfies}
-use Rattle.spec.specs.Entry.{encodedFor, afterPlan, checkAssignment, checkPlan}
-use Rattle.laws.proofs.Tests.{meaning, and-iff, any-iff, any-upTo, all-upTo, all-at, eqb-iff, ltb-iff, leb-iff, le-or-lt}
+use Rattle.spec.specs.Refutation.{Lent}
+use Rattle.spec.specs.Entry.{encodedFor, afterPlan, checkAssignment, checkPlan, checkRefutation}
+use Rattle.laws.proofs.Tests.{meaning, not-iff, true-of, and-iff, any-iff, any-upTo, all-upTo, all-at, eqb-iff, ltb-iff, leb-iff, le-or-lt, upTo-mem}
 use Rattle.laws.proofs.Rows.{any-map}
-use Rattle.laws.proofs.Last.{last-append, last-split, last-drop}
-pub use Rattle.demands.specs.Claims.{Leaves, LeavesRightly, WithoutExits, Stays}
-use Rattle.demands.proofs.Wellformed.{denied-iff}
-use Rattle.demands.proofs.RunLists.{train-reach, run-moves}
+use Rattle.laws.proofs.Last.{last-append, last-split, last-drop, last-picked, picked-split}
+pub use Rattle.demands.specs.Claims.{IsGoal, Leaves, LeavesRightly, WithoutExits, Stays}
+use Rattle.demands.proofs.Wellformed.{parts, denied-iff}
+use Rattle.demands.proofs.Faults.{first-some}
+use Rattle.demands.proofs.RunLists.{mem-each, train-reach, run-moves}
 use Rattle.demands.proofs.Reading.{read-well-formed}
 use Rattle.demands.proofs.Meaning.{meansA, meansE, families}
-use Rattle.demands.proofs.Moves.{means1, means2, means3, kept, which, aRun, isAway, hasLeft, run-of, gone-of, is-run, is-gone, is-absent}
+use Rattle.demands.proofs.Moves.{means1, means2, means3, kept, from-kept, which, aRun, isAway, hasLeft, run-of, gone-of, is-run, is-gone, is-absent}
 use Rattle.demands.proofs.Rules.{run≢gone}
-use Rattle.demands.proofs.Entries.{check-plan, plan-iff, read-of}
-use Rattle.demands.proofs.Demands.{accepted-assignment-is-plan}
+use Rattle.demands.proofs.Entries.{check-plan, plan-iff, no-broken, read-of}
+use Rattle.demands.proofs.Refusals.{plan-refused}
+use Rattle.demands.specs.Reasons.{ofInput, ruleBroken}
+use Rattle.demands.proofs.Demands.{accepted-assignment-is-plan, accepted-refutation-no-plan}
 
 -- ---- a run that gone may follow
 
--- the goal is in a place
-goal-iff : (b : Book) (i : ℕ) (place : List ℕ)
-    → T (placeServes b (goalOf b i) place) ↔ ((d : ℕ) × List·Memᴰ d place × (segmentOf d ≡ goalOf b i .segment))
+-- a call is the train's goal exactly where it is what is computed
+goal-is : (b : Book) (i : ℕ) (c : Call) → IsGoal b i c → goalOf b i ≡ c
+unfolding goalOf callsOf
+goal-is b i c g =
+    ap (λ (calls : List Call). lastOr noCall (pick (λ k. eqb (k .train) i) calls)) (g .file)
+    ∙ last-picked (λ k. eqb (k .train) i) noCall (g .before) c (g .after) (eqb-iff (c .train) i .1 (g .own))
+    (λ k m h. g .last k m (eqb-iff (k .train) i .0 h))
+
+goal-there : (b : Book) (i : ℕ) → 1 ≤ length (callsOf b i) → (c : Call) × IsGoal b i c
+unfolding callsOf
+goal-there b i any-call =
+    let s = picked-split (λ k. eqb (k .train) i) (b .calls) any-call in (
+      s .1,
+      record {
+        before = s .0;
+        after = s .2;
+        file = s .3;
+        own = eqb-iff (s .1 .train) i .0 (s .4);
+        last = λ k m e. s .5 k m (eqb-iff (k .train) i .1 e);
+      },
+    )
+
+-- a place serves a call exactly where one of its directed segments is on the call's segment
+serves-iff : (b : Book) (c : Call) (place : List ℕ)
+    → T (placeServes b c place) ↔ ((d : ℕ) × List·Memᴰ d place × (segmentOf d ≡ c .segment))
 unfolding placeServes contains has
-goal-iff b i place =
-    let s = goalOf b i .segment in
+serves-iff b c place =
+    let s = c .segment in
     let in-place = any-iff (λ d. eqb s (segmentOf d)) place in (
       (λ h. let w = in-place .0 (rw (any-map (eqb s) segmentOf place) at h) in (w .0, w .1, sym (eqb-iff s (segmentOf (w .0)) .0 (w .2)))),
       (λ w. rw (any-map (eqb s) segmentOf place) (in-place .1 (w .0, w .1, eqb-iff s (segmentOf (w .0)) .1 (sym (w .2))))),
     )
 
--- a run that is not shorter than its train ends where the train's front does
+goal-iff : (b : Book) (i : ℕ) (place : List ℕ) → 1 ≤ length (callsOf b i) → T (placeServes b (goalOf b i) place)
+    ↔ ((c : Call) × IsGoal b i c × ((d : ℕ) × List·Memᴰ d place × (segmentOf d ≡ c .segment)))
+goal-iff b i place any-call = (
+  (λ h. let g = goal-there b i any-call in
+      (g .0, g .1, serves-iff b (g .0) place .0 (subst (λ (c : Call). T (placeServes b c place)) (goal-is b i (g .0) (g .1)) h))),
+  (λ w. subst (λ (c : Call). T (placeServes b c place)) (sym (goal-is b i (w .0) (w .1))) (serves-iff b (w .0) place .1 (w .2))),
+)
+
+-- the place where a run ends is at an exit exactly where the run's last directed segment ends there: a run is not shorter than its train
 exit-iff : (b : Book) (l : ℕ) (path : List ℕ) → 1 ≤ l → l ≤ length path → T (endsAtExit b (endPlace l path))
     ↔ ((behind : List ℕ) × (front : ℕ) × (path ≡ behind ++ one front) × (nodeKindAt b (endNode b front) ≡ 3))
 unfolding endsAtExit endPlace isExit
-exit-iff b l path some fits =
+exit-iff b l path long fits =
     let same : lastOr 0 (drop (length path - l) path) ≡ lastOr 0 path = last-drop (length path - l) 0 path (omega arith) in
     let ends : T (eqb (nodeKindAt b (endNode b (lastOr 0 (drop (length path - l) path)))) 3) ↔ (nodeKindAt b (endNode b (lastOr 0 path)) ≡ 3)
     = rw same (eqb-iff (nodeKindAt b (endNode b (lastOr 0 path))) 3) in (
@@ -96,6 +131,11 @@ module _ (book : Bytes) (b : Book) (read : readBook book ≡ accepted b) where
   formed : T (wellFormed b)
   formed = read-well-formed book b read
 
+  -- every train has a call
+  called : (i : ℕ) → i < instanceOf b .trains → 1 ≤ length (callsOf b i)
+  unfolding instanceOf compile between
+  called i l = (simp (and-iff, leb-iff) at (all-upTo _ _ .0 (parts b formed .counts) i l)) .0
+
   module _ (i : ℕ) (l : i < instanceOf b .trains) where
     run-long : (r : ℕ) → r < instanceOf b .runs i → trainLength b i ≤ length (runAt (runLists b) i r)
     unfolding instanceOf compile
@@ -108,7 +148,7 @@ module _ (book : Bytes) (b : Book) (read : readBook book ≡ accepted b) where
     leaves-iff r k =
         let path = runAt (runLists b) i r in
         let place = endPlace (trainLength b i) path in
-        let goal = goal-iff b i place in
+        let goal = goal-iff b i place (called i l) in
         let exit = exit-iff b (trainLength b i) path (train-reach b formed i l .0) (run-long r k) in
         let both = and-iff (placeServes b (goalOf b i) place) (endsAtExit b place) in (
           (λ h. let p = both .0 h in record { goal = goal .0 (p .0); exit = exit .0 (p .1) }),
@@ -169,25 +209,28 @@ module _ (book : Bytes) (b : Book) (read : readBook book ≡ accepted b) where
   pub family-e : (α : ℕ → Bool) → T (satisfies α (familyE (instanceOf b)))
       ↔ ((i : ℕ) → i < instanceOf b .trains → (t : ℕ) → instanceOf b .departure i ≤ t → t < instanceOf b .intervals - 1
       → ((r : ℕ) → r < instanceOf b .runs i → T (α (runVar (instanceOf b) i t r))
-      → T (any (λ q. instanceOf b .follows i r q && α (runVar (instanceOf b) i (t + 1) q)) (upTo (instanceOf b .runs i)))
+      → ((q : ℕ) × (q < instanceOf b .runs i) × (T (instanceOf b .follows i r q) × T (α (runVar (instanceOf b) i (t + 1) q))))
       ⊎ (Leaves b i (runAt (runLists b) i r) × T (α (goneVar (instanceOf b) i (t + 1)))))
       × (T (α (goneVar (instanceOf b) i t)) → T (α (goneVar (instanceOf b) i (t + 1)))))
   family-e α = (
     (λ h i l t d k. let m = meansE I α .0 h i l t d k in (
       (λ r below on. elim (m .0 r below on) [
-        | inl f ↦ inl f
+        | inl f ↦ (let w = any-upTo (followed i t r) (I .runs i) .0 f in inl (w .0, w .1, and-iff (I .follows i r (w .0)) _ .0 (w .2)))
         | inr g ↦ let w = and-iff (I .leaves i r) (α (goneVar I i (t + 1))) .0 g in inr (leaves-iff i l r below .0 (w .0), w .1)
       ]),
       m .1,
     )),
     (λ h. meansE I α .1 (λ i l t d k. (
       (λ r below on. elim (h i l t d k .0 r below on) [
-        | inl f ↦ inl f
+        | inl f ↦ inl (any-upTo (followed i t r) (I .runs i) .1 (f .0, f .1, and-iff (I .follows i r (f .0)) _ .1 (f .2)))
         | inr g ↦ inr (and-iff (I .leaves i r) (α (goneVar I i (t + 1))) .1 (leaves-iff i l r below .1 (g .0), g .1))
       ]),
       h i l t d k .1,
     ))),
   )
+    where
+      followed : ℕ → ℕ → ℕ → ℕ → Bool
+      followed i t r q = I .follows i r q && α (runVar I i (t + 1) q)
 
   -- ---- an exit has no border
 
@@ -202,6 +245,16 @@ module _ (book : Bytes) (b : Book) (read : readBook book ≡ accepted b) where
         (λ p keeps. means1 (instanceOf b) p .0 (kept (instanceOf b) p keeps .one) n h .0 denied),
         (λ α sat. meansA (instanceOf b) α .0 (families (instanceOf b) α sat .A) n h .0 denied),
       )
+
+  -- The formula has the clause of its denial.
+  pub exit-clause : (n : ℕ) → n < instanceOf b .nodes → nodeKindAt b n ≡ 3
+      → List·Memᴰ (one (not′ (borderVar (instanceOf b) n))) (familyA (instanceOf b))
+  unfolding familyA only instanceOf compile
+  exit-clause n h e =
+      let denied = true-of (deniesBorder (nodeKindAt b n)) (denied-iff (nodeKindAt b n) .1 (inr e)) in
+      let unit = one (not′ (borderVar (instanceOf b) n)) in
+      let there : List·Memᴰ unit (only (deniesBorder (nodeKindAt b n)) (one unit)) = rw denied (List·Memᴰ·head refl) in
+      mem-each (upTo (instanceOf b .nodes)) _ _ .1 (n, upTo-mem (instanceOf b .nodes) n .1 h, Memᴰ·append-left _ there)
 
   -- ---- without exits
 
@@ -255,8 +308,9 @@ module _ (book : Bytes) (b : Book) (read : readBook book ≡ accepted b) where
   pub keeping-stays : (p : Plan) → IsPlan (instanceOf b) p → T (keepsRules (instanceOf b) p) → Stays b p
   unfolding instanceOf compile
   keeping-stays p moves keeps = record {
+    bare = λ n h e. exit-bare n h e .0 p keeps;
     leaving = rule-three p moves .0 (kept (instanceOf b) p keeps .three);
-    remaining = λ no-exit i l t from h. let w = no-exit-stays no-exit p moves keeps i l t from h in (w .0, w .2);
+    remaining = λ no-exit. no-exit-stays no-exit p moves keeps;
   }
 
 -- ---- from arbitrary bytes: "both verdicts of the checker are about this rule"
@@ -264,6 +318,14 @@ module _ (book : Bytes) (b : Book) (read : readBook book ≡ accepted b) where
 fitting : (I : Instance) (plan : Bytes) → T (planFits I plan) → IsPlan I (planOf I plan)
 unfolding planFits
 fitting I plan fits i l t h = (simp (and-iff, all-upTo) at fits) .1 i l t h
+
+-- of the plan that an accepted assignment decodes to,
+pub assignment-stays : (book assignment plan : Bytes) (planSlice : ℕ) → checkAssignment book assignment planSlice ≡ accepted plan
+    → (b : Book) × (readBook book ≡ accepted b) × Stays b (planOf (instanceOf b) plan)
+assignment-stays book s plan n e =
+    let a = accepted-assignment-is-plan book s plan n e in
+    let I = instanceOf (a .0) in
+    (a .0, a .1, keeping-stays book (a .0) (a .1) (planOf I plan) (fitting I plan (a .2)) (a .4))
 
 -- of a plan that is accepted,
 pub plan-stays : (book plan assignment : Bytes) (assignmentSlice : ℕ) → checkPlan book plan assignmentSlice ≡ accepted assignment
@@ -275,10 +337,35 @@ plan-stays book plan a n e =
     let j = plan-iff I plan .0 (check-plan book (r .0) (r .1) plan n a .0 e .1) in
     (r .0, r .1, keeping-stays book (r .0) (r .1) (planOf I plan) (fitting I plan (j .0)) (j .1))
 
--- and of the plan that an accepted assignment decodes to
-pub assignment-stays : (book assignment plan : Bytes) (planSlice : ℕ) → checkAssignment book assignment planSlice ≡ accepted plan
-    → (b : Book) × (readBook book ≡ accepted b) × Stays b (planOf (instanceOf b) plan)
-assignment-stays book s plan n e =
-    let a = accepted-assignment-is-plan book s plan n e in
-    let I = instanceOf (a .0) in
-    (a .0, a .1, keeping-stays book (a .0) (a .1) (planOf I plan) (fitting I plan (a .2)) (a .4))
+none≢some : {n : ℕ} → none ≡ some n → ⊥
+none≢some e = let z : _≡_ {A = ℕ} 0 1 = cc in omega arith
+
+-- and of an accepted refutation: no plan in which every train leaves as the text has it keeps the other five rules
+pub refutation-stays : (book refutation : Bytes) (lent : Lent) → checkRefutation book refutation lent ≡ accepted tt
+    → (b : Book) × (readBook book ≡ accepted b) × ((p : Plan) → IsPlan (instanceOf b) p
+    → T (rule1 (instanceOf b) p) → T (rule2 (instanceOf b) p) → ((i : ℕ) → i < instanceOf b .trains → LeavesRightly b i (p .move i))
+    → T (rule4 (instanceOf b) p) → T (rule5 (instanceOf b) p) → T (rule6 (instanceOf b) p) → ⊥)
+refutation-stays book r lent e =
+    let a = accepted-refutation-no-plan book r lent e in (
+      a .0,
+      a .1,
+      λ p moves one two leaving four five six.
+          let three = rule-three book (a .0) (a .1) p moves .1 leaving in
+          let keeps = from-kept (instanceOf (a .0)) p (record { one = one; two = two; three = three; four = four; five = five; six = six }) in
+          let fine = no-broken (instanceOf (a .0)) p .1 keeps in
+          let broken = a .2 p moves .1 in
+          none≢some (sym fine ∙ broken),
+    )
+
+-- "16 with detail 1": a border byte 1 at an exit is a value of a plan, and breaks rule 1
+pub exit-border-refused : (book plan : Bytes) (assignmentSlice : ℕ) (b : Book) → readBook book ≡ accepted b
+    → variables (instanceOf b) ≤ assignmentSlice → T (planFits (instanceOf b) plan)
+    → (n : ℕ) → n < instanceOf b .nodes → nodeKindAt b n ≡ 3 → T (planOf (instanceOf b) plan .border n)
+    → checkPlan book plan assignmentSlice ≡ refused 16 1
+unfolding ruleFaults firstFault instanceOf compile
+exit-border-refused book plan size b read room fits n h e set =
+    let I = instanceOf b in
+    let p = planOf I plan in
+    let breaks = not-iff (rule1 I p) .1 (λ k. means1 I p .0 k n h .0 (denied-iff (nodeKindAt b n) .1 (inr e)) set) in
+    let first : firstFault (ruleFaults I p) ≡ some 1 = rw (true-of (not (rule1 I p)) breaks) refl in
+    plan-refused book plan size 16 1 .1 (ofInput b read (λ short. omega (arith, room, short)) (ruleBroken fits (first-some 1 (ruleFaults I p) first)))

@@ -4,10 +4,10 @@ use mathlib.Core.Logic.{_⊎_}
 use mathlib.Core.Bool.{Bool}
 use Prim.Native.Nat.{ℕ, _+_, _*_, _-_, _≤_, _<_}
 use mathlib.Core.List.{List, [], _∷_, _++_, map, List·Memᴰ}
-use lib.ListN.{length, drop}
+use lib.ListN.{length, getD, drop}
 use lib.Dec.{T, eqb}
 use Rattle.spec.specs.Lists.{Bytes, one, Verdict, accepted, refused}
-use Rattle.spec.specs.Book.{Book, Train, nodeKindAt, trainAt, goalOf, segmentOf, endNode}
+use Rattle.spec.specs.Book.{Book, Train, Call, nodeKindAt, trainAt, segmentOf, endNode}
 use Rattle.spec.specs.Runs.{endPlace}
 use Rattle.spec.specs.Instance.{Instance, trainLength, runLists, runAt}
 use Rattle.spec.specs.Plan.{Plan, Move, run, gone, isGone, runs, isMove}
@@ -72,11 +72,19 @@ pub record Reach (b : Book) (t : Train) (l k : ℕ) : Type 0 where
 
 -- ---- exits
 
--- P4: "its end contains the goal and its front segment ends at an exit", of a run of train i, rear first: one of its last l directed
--- segments is on the goal's segment, and the very last one ends at a node of kind 3.
-pub record Leaves (b : Book) (i : ℕ) (run : List ℕ) : Type 0 where
-  pub goal : (d : ℕ) × List·Memᴰ d (endPlace (trainLength b i) run) × (segmentOf d ≡ goalOf b i .segment)
-  pub exit : (behind : List ℕ) × (front : ℕ) × (run ≡ behind ++ one front) × (nodeKindAt b (endNode b front) ≡ 3)
+-- "the train's last call in the file is its goal": a call of train i, behind which the book has none of that train
+pub record IsGoal (b : Book) (i : ℕ) (c : Call) : Type 0 where
+  pub before : List Call
+  pub after : List Call
+  pub file : b .calls ≡ before ++ c ∷ after
+  pub own : c .train ≡ i
+  pub last : (k : Call) → List·Memᴰ k after → k .train ≡ i → ⊥
+
+-- P4: "its end contains the goal and its front segment ends at an exit", of a run of train i, which is a path, rear first: one of its last l
+-- directed segments is on the goal's segment, and the very last one ends at a node of kind 3.
+pub record Leaves (b : Book) (i : ℕ) (path : List ℕ) : Type 0 where
+  pub goal : (c : Call) × IsGoal b i c × ((d : ℕ) × List·Memᴰ d (endPlace (trainLength b i) path) × (segmentOf d ≡ c .segment))
+  pub exit : (behind : List ℕ) × (front : ℕ) × (path ≡ behind ++ one front) × (nodeKindAt b (endNode b front) ≡ 3)
 
 -- "A book without exits": no node of kind 3
 abbrev pub WithoutExits : Book → Type 0
@@ -89,12 +97,13 @@ pub record LeavesRightly (b : Book) (i : ℕ) (move : ℕ → Move) : Type 0 whe
       → (move t ≡ gone) ⊎ ((r : ℕ) × (move t ≡ run r) × Leaves b i (runAt (runLists b) i r))
   pub afterGone : (t : ℕ) → t + 1 < b .intervals → move t ≡ gone → move (t + 1) ≡ gone
 
--- What P4 says of a plan: rule 3 of each train, and "A book without exits keeps every train to the last interval": it has a run in each
--- interval from its departure on.
+-- What P4 says of a plan: "an exit without a border"; rule 3 of each train; and "A book without exits keeps every train to the last
+-- interval": it has a run of its list in each interval from its departure on.
 pub record Stays (b : Book) (p : Plan) : Type 0 where
+  pub bare : (n : ℕ) → n < length (b .nodes) → nodeKindAt b n ≡ 3 → T (p .border n) → ⊥
   pub leaving : (i : ℕ) → i < length (b .trains) → LeavesRightly b i (p .move i)
   pub remaining : WithoutExits b → (i : ℕ) → i < length (b .trains) → (t : ℕ) → trainAt b i .departure ≤ t → t < b .intervals
-      → (r : ℕ) × (p .move i t ≡ run r)
+      → (r : ℕ) × (r < length (getD (runLists b) i [])) × (p .move i t ≡ run r)
 
 -- ---- run lists
 

@@ -130,7 +130,7 @@ fn followers(
 }
 
 // E: run r of a block, and what may come after it in the next, from `after` on: the runs that pass the
-// test that the table chains, and gone where the train `leaves`.
+// test that the table chains, and gone where `leaves` says that it may follow.
 fn clause_e(
     t: Block,
     after: usize,

@@ -1,11 +1,16 @@
--- The last element of a row: of a row that has grown, of its first n, of what is left of it, of what is made of it. Assumes nothing.
-use mathlib.Core.Path.{_≡_, refl, sym, ap, _∙_}
+-- The last element of a row: of a row that has grown, of its first n, of what is left of it, of what is made of it, and of those that pass a
+-- test. Assumes nothing.
+use mathlib.Core.Path.{_≡_, refl, sym, ap, ap₂, _∙_, subst}
+use mathlib.Core.Logic.{_⊎_, inl, inr}
+use mathlib.Core.Bool.{Bool, true, false, not}
 use Prim.Native.Nat.{ℕ, zero, suc, _-_, _≤_, _<_}
 use native.Mathlib.Omega.{arith}
-use mathlib.Core.List.{List, [], _∷_, _++_, map, List·Memᴰ, List·Memᴰ·head, List·Memᴰ·tail}
+use mathlib.Core.List.{List, [], _∷_, _++_, map, append-assoc, List·Memᴰ, List·Memᴰ·head, List·Memᴰ·tail, List·Memᴰ·not-nil}
 use lib.ListN.{length, getD, take, drop}
 use lib.Seq.{take-suc, take-all}
-use Rattle.spec.specs.Lists.{one, lastOr}
+use lib.Dec.{T, T-not}
+use Rattle.spec.specs.Lists.{one, lastOr, pick, only}
+use Rattle.laws.proofs.Tests.{true-of, decide}
 
 module _ {ℓ} {A : Type ℓ} where
   pub last-append : (xs : List A) (z x : A) → lastOr z (xs ++ one x) ≡ x
@@ -53,3 +58,49 @@ pub last-below : (n z : ℕ) (xs : List ℕ) → z < n → ((x : ℕ) → List·
 unfolding lastOr
 last-below n z [] l h = l
 last-below n z (x ∷ xs) l h = last-below n x xs (h x (List·Memᴰ·head refl)) (λ y m. h y (List·Memᴰ·tail m))
+
+-- ---- the last of those that pass a test
+
+module _ {ℓ} {A : Type ℓ} (f : A → Bool) where
+  pub pick-append : (xs ys : List A) → pick f (xs ++ ys) ≡ pick f xs ++ pick f ys
+  unfolding pick
+  pick-append [] ys = refl
+  pick-append (x ∷ xs) ys = rw (pick-append xs ys) (sym (append-assoc (only (f x) (one x)) (pick f xs) (pick f ys)))
+
+  -- none passes in the row
+  abbrev pub None : List A → Type ℓ
+  None xs = (x : A) → List·Memᴰ x xs → T (f x) → ⊥
+
+  none-cons : {x : A} {xs : List A} → T (not (f x)) → None xs → None (x ∷ xs)
+  none-cons {x} h n y (List·Memᴰ·head e) t = T-not (f x) h (subst (λ (z : A). T (f z)) e t)
+  none-cons h n y (List·Memᴰ·tail m) t = n y m t
+
+  pick-none : (xs : List A) → None xs → pick f xs ≡ []
+  unfolding pick only
+  pick-none [] h = refl
+  pick-none (x ∷ xs) h = go (f x) (h x (List·Memᴰ·head refl)) (pick-none xs (λ y m. h y (List·Memᴰ·tail m)))
+    where
+      go : (c : Bool) → (T c → ⊥) → pick f xs ≡ [] → only c (one x) ++ pick f xs ≡ []
+      go true n e = absurd (n tt)
+      go false n e = e
+
+  -- it is the one that passes and has none behind it
+  pub last-picked : (z : A) (before : List A) (c : A) (after : List A) → T (f c) → None after → lastOr z (pick f (before ++ c ∷ after)) ≡ c
+  unfolding pick only
+  last-picked z before c after h none′ =
+      ap (lastOr z) (pick-append before (c ∷ after)
+      ∙ ap₂ (λ (t : Bool) (ys : List A). pick f before ++ (only t (one c) ++ ys)) (true-of (f c) h) (pick-none after none′))
+      ∙ last-append (pick f before) z c
+
+  -- there is such a one where one passes
+  pub picked-split : (xs : List A) → 1 ≤ length (pick f xs)
+      → (before : List A) × (c : A) × (after : List A) × (xs ≡ before ++ c ∷ after) × T (f c) × None after
+  picked-split xs h = elim (found xs) [ inl n ↦ (let e = ap length (pick-none xs n) in absurd (omega arith)) | inr s ↦ s ]
+    where
+      found : (xs : List A)
+          → None xs ⊎ ((before : List A) × (c : A) × (after : List A) × (xs ≡ before ++ c ∷ after) × T (f c) × None after)
+      found [] = inl (λ x m _. List·Memᴰ·not-nil m)
+      found (x ∷ xs) = elim (found xs) [
+        | inr s ↦ inr (x ∷ s .0, s .1, s .2, ap (_∷_ x) (s .3), s .4, s .5)
+        | inl n ↦ decide (f x) (λ h. inr ([], x, xs, refl, h, n)) (λ h. inl (none-cons h n))
+      ]

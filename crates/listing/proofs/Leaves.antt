@@ -9,7 +9,7 @@ use native.Mathlib.Omega.{arith}
 use mathlib.Core.List.{List, [], _∷_, _++_, map, map-append, append-nil, append-assoc}
 use lib.ListN.{length, getD, take, drop, set, length-append, length-map}
 use lib.Seq.{sets, slice, sets-eq, take-suc, take-nil, take-append-add, take-append-seam, drop-append-seam, length-take-le}
-use Rattle.spec.specs.Lists.{Bytes, one, each, lastOr, upTo}
+use Rattle.spec.specs.Lists.{Bytes, one, each, upTo}
 use Rattle.spec.specs.Held.{padded}
 use Rattle.listing.specs.declared.Path.{Path}
 use Rattle.laws.proofs.Parts.{Part, upTo-suc, length-upTo}

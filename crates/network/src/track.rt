@@ -1,6 +1,6 @@
-// The track of a book: what touches a node, where a directed segment begins and ends, which directed
-// segments lead to which, lengths and speeds in segments, and whether a place is a path. Reader, run
-// lists, formula and plan check go by these; only the filler of the run lists' successors asks for the
+// The track of a book: the kinds of nodes, what touches a node, where a directed segment begins and
+// ends, and whether at an exit, which directed segments lead to which, lengths and speeds in segments,
+// and whether a place is a path. Reader, run lists, formula and plan check go by these; only the filler of the run lists' successors asks for the
 // two halves of "leads to" by itself. Assumes nothing.
 use frames::bytes::wide;
 use model::Book;

@@ -145,7 +145,7 @@ fn goes_on(b: Book, train: usize, l: usize, runs: &[u8], before: Move, m: Move) 
     }
 }
 
-// Whether a move may come after another as to who is gone; `late` says that it is after the
+// Whether a move may come after another, as far as gone goes; `late` says that it is after the
 // departure.
 fn gone_fits(
     b: Book,
@@ -198,8 +198,8 @@ fn train_departs(b: Book, train: usize, l: usize, runs: &[u8], plan: &[u8]) -> b
     absent_before(b, train, plan) && starts_given(b, train, l, runs, m)
 }
 
-// 3, of one train: "Gone only after d, after gone or after a run whose end place contains the goal's
-// segment. After gone, gone."
+// 3, of one train: "Gone only after d, after gone or after a run" that gone may follow. "After gone,
+// gone."
 fn train_leaves(b: Book, train: usize, l: usize, runs: &[u8], plan: &[u8]) -> bool
     requires { ⌜ TrainReady b train l (now runs) × T (planFits (instanceOf (held b)) (now plan)) ⌝ }
     ensures { λ r. ⌜ r ≡ leavesRightly (instanceOf (held b)) (planOf (instanceOf (held b)) (now (plan .entry))) train ⌝ }
@@ -337,8 +337,7 @@ fn rule_2(b: Book, counts: Counts, runs: &[u8], plan: &[u8]) -> bool
     trains_keep(b, counts, TrainRule::Departing, runs, plan)
 }
 
-// 3: "Gone only after d, after gone or after a run whose end place contains the goal's segment. After
-// gone, gone."
+// 3: "Gone only after d, after gone or after a run" that gone may follow. "After gone, gone."
 fn rule_3(b: Book, counts: Counts, runs: &[u8], plan: &[u8]) -> bool
     requires { ⌜ RunsReady b counts (now runs) × T (planFits (instanceOf (held b)) (now plan)) ⌝ }
     ensures { λ r. ⌜ r ≡ plans.rule3 (instanceOf (held b)) (planOf (instanceOf (held b)) (now (plan .entry))) ⌝ }

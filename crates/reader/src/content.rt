@@ -110,7 +110,7 @@ pub fn add_head(format: Format, b: Book, p: &[u8]) -> Added
     fine(next)
 }
 
-// Node: border kind 0 to 2, at most 96.
+// Node: border kind 0 to 3, at most 96.
 pub fn add_node(b: Book, p: &[u8]) -> Added
     requires { do ⌜ Packed b × (length (now p) ≡ (← ⟦NodeFrame::LEN⟧)) ⌝ }
     ensures { λ r. ⌜ ((f : frames.Format) → r ≡ added f frames.nodeKind (held b) (now (p .entry))) ⌝ }

@@ -189,6 +189,18 @@ oldPlatform kinds =
     oldHead 2 ++ each kinds nodeFrame ++ segmentFrame 0 1 ++ segmentFrame 1 2 ++ joinFrame
     ++ frame 5 (100 ∷ 0 ∷ 36 ∷ 0 ∷ 0 ∷ 1 ∷ 0 ∷ []) ++ frame 6 (0 ∷ 0 ∷ 0 ∷ 2 ∷ []) ++ endFrame
 
+-- Two trains back to back, each on its segment with an exit ahead, and these calls
+partingBook : Bytes → Bytes
+partingBook calls =
+    headWith 2 ++ nodeFrame 3 ++ nodeFrame 1 ++ nodeFrame 3 ++ segmentFrame 0 1 ++ segmentFrame 1 2 ++ joinFrame
+    ++ trainFrame 80 36 (1 ∷ []) ++ trainFrame 80 36 (2 ∷ []) ++ calls ++ endFrame
+
+-- The platform with an exit in mid line, and the goal behind two calls elsewhere
+thirdBook : Bytes
+thirdBook =
+    headWith 2 ++ nodeFrame 0 ++ nodeFrame 3 ++ nodeFrame 0 ++ segmentFrame 0 1 ++ segmentFrame 1 2 ++ joinFrame
+    ++ trainFrame 80 36 (0 ∷ []) ++ callFrame 1 0 2 ++ callFrame 1 0 2 ++ callFrame 0 0 2 ++ endFrame
+
 -- One train with two calls, on segment 0 and, its goal, on segment 1; between them an exit
 callingBook : Bytes
 callingBook =
@@ -252,6 +264,14 @@ decodes s a n = answered (checkAssignment s a n) text
 
 encodes : Bytes → Bytes → ℕ → Answer
 encodes s p n = answered (checkPlan s p n) text
+
+-- whether a plan is accepted
+judged : Bytes → Bytes → Answer
+judged s p = answered (checkPlan s p 99) λ _. yes-accepted
+
+-- two trains, of which the border at node 1 parts the segments, stand for an interval and are gone
+bothGo : Bytes
+bothGo = 0 ∷ 1 ∷ 0 ∷ 1 ∷ 0 ∷ 255 ∷ 255 ∷ 2 ∷ 0 ∷ 255 ∷ 255 ∷ []
 
 -- the plan of a train that stands for an interval, by its run 0, and is gone; and as an assignment of one that has six runs
 standsAndGoes : Bytes
@@ -401,18 +421,27 @@ further =
     -- 16: a run before the departure breaks rule 2, gone away from the goal rule 3
     ∷ record { asked = encodes bookN (0 ∷ 1 ∷ 0 ∷ 0 ∷ 0 ∷ 4 ∷ 0 ∷ 2 ∷ 0 ∷ 2 ∷ 0 ∷ 255 ∷ 255 ∷ 255 ∷ 255 ∷ []) 57; answer = refusal 16 2 }
     ∷ record { asked = encodes bookN (0 ∷ 1 ∷ 0 ∷ 254 ∷ 255 ∷ 0 ∷ 0 ∷ 255 ∷ 255 ∷ 2 ∷ 0 ∷ 255 ∷ 255 ∷ 255 ∷ 255 ∷ []) 57; answer = refusal 16 3 }
-    -- P4. A goal reached, then gone: not without an exit, not with one behind the train or where another segment ends, and at the end of
-    -- the segment where the train stands, in mid line; but not there if the goal is elsewhere
+    -- P4. A goal reached, then gone: refused without an exit, with one behind the train, and with one where another segment ends; accepted
+    -- with one in mid line, at the end of the segment where the train stands; refused there if the goal is elsewhere, or the train has run on
     ∷ record { asked = encodes (platform (0 ∷ 0 ∷ 0 ∷ [])) standsAndGoes 21; answer = refusal 16 3 }
     ∷ record { asked = encodes (platform (3 ∷ 0 ∷ 0 ∷ [])) standsAndGoes 21; answer = refusal 16 3 }
     ∷ record { asked = encodes (platform (0 ∷ 0 ∷ 3 ∷ [])) standsAndGoes 21; answer = refusal 16 3 }
     ∷ record { asked = encodes (platform (0 ∷ 3 ∷ 0 ∷ [])) standsAndGoes 21; answer = text goneAssigned }
     ∷ record { asked = encodes (leavingBook 0 (0 ∷ 3 ∷ 0 ∷ []) (0 ∷ []) 1) standsAndGoes 21; answer = refusal 16 3 }
-    -- a train of two segments: the exit is where its front ends and not where its rear does, the goal anywhere in its place
+    ∷ record { asked = judged (platform (0 ∷ 3 ∷ 0 ∷ [])) (0 ∷ 0 ∷ 0 ∷ 4 ∷ 0 ∷ 255 ∷ 255 ∷ []); answer = refusal 16 3 }
+    -- over the same exit the other way, from b to a; and after a run to an exit
+    ∷ record { asked = judged (leavingBook 0 (0 ∷ 3 ∷ 0 ∷ []) (3 ∷ []) 1) (0 ∷ 0 ∷ 0 ∷ 3 ∷ 0 ∷ 255 ∷ 255 ∷ []); answer = yes-accepted }
+    ∷ record { asked = judged (leavingBook 0 (3 ∷ 0 ∷ 0 ∷ []) (3 ∷ []) 0) (0 ∷ 0 ∷ 0 ∷ 5 ∷ 0 ∷ 255 ∷ 255 ∷ []); answer = yes-accepted }
+    -- two trains, each with its own goal and exit, whichever call stands last in the file; and a goal behind two other calls
+    ∷ record { asked = judged (partingBook (callOf 0 0 0 2 ++ callOf 1 1 0 2)) bothGo; answer = yes-accepted }
+    ∷ record { asked = judged (partingBook (callOf 1 1 0 2 ++ callOf 0 0 0 2)) bothGo; answer = yes-accepted }
+    ∷ record { asked = clauseNumber 53 thirdBook; answer = clause (negsuc 3 ∷ pos 13 ∷ pos 17 ∷ pos 19 ∷ []) }
+    -- a train of two segments: the exit is where its front ends and not where its rear does, the goal under either
     ∷ record {
       asked = encodes (leavingBook 0 (0 ∷ 0 ∷ 3 ∷ []) (0 ∷ 2 ∷ []) 0) standsAndGoes 13;
       answer = text (0 ∷ 0 ∷ 0 ∷ 1 ∷ 0 ∷ 0 ∷ 1 ∷ 1 ∷ 0 ∷ 0 ∷ 1 ∷ 0 ∷ 0 ∷ []);
     }
+    ∷ record { asked = judged (leavingBook 0 (0 ∷ 0 ∷ 3 ∷ []) (0 ∷ 2 ∷ []) 1) standsAndGoes; answer = yes-accepted }
     ∷ record { asked = encodes (leavingBook 0 (0 ∷ 3 ∷ 0 ∷ []) (0 ∷ 2 ∷ []) 0) standsAndGoes 13; answer = refusal 16 3 }
     -- T = d + 1: the train has its run of interval d, and cannot be gone in its place
     ∷ record {
@@ -427,8 +456,10 @@ further =
     ∷ record { asked = decodes (platform (0 ∷ 3 ∷ 0 ∷ [])) goneAssigned 7; answer = text standsAndGoes }
     ∷ record { asked = rewrites (oldPlatform (0 ∷ 3 ∷ 0 ∷ [])) 99; answer = text (platform (0 ∷ 3 ∷ 0 ∷ [])) }
     ∷ record { asked = rewrites (oldPlatform (0 ∷ 4 ∷ 0 ∷ [])) 99; answer = refusal 6 0 }
-    -- an exit has no border: its variable is denied, a plan that sets it breaks rule 1, and it gives no 9; there is no kind 4
+    -- an exit has no border: its variable is denied, in node order; a plan that sets it breaks rule 1, and it gives no 9; there is no kind 4
     ∷ record { asked = clauseNumber 2 (platform (0 ∷ 3 ∷ 0 ∷ [])); answer = clause (one (negsuc 1)) }
+    ∷ record { asked = clauseNumber 1 (platform (3 ∷ 0 ∷ 2 ∷ [])); answer = clause (one (negsuc 0)) }
+    ∷ record { asked = clauseNumber 3 (platform (3 ∷ 0 ∷ 2 ∷ [])); answer = clause (one (pos 3)) }
     ∷ record { asked = encodes (platform (0 ∷ 3 ∷ 0 ∷ [])) (0 ∷ 1 ∷ 0 ∷ 0 ∷ 0 ∷ 255 ∷ 255 ∷ []) 21; answer = refusal 16 1 }
     ∷ record { asked = totalsOf (unbreakableBook 3) 0; answer = refusal 12 0 }
     ∷ record { asked = totalsOf (platform (0 ∷ 4 ∷ 0 ∷ [])) 0; answer = refusal 6 0 }
@@ -544,7 +575,7 @@ table = starred ++ (further ++ asked)
 
 pub cases : map (λ c. c .asked) table ≡ map (λ c. c .answer) table
 unfolding
-    table starred further asked answered sizes labels runShown runNumber meant variableNumber oldL bookL newL oldM oldHead oldAt oldTwice longBook time headWith headFrame trainFrom callOf passingBook bookN facingBook speedBook leavingBook platform oldPlatform standsAndGoes goneAssigned callingBook unbreakableBook refutedWith dividedBook totalsOf decodes encodes nodeFrame segmentFrame trainFrame callFrame endFrame pairBook joinFrame bookM tripleBook rewrites reach times runList sections oneSection clauseNumber emptyStep refuted
+    table starred further asked answered sizes labels runShown runNumber meant variableNumber oldL bookL newL oldM oldHead oldAt oldTwice longBook time headWith headFrame trainFrom callOf passingBook bookN facingBook speedBook leavingBook platform oldPlatform partingBook thirdBook judged bothGo standsAndGoes goneAssigned callingBook unbreakableBook refutedWith dividedBook totalsOf decodes encodes nodeFrame segmentFrame trainFrame callFrame endFrame pairBook joinFrame bookM tripleBook rewrites reach times runList sections oneSection clauseNumber emptyStep refuted
     count upTo range each only all any pick empty lastOr same has different sumTo leastFrom firstFault andThen
     littleEndian number field signed unsigned digits decimal decimalZ nearest
     frame payloadLength kindField payloadOf behind cutShort kindNumber isKind stepKind kindOrder findKind rankIn rank lengthFits stepLengthFits

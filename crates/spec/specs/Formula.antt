@@ -120,7 +120,7 @@ module _ (I : Instance) where
 
   -- ---- the families
 
-  -- "A. kind 0: not border; kind 2: border."
+  -- "A. kind 0: not border; kind 2: border.", and P4: kind 3 "is denied as for kind 0"
   unfoldable pub familyA : List Clause
   familyA = each (upTo (I .nodes)) λ n.
       only (I .denied n) (one (one (not′ (borderVar n)))) ++ only (I .forced n) (one (one (is (borderVar n))))

@@ -1,6 +1,6 @@
 -- What the plan rules and the formula ask of a book, and nothing else: counts, and answers by number. The book's text is
--- turned into these answers in one place, `instanceOf`, so a rule of the book (which node kinds deny a border, whether a
--- place serves a call, who may be gone) is changed here and nowhere else. Assumes nothing.
+-- turned into these answers in one place, `instanceOf`, so a rule of the book (whether a place serves a call, who may be gone; which
+-- node kinds deny a border, in `Book`) is changed there and nowhere else. Assumes nothing.
 use mathlib.Core.Bool.{Bool, _&&_}
 use Prim.Native.Nat.{ℕ, _-_}
 use mathlib.Core.List.{List, [], map}

@@ -130,7 +130,7 @@ module _ (I : Instance) (p : Plan) where
   unfoldable pub rule2 : Bool
   rule2 = all (λ i. departs i) (upTo (I .trains))
 
-  -- 3. "Gone only after d, after gone or after a run" that it may follow (`mayLeave`, P4). "After gone, gone."
+  -- 3. "Gone only after d, after gone or after a run" that gone may follow (`mayLeave`, P4). "After gone, gone."
   unfoldable pub leavesRightly : ℕ → Bool
   leavesRightly i =
       all (λ t. not (isGone (p .move i t))) (upTo (I .departure i + 1))

@@ -122,7 +122,7 @@ callFits b c =
 unfoldable pub someHas : Book → ℕ → Bool
 someHas b ttd = any (λ s. eqb (s .ttd) ttd) (b .segments)
 
--- 9: "unbreakable TTD with two segments at a node of kind 1 or 2"
+-- 9: "unbreakable TTD with two segments at a node of kind 1 or 2", which of kinds 0 to 3 are those that may have a border
 unfoldable pub mayDivide : Book → ℕ → Bool
 mayDivide b ttd =
     any (λ n. not (deniesBorder (nodeKindAt b n))

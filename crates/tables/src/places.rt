@@ -127,7 +127,8 @@ pub fn served_at_departure(b: Book, c: Call, t: Train) -> bool
 }
 
 // Whether a train with this goal that ends at a place of l directed segments may be gone after that: the
-// place serves the goal, and its last directed segment, the front, ends at an exit.
+// place serves the goal, and its last directed segment, the front, ends at an exit. The train's number is
+// for the contract, which ties the goal to it.
 pub fn may_leave(b: Book, train: usize, to: Call, table: &[u8], at: usize, l: usize) -> bool
     requires { ⌜ Passed b × (to ≡ goalOf (held b) train) × (1 ≤ l) × (at + l ≤ length (now table))
         × (lastOr 0 (placeAt (now table) at l) < 2 * b .«segment_count») ⌝ }
