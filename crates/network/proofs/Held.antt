@@ -8,7 +8,7 @@ use lib.ListN.{getD}
 use lib.Seq.{getD-take}
 use lib.Dec.{eqb}
 use Rattle.model.specs.declared.Book.{Book as BookStruct}
-use Rattle.spec.specs.Book.{Segment, nodeKindAt, segmentAt, segmentOf, startNode, touches, shareNode}
+use Rattle.spec.specs.Book.{Segment, nodeKindAt, segmentAt, segmentOf, startNode, endNode, touches, shareNode}
 use Rattle.spec.specs.Held.{held, zeroSegment}
 
 pub segment-at : (b : BookStruct) (s : ℕ) → s < b .«segment_count» → segmentAt (held b) s ≡ getD (b .segments) s zeroSegment
@@ -24,6 +24,12 @@ pub start-at : (b : BookStruct) (d : ℕ) → d < 2 * b .«segment_count»
     → cond (eqb (d % 2) 0) (getD (b .segments) (d / 2) zeroSegment .a) (getD (b .segments) (d / 2) zeroSegment .b) ≡ startNode (held b) d
 unfolding startNode segmentOf
 start-at b d h = let l : d / 2 < b .«segment_count» = omega arith in simp (segment-at b (d / 2) l)
+
+-- and where it ends
+pub end-at : (b : BookStruct) (d : ℕ) → d < 2 * b .«segment_count»
+    → cond (eqb (d % 2) 0) (getD (b .segments) (d / 2) zeroSegment .b) (getD (b .segments) (d / 2) zeroSegment .a) ≡ endNode (held b) d
+unfolding endNode segmentOf
+end-at b d h = let l : d / 2 < b .«segment_count» = omega arith in simp (segment-at b (d / 2) l)
 
 module _ (b : BookStruct) (n s t : ℕ) (ls : s < b .«segment_count») (lt : t < b .«segment_count») where
   abbrev first : Segment

@@ -64,25 +64,28 @@ fn start_node(b: Book, d: usize) -> usize
     start_in(b.segments[d / 2], d)
 }
 
+// The node where directed segment d ends, s being the record of its segment.
+fn end_in(s: Segment, d: usize) -> usize
+    ensures { λ r. ⌜ (r ≡ cond (eqb (d % 2) 0) (s .b) (s .a)) × (r < 256) ⌝ }
+{
+    if d % 2 == 0 { wide(s.b) } else { wide(s.a) }
+}
+
 // The node where a directed segment ends.
 pub fn end_node(b: Book, d: usize) -> usize
     requires { ⌜ CountsFit b × (d < 2 * b .«segment_count») ⌝ }
     ensures { λ r. ⌜ (r ≡ book.endNode (held b) d) × (r < 256) ⌝ }
 {
-    let s = d / 2;
-    if d % 2 == 0 {
-        wide(b.segments[s].b)
-    } else {
-        wide(b.segments[s].a)
-    }
+    end_in(b.segments[d / 2], d)
 }
 
-// Whether a directed segment ends at an exit.
+// Whether a directed segment ends at an exit. It looks the segment up itself, since `end_node` would have
+// the book copied once more.
 pub fn ends_at_exit(b: Book, d: usize) -> bool
     requires { ⌜ CountsFit b × (d < 2 * b .«segment_count») × (book.endNode (held b) d < b .«node_count») ⌝ }
     ensures { λ r. ⌜ r ≡ book.isExit (book.nodeKindAt (held b) (book.endNode (held b) d)) ⌝ }
 {
-    let node = end_node(b, d);
+    let node = end_in(b.segments[d / 2], d);
     is_exit(b.nodes[node])
 }
 
