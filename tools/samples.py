@@ -1,7 +1,8 @@
 """Tests the reference by itself, on inputs made from SEED: document 01's examples ("On each edge", starred or not), whose books L and M are
 rewritten; random and damaged books, with every refusal of the book among them; old books, good and damaged, rewritten: the formula stays, and
-so does every number; trains that leave over an exit, and that may not; train graphs, read back by their columns; assignments, plans and refutations, with every rule broken; and brute force: on
-tiny books every plan is enumerated, and a plan that keeps the rules exists exactly where the formula is satisfiable. Prints counts.
+so does every number; trains that leave over an exit, and that may not; train graphs, read back by their columns; assignments, plans and
+refutations, with every rule broken; and brute force: on tiny books every plan is enumerated, and a plan that keeps the rules exists exactly
+where the formula is satisfiable. Prints counts.
 
 Exit status: 0 all held, 1 something did not (an assertion says what), 2 wrong usage.
 """

@@ -85,16 +85,17 @@ def interval_cases():
 # ------------------------------------------------------------ what is refused
 
 
-def ruled():
-    """Two trains on neighbouring segments of one TTD, back to back, which a border at node 1 parts: runs [0] [1] [2] [3] [0,2] [3,1]. Each has
-    an exit ahead. The second departs in interval 1, and has to be on its segment at the last time. Beside the line are nodes of kinds 2 and 0."""
+def ruled(place):
+    """Two trains on neighbouring segments of one TTD, which a border at node 1 parts: runs [0] [1] [2] [3] [0,2] [3,1]. Both ends of the line are
+    exits. The first train has this place on segment 0; the second faces the exit, departs in interval 1, and has to be on its segment at the last
+    time. Beside the line are nodes of kinds 2 and 0."""
     spec = Spec(100, 10, 3)
     spec.nodes, spec.segments, spec.joins = [EXIT, 1, EXIT, 2, 0], [(0, 1, 0), (1, 2, 0)], [(1, 0, 1)]
-    spec.trains, spec.calls = [(100, 36, 0, [1]), (100, 36, 1, [2])], [(0, 0, 0, 3), (1, 1, 3, 3)]
+    spec.trains, spec.calls = [(100, 36, 0, place), (100, 36, 1, [2])], [(0, 0, 0, 3), (1, 1, 3, 3)]
     return spec_bytes(spec)
 
 
-# borders and moves of that book, with the answer
+# borders and moves of that book, with the answer: of a first train that faces its exit
 PARTED, WHOLE = (0, 1, 0, 1, 0), (0, 0, 0, 1, 0)
 FIRST, SECOND = [1, 1, 1], [ABSENT, 2, 2]
 RULED_PAGE = page_of(b"  0  00-00 0  .", b"  1  00-00 0  01-01 0", b"  2  00-00 0  01-01 0")
@@ -115,12 +116,21 @@ BROKEN = (
 )
 
 
+# and of one that faces the other train: gone at an exit and not at its goal, runs that do not follow, into the other's section
+FACING = (
+    ("16 3", PARTED, [4, GONE, GONE], SECOND), ("16 3", PARTED, [0, 0, GONE], SECOND),
+    ("16 4", PARTED, [0, 1, 1], SECOND), ("16 4", PARTED, [4, 0, 0], SECOND),
+    ("16 6", PARTED, [0, 0, 4], SECOND), ("16 6", WHOLE, [0, 0, 0], SECOND),
+)
+
+
 def rule_cases():
     """Each rule broken, and a plan that keeps them; 12 comes ahead of each, where a byte too little is lent."""
-    data, good = ruled(), plan_bytes(PARTED, [FIRST, SECOND])
+    data, good = ruled([1]), plan_bytes(PARTED, [FIRST, SECOND])
     yield worked(data, good, RULED_PAGE)
     yield worked(data, plan_bytes(PARTED, [[1, 1, GONE], SECOND]), RULED_PAGE[:162] + page_of(b"  2  *        01-01 0"))
-    for said, borders, *moves in BROKEN:
+    broken = [(data, *row) for row in BROKEN] + [(ruled([0]), *row) for row in FACING]
+    for data, said, borders, *moves in broken:
         yield case(data, plan_bytes(borders, moves), said)
         yield case(data, plan_bytes(borders, moves), said, 81 * 3)
         yield case(data, plan_bytes(borders, moves), "12 0", 81 * 3 - 1)

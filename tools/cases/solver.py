@@ -22,6 +22,8 @@ from .solver_books import altered, shorter, trains_on_a_way, unset
 
 NAME, SEED = "solver.cases", 1
 BOOKS = 400
+# so many books in a row are tried where none is wanted
+MOST_IDLE = 1500
 # the most that all records may have together; a refutation of more than so many bytes is a long one, and there are few of these
 MOST_BYTES, MOST_FILE, MOST_LONG = 600000, 3000, 8
 # of a hundred books, how many may have a plan or none, by the number of trains, and how many may be refuted by a single step
@@ -280,13 +282,17 @@ class Stock:
 
 
 def gathered(rng):
-    stock = Stock()
+    """Random books until there are enough; it gives up where none of many is wanted."""
+    stock, idle = Stock(), 0
     for data in random_books(rng):
+        idle += 1
         for answered in family(data):
             if not stock.full() and stock.can_take(answered) and stock.wants(answered):
                 stock.add_book(rng, answered)
+                idle = 0
         if stock.full():
             return stock
+        assert idle < MOST_IDLE, f"none of {MOST_IDLE} books is wanted; too few of {sorted(stock.lacking())}"
 
 
 def records(rng, note):

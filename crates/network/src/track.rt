@@ -49,11 +49,18 @@ pub fn touches(s: Segment, node: usize) -> bool
     wide(s.a) == node || wide(s.b) == node
 }
 
+// Of two nodes the one for the direction of d: the first if it runs from a to b of its segment.
+fn by_direction(d: usize, forth: u8, back: u8) -> usize
+    ensures { λ r. ⌜ (r ≡ cond (eqb (d % 2) 0) forth back) × (r < 256) ⌝ }
+{
+    if d % 2 == 0 { wide(forth) } else { wide(back) }
+}
+
 // The node where directed segment d begins, s being the record of its segment.
 pub fn start_in(s: Segment, d: usize) -> usize
     ensures { λ r. ⌜ (r ≡ cond (eqb (d % 2) 0) (s .a) (s .b)) × (r < 256) ⌝ }
 {
-    if d % 2 == 0 { wide(s.a) } else { wide(s.b) }
+    by_direction(d, s.a, s.b)
 }
 
 // The node where a directed segment begins.
@@ -68,7 +75,7 @@ fn start_node(b: Book, d: usize) -> usize
 fn end_in(s: Segment, d: usize) -> usize
     ensures { λ r. ⌜ (r ≡ cond (eqb (d % 2) 0) (s .b) (s .a)) × (r < 256) ⌝ }
 {
-    if d % 2 == 0 { wide(s.b) } else { wide(s.a) }
+    by_direction(d, s.b, s.a)
 }
 
 // The node where a directed segment ends.
