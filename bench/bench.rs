@@ -12,6 +12,7 @@
 //
 //   ./bench scale formula       writing the formula; 3.6 GB for comparing the outputs
 //   ./bench scale plan          checking a plan and writing it as an assignment
+//   ./bench scale carriers      listing the borders that carry a plan
 //   ./bench scale assignment    checking an assignment and decoding it
 //   ./bench scale refutation    checking refutations of 100,000 steps, which are made first; 6 GB and some minutes
 
@@ -106,6 +107,9 @@ fn judgements(name: &str, plan_name: &str, space: &mut Space) {
     compare("check the plan", 20, vec![9; values.len()], workers::plan_checkers(&book, &plan, space));
     compare("check the assignment", 10, vec![9; plan.len()], workers::assignment_checkers(&book, &values, space));
     compare("print the train graph", 20, vec![9; 20736], workers::graph_printers(&book, &plan));
+    // with all the borders that there may be, so that each is cleared
+    let bordered = same::with_borders(&plain::read_book(&book).expect("a good book"), &plan, || true);
+    compare("list the carriers", 20, vec![9; 384], workers::carrier_listers(&book, &bordered, space));
 }
 
 // A refutation of so many steps, with its hints and the words that it adds.
@@ -148,6 +152,10 @@ fn call(what: &str, who: &str, name: &str, times: usize, space: &mut Space) {
     match what {
         "read" => repeat(who, times, (), workers::readers(&book, space, &mut Space::new())),
         "write" => repeat(who, times, vec![1; totals.words], workers::writers(&book, space)),
+        "carriers" => {
+            let plan = load(&name.replace(".book", ".plan"));
+            repeat(who, times, vec![1; 384], workers::carrier_listers(&book, &plan, space));
+        }
         "plan" | "assignment" => {
             let (plan, mut values) = (load(&name.replace(".book", ".plan")), vec![1; totals.variables]);
             tuned_checks::check_plan(&book, &plan, &mut values, space).expect("a good plan");
@@ -157,7 +165,7 @@ fn call(what: &str, who: &str, name: &str, times: usize, space: &mut Space) {
             }
         }
         _ => {
-            let steps = what.parse().expect("read, write, plan, assignment or a number of steps");
+            let steps = what.parse().expect("read, write, plan, carriers, assignment or a number of steps");
             let (r, _, slices) = small_refutation(&book, steps, space);
             repeat(who, times, slices(), workers::refutation_checkers(&book, &r, space));
         }

@@ -1,5 +1,5 @@
-// Plain Rust of the three checks and of the train graph, to time the proved ones against, over plain.rs's reader and walk. Written from document 01;
-// nothing in it is tuned by hand. A refusal is its number and its detail.
+// Plain Rust of the three checks, of the train graph and of the list of carriers, to time the proved ones against, over plain.rs's reader
+// and walk. Written from documents 01 and 02; nothing in it is tuned by hand. A refusal is its number and its detail.
 
 use std::io::Write;
 
@@ -71,12 +71,12 @@ fn moves(book: &Book, plan: &[u8]) -> Vec<Vec<usize>> {
         .collect()
 }
 
-// Each segment's section: the least segment that it is together with.
-fn sections(book: &Book, plan: &[u8]) -> Vec<usize> {
+// Each segment's section: the least segment that it is together with. What meets is the book's, listed once for many sets of borders.
+fn sections(book: &Book, meets: &[(i32, i32, i32)], borders: &[u8]) -> Vec<usize> {
     let mut section: Vec<usize> = (0..book.segments.len()).collect();
-    for (node, s, u) in meets(book) {
+    for &(node, s, u) in meets {
         let (x, y) = (section[s as usize], section[u as usize]);
-        if plan[node as usize] == 0 && x != y {
+        if borders[node as usize] == 0 && x != y {
             for k in section.iter_mut().filter(|k| **k == x.max(y)) {
                 *k = x.min(y);
             }
@@ -113,13 +113,22 @@ fn broken_by_train(book: &Book, tr: usize, moves: &[usize]) -> usize {
     if served { 0 } else { 5 }
 }
 
-// Whether a train's run touches each section.
-fn touched(run: Option<&Vec<u8>>, section: &[usize]) -> [bool; 64] {
-    let mut marks = [false; 64];
-    for &x in run.into_iter().flatten() {
-        marks[section[x as usize / 2]] = true;
-    }
-    marks
+// The sections that a train's run touches, a bit each.
+fn touched(run: Option<&Vec<u8>>, section: &[usize]) -> u64 {
+    run.into_iter().flatten().fold(0, |all, &x| all | 1 << section[x as usize / 2])
+}
+
+// Rule 6: the first interval in which two trains' runs touch one section.
+fn first_meeting(book: &Book, moves: &[Vec<usize>], section: &[usize]) -> Option<usize> {
+    (0..book.intervals).find(|&i| {
+        let mut taken = 0;
+        (0..moves.len()).any(|tr| {
+            let mine = touched(book.runs[tr].get(moves[tr][i]), section);
+            let met = taken & mine != 0;
+            taken |= mine;
+            met
+        })
+    })
 }
 
 // A plan that keeps the rules: its moves and its sections.
@@ -136,17 +145,9 @@ fn judged(book: &Book, plan: &[u8]) -> Verdict<(Vec<Vec<usize>>, Vec<usize>)> {
     if let Some(rule) = broken {
         return Err((16, rule));
     }
-    let section = sections(book, plan);
-    for i in 0..book.intervals {
-        let mut taken = [false; 64];
-        for tr in 0..moves.len() {
-            for (mine, all) in touched(book.runs[tr].get(moves[tr][i]), &section).iter().zip(taken.iter_mut()) {
-                if *mine && *all {
-                    return Err((16, 6));
-                }
-                *all |= *mine;
-            }
-        }
+    let section = sections(book, &meets(book), plan);
+    if first_meeting(book, &moves, &section).is_some() {
+        return Err((16, 6));
     }
     Ok((moves, section))
 }
@@ -170,7 +171,7 @@ pub fn check_plan(s: &[u8], plan: &[u8], out: &mut [u8]) -> Verdict<usize> {
             out[at] = u8::from(moves[tr][i] == 65535);
             at += 1;
             for &label in &section {
-                out[at] = u8::from(marks[label]);
+                out[at] = (marks >> label & 1) as u8;
                 at += 1;
             }
         }
@@ -199,6 +200,36 @@ pub fn print_graph(s: &[u8], plan: &[u8], out: &mut [u8]) -> Verdict<usize> {
         }
     }
     Ok(length)
+}
+
+// Lists the borders that carry a plan: each set one of kind 1 whose clearing alone lets trains meet, with the first interval in which they
+// do and the first pair of them. Answers the list's length.
+pub fn list_carriers(s: &[u8], plan: &[u8], out: &mut [u8]) -> Verdict<usize> {
+    let book = plainly(read_book(s))?;
+    plainly(refuse_if(out.len() < 4 * book.nodes.iter().filter(|&&kind| kind == 1).count(), 12))?;
+    let (moves, _) = judged(&book, plan)?;
+    let meets = meets(&book);
+    let mut borders = plan[..book.nodes.len()].to_vec();
+    let mut entries = out.chunks_exact_mut(4);
+    let mut listed = 0;
+    for node in (0..borders.len()).filter(|&node| book.nodes[node] == 1 && plan[node] == 1) {
+        borders[node] = 0;
+        let section = sections(&book, &meets, &borders);
+        borders[node] = 1;
+        if let Some(i) = first_meeting(&book, &moves, &section) {
+            let (lower, higher) = first_pair(&book, &moves, &section, i);
+            entries.next().expect("room for it").copy_from_slice(&[node as u8, i as u8, lower as u8, higher as u8]);
+            listed += 1;
+        }
+    }
+    Ok(4 * listed)
+}
+
+// Of the pairs of trains that meet in an interval, the first by lower and then by higher train.
+fn first_pair(book: &Book, moves: &[Vec<usize>], section: &[usize], i: usize) -> (usize, usize) {
+    let marks: Vec<u64> = (0..moves.len()).map(|tr| touched(book.runs[tr].get(moves[tr][i]), section)).collect();
+    let mut pairs = (0..marks.len()).flat_map(|x| (x + 1..moves.len()).map(move |y| (x, y)));
+    pairs.find(|&(x, y)| marks[x] & marks[y] != 0).expect("two trains meet")
 }
 
 // The slices that a refutation check works in.

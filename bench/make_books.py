@@ -9,7 +9,9 @@
 small_l.book is document 01's book L. Each big book has T = 32, 8 trains (l = 1, k = 1, departure 0) and about 250 runs a train; a smaller
 ring has 4 runs a segment. In a stand book the trains stand where their calls are. A shut book has a call whose window shuts before the
 departure, so its formula has an empty clause. A scale book has the most of everything that its shape allows: T = 256, 96 nodes, 64
-segments, 8 trains, some 256 runs a train; scale_ring and scale_tracks have plans, in scale_long eight trains have no room.
+segments, 8 trains, some 256 runs a train; scale_ring and scale_tracks have plans, in scale_long eight trains have no room. The plans of
+scale_apart and scale_close, with every border set, are for the list of carriers: no border of the first one's carries it, and two thirds of
+the second one's do.
 The reference must accept each (read_book raises otherwise).
 """
 
@@ -92,12 +94,12 @@ def standing_plan(spec, border):
     return bytes([border]) * len(spec.nodes) + b"".join(codes)
 
 
-def circling_plan(spec):
-    """No border; each train goes round the ring, a segment an interval. The run from 2s to 2s + 2 has the number of the place 2s behind
-    all places."""
+def circling_plan(spec, border):
+    """Every border set or none; each train goes round the ring, a segment an interval. The run that moves on from a place has the place's
+    number, its rear directed segment's, behind all places."""
     n = len(spec.segments)
     codes = [struct.pack("<H", 2 * n + 2 * ((row[0] // 2 + i) % n)) for _, _, _, row in spec.trains for i in range(spec.T)]
-    return bytes(len(spec.nodes)) + b"".join(codes)
+    return bytes([border]) * len(spec.nodes) + b"".join(codes)
 
 
 def shut():
@@ -175,6 +177,20 @@ def scale_long():
     return filled(spec)
 
 
+def scale_round(l):
+    """A ring of 64 segments of one TTD, 128 + 128 runs, with 8 trains of l segments behind each other. When they go round, a segment an
+    interval and every border set, 7 - l segments are free between their runs: with l = 6 no border carries the plan, so that each of the
+    96 is cleared and judged in all 256 intervals; with l = 7 each of the ring's carries it."""
+    spec = Spec()
+    spec.nodes = [1] * 64
+    spec.segments = [(s, (s + 1) % 64, 0) for s in range(64)]
+    spec.joins = [((s + 1) % 64, s, (s + 1) % 64) for s in range(64)]
+    for tr in range(8):
+        spec.trains.append((100 * l, 36, 0, [2 * (8 * tr + s) for s in range(l)]))
+        spec.calls += [(tr, (8 * tr + c) % 64, 1, 256) for c in (5, 7, 9, 0)]
+    return filled(spec)
+
+
 def with_shut_call(spec):
     """The first train departs an interval later, and its first call is over by then."""
     length, speed, _, place = spec.trains[0]
@@ -188,9 +204,11 @@ def scale_books():
     """By name each largest book, with a plan or None."""
     return {
         "scale_line": (scale_line(), None),
-        "scale_ring": (scale_ring(), circling_plan(scale_ring())),
+        "scale_ring": (scale_ring(), circling_plan(scale_ring(), 0)),
         "scale_tracks": (scale_tracks(), standing_plan(scale_tracks(), 1)),
         "scale_long": (scale_long(), None),
+        "scale_apart": (scale_round(6), circling_plan(scale_round(6), 1)),
+        "scale_close": (scale_round(7), circling_plan(scale_round(7), 1)),
         "scale_shut_ring": (with_shut_call(scale_ring()), None),
         "scale_shut_long": (with_shut_call(scale_long()), None),
     }

@@ -33,6 +33,7 @@ unsafe extern "C" {
     fn gentupag_check_assignment(book: *const u8, len: usize, s: *const u8, n: usize, out: *mut u8, room: usize) -> Output;
     fn gentupag_check_plan(book: *const u8, len: usize, s: *const u8, n: usize, out: *mut u8, room: usize) -> Output;
     fn gentupag_print_graph(book: *const u8, len: usize, s: *const u8, n: usize, out: *mut u8, room: usize) -> Output;
+    fn gentupag_list_carriers(book: *const u8, len: usize, s: *const u8, n: usize, out: *mut u8, room: usize) -> Output;
     fn gentupag_check_refutation(
         book: *const u8, len: usize, r: *const u8, n: usize, words: *mut i32, w: usize, clauses: *mut usize, c: usize,
         values: *mut u8, v: usize, trail: *mut usize, t: usize) -> Verdict;
@@ -59,6 +60,11 @@ pub fn check_assignment(book: &[u8], s: &[u8], out: &mut [u8]) -> Result<usize, 
 
 pub fn print_graph(book: &[u8], s: &[u8], out: &mut [u8]) -> Result<usize, (usize, usize)> {
     let r = unsafe { gentupag_print_graph(book.as_ptr(), book.len(), s.as_ptr(), s.len(), out.as_mut_ptr(), out.len()) };
+    found(r.number, r.detail, r.length)
+}
+
+pub fn list_carriers(book: &[u8], s: &[u8], out: &mut [u8]) -> Result<usize, (usize, usize)> {
+    let r = unsafe { gentupag_list_carriers(book.as_ptr(), book.len(), s.as_ptr(), s.len(), out.as_mut_ptr(), out.len()) };
     found(r.number, r.detail, r.length)
 }
 

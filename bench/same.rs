@@ -110,6 +110,25 @@ fn graph(name: &str, book: &[u8], plan: &[u8], room: usize) {
     assert!(one == two, "{name}: the pages differ");
 }
 
+// Lists the borders that carry a plan, with the list's room, a byte more and a byte less.
+fn carriers(name: &str, book: &[u8], plan: &[u8], room: usize, space: &mut Space) {
+    let [mut one, mut two, mut three] = [(); 3].map(|_| vec![9u8; room]);
+    let found = proved::list_carriers(book, plan, &mut one);
+    tally(&found);
+    assert_eq!(found, checks::list_carriers(book, plan, &mut two), "{name}, carriers, plain");
+    assert_eq!(found, tuned_checks::list_carriers(book, plan, &mut three, space), "{name}, carriers, tuned");
+    assert!(one == two && one == three, "{name}: the lists differ");
+}
+
+// The plan with more borders set, where a node may have one and one is wanted: it keeps the rules if the plan does.
+pub fn with_borders(book: &plain::Book, plan: &[u8], mut wanted: impl FnMut() -> bool) -> Vec<u8> {
+    let mut other = plan.to_vec();
+    for (border, _) in other.iter_mut().zip(&book.nodes).filter(|(_, &kind)| kind == 1 && wanted()) {
+        *border = 1;
+    }
+    other
+}
+
 // Checks an assignment; answers the plan.
 fn assignment(name: &str, book: &[u8], values: &[u8], room: usize, space: &mut Space) -> Option<Vec<u8>> {
     let [mut one, mut two, mut three] = [(); 3].map(|_| vec![9u8; room]);
@@ -132,11 +151,14 @@ pub fn judgements(name: &str, book: &[u8], good: &[u8], space: &mut Space) -> Ve
 
 fn trials(name: &str, book: &[u8], good: &[u8], values: &[u8], times: usize, space: &mut Space) {
     let mut random = Random(88172645463325252);
-    let page = 81 * plain::read_book(book).map_or(1, |b| b.intervals);
+    let read = plain::read_book(book).expect("a good book");
+    let (page, list) = (81 * read.intervals, 4 * read.nodes.iter().filter(|&&kind| kind == 1).count());
     for k in 0..times {
         let near = damaged(good, &mut random);
         plan(name, book, &near, values.len() + k % 3 - 1, space);
         graph(name, book, if k % 8 == 0 { good } else { &near }, page + k % 3 - 1);
+        let bordered = with_borders(&read, good, || random.below(4) <= k % 4);
+        carriers(name, book, if k % 2 == 0 { &bordered } else { &near }, (list + k % 3).saturating_sub(1), space);
         assignment(name, book, &damaged(values, &mut random), good.len() + k % 3 - 1, space);
     }
 }

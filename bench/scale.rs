@@ -8,7 +8,7 @@ use crate::same::{self, Slices};
 use crate::tuned::Space;
 use crate::tuned_formula::{self, Totals};
 use crate::workers::{self, Worker};
-use crate::{load, refutation_of, shown, sizes, turns, wanted};
+use crate::{checks, load, refutation_of, shown, sizes, turns, wanted};
 
 unsafe extern "C" {
     fn malloc_trim(pad: usize) -> i32;
@@ -64,6 +64,15 @@ fn plan(name: &str, book: &[u8], totals: Totals, space: &mut Space) {
     measure("print the train graph", 20736, vec![1; 20736], workers::graph_printers(book, &plan));
 }
 
+// Listing the carriers; the plans have every border set.
+fn carriers(name: &str, book: &[u8], _: Totals, space: &mut Space) {
+    let plan = load(&format!("{name}.plan"));
+    same::judgements(name, book, &plan, space);
+    let (mut list, set) = (vec![1; 384], plan[..space.book.nodes].iter().filter(|&&border| border == 1).count());
+    let entries = checks::list_carriers(book, &plan, &mut list).expect("a good plan") / 4;
+    measure(&format!("list the carriers, {entries} of {set}"), list.len(), list, workers::carrier_listers(book, &plan, space));
+}
+
 fn assignment(name: &str, book: &[u8], _: Totals, space: &mut Space) {
     let plan = load(&format!("{name}.plan"));
     let values = same::judgements(name, book, &plan, space);
@@ -99,9 +108,10 @@ fn refutation(name: &str, book: &[u8], totals: Totals, space: &mut Space) {
 type Figure = fn(&str, &[u8], Totals, &mut Space);
 
 // The figures by their names, each with its books.
-const FIGURES: [(&str, Figure, &[&str]); 4] = [
+const FIGURES: [(&str, Figure, &[&str]); 5] = [
     ("formula", formula, &["scale_line", "scale_ring", "scale_tracks", "scale_long"]),
     ("plan", plan, &["scale_ring", "scale_tracks"]),
+    ("carriers", carriers, &["scale_apart", "scale_close", "scale_tracks"]),
     ("assignment", assignment, &["scale_ring", "scale_tracks"]),
     ("refutation", refutation, &["scale_shut_ring", "scale_shut_long"]),
 ];
@@ -109,7 +119,7 @@ const FIGURES: [(&str, Figure, &[&str]); 4] = [
 // One figure by its name, or all of them.
 pub fn figures(only: Option<&str>, space: &mut Space) {
     let chosen: Vec<_> = FIGURES.iter().filter(|row| only.is_none_or(|word| word == row.0)).collect();
-    assert!(!chosen.is_empty(), "formula, plan, assignment or refutation");
+    assert!(!chosen.is_empty(), "formula, plan, carriers, assignment or refutation");
     for (_, figure, names) in chosen {
         for name in names.iter().filter(|name| wanted(name)) {
             let book = load(&format!("{name}.book"));

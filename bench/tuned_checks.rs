@@ -1,15 +1,17 @@
-// Rust of the three checks that is tuned for speed, over tuned.rs and tuned_formula.rs. What was done:
+// Rust of the three checks and of the list of carriers that is tuned for speed, over tuned.rs and tuned_formula.rs. What was done:
 //
 // - An assignment is not held against every clause: by family C a train has one move an interval, which is looked for eight bytes at a
 //   time; the other families are asked of that move, and of the claims as a mask. The number of a false clause is computed.
 // - Sections are masks, and so are the claims of a run; a byte each is written eight at a time.
+// - No plan is judged again for the list of carriers: a cleared border makes one section of those that meet there, whose trains are looked
+//   up by section and interval, sixteen intervals at a time.
 // - In a refutation a step allocates and clears nothing; hints are read where they are, and without tests of an index; the clause of a
 //   hint eight hints on is fetched ahead; hints are tested, and the beginnings of clauses found, without a branch a number or a word.
 
 use std::arch::x86_64::{_mm_prefetch, _MM_HINT_T0};
 
 use crate::checks::Lent;
-use crate::tuned::{bits, Book, Call, List, Space, Table, Train, INTERVALS, SEGMENTS, TRAINS};
+use crate::tuned::{bits, index_runs, read_book, Book, Call, List, Space, Table, Train, INTERVALS, SEGMENTS, TRAINS};
 use crate::tuned_formula::{met_at_departure, prepare, width, write, Sizes};
 
 type Verdict<T> = Result<T, (usize, usize)>;
@@ -65,18 +67,26 @@ fn spread(mask: u64, bytes: &mut [u8]) {
     }
 }
 
-// The groups of two or more segments of one TTD at a node without a border.
+// The groups of two or more segments of one TTD at a node.
+fn groups_at(book: &Book, node: usize) -> impl Iterator<Item = u64> + '_ {
+    let mut left = book.touching[node];
+    let next = move || {
+        (left != 0).then(|| {
+            let group = left & book.of_ttd[book.ttds[left.trailing_zeros() as usize] as usize];
+            left &= !group;
+            group
+        })
+    };
+    std::iter::from_fn(next).filter(|group| group.count_ones() > 1)
+}
+
+// The same at all nodes without a border.
 fn groups(book: &Book, borders: &[u8]) -> ([u64; SEGMENTS], usize) {
     let (mut found, mut n) = ([0; SEGMENTS], 0);
     for node in (0..book.nodes).filter(|&node| borders[node] == 0) {
-        let mut left = book.touching[node];
-        while left != 0 {
-            let group = left & book.of_ttd[book.ttds[left.trailing_zeros() as usize] as usize];
-            left &= !group;
-            if group.count_ones() > 1 {
-                found[n] = group;
-                n += 1;
-            }
+        for group in groups_at(book, node) {
+            found[n] = group;
+            n += 1;
         }
     }
     (found, n)
@@ -260,11 +270,8 @@ fn broken_by_train(book: &Book, train: &Train, list: &List, moves: &[u16; INTERV
     least.min(if met { 7 } else { 5 })
 }
 
-// Checks a plan and writes it as an assignment; answers the assignment's length.
-pub fn check_plan(s: &[u8], plan: &[u8], out: &mut [u8], space: &mut Space) -> Verdict<usize> {
-    let sizes = prepare(s, space).map_err(|n| (n, 0))?;
-    let variables = sizes.totals.variables;
-    let Some(out) = out.get_mut(..variables) else { return Err((12, 0)) };
+// Finds the moves and claims of a plan that keeps the rules; answers by segment the segments of its section.
+fn keep_rules(space: &mut Space, plan: &[u8]) -> Verdict<[u64; SEGMENTS]> {
     if plan.len() != plan_length(space) {
         return Err((15, 0));
     }
@@ -289,7 +296,6 @@ pub fn check_plan(s: &[u8], plan: &[u8], out: &mut [u8], space: &mut Space) -> V
     if broken < 7 {
         return Err((16, broken));
     }
-    // by segment: the segments of its section
     let mut section: [u64; SEGMENTS] = std::array::from_fn(|s| 1 << s);
     let (found, n) = groups(book, borders);
     for &group in &found[..n] {
@@ -310,8 +316,18 @@ pub fn check_plan(s: &[u8], plan: &[u8], out: &mut [u8], space: &mut Space) -> V
             claims[i][k] = touched;
         }
     }
-    let (first, mut rest) = out.split_at_mut(book.nodes);
-    first.copy_from_slice(borders);
+    Ok(section)
+}
+
+// Checks a plan and writes it as an assignment; answers the assignment's length.
+pub fn check_plan(s: &[u8], plan: &[u8], out: &mut [u8], space: &mut Space) -> Verdict<usize> {
+    let sizes = prepare(s, space).map_err(|n| (n, 0))?;
+    let variables = sizes.totals.variables;
+    let Some(out) = out.get_mut(..variables) else { return Err((12, 0)) };
+    keep_rules(space, plan)?;
+    let Space { book, lists, moves, claims, .. } = space;
+    let (borders, mut rest) = out.split_at_mut(book.nodes);
+    borders.copy_from_slice(&plan[..book.nodes]);
     for i in 0..book.trains {
         let count = lists[book.train[i].list].count;
         for k in 0..book.intervals {
@@ -326,6 +342,54 @@ pub fn check_plan(s: &[u8], plan: &[u8], out: &mut [u8], space: &mut Space) -> V
         }
     }
     Ok(variables)
+}
+
+// Lists the borders that carry a plan; answers the list's length.
+pub fn list_carriers(s: &[u8], plan: &[u8], out: &mut [u8], space: &mut Space) -> Verdict<usize> {
+    read_book::<true>(s, space).map_err(|n| (n, 0))?;
+    if out.len() < 4 * space.book.kinds[..space.book.nodes].iter().filter(|&&kind| kind == 1).count() {
+        return Err((12, 0));
+    }
+    index_runs(&space.book, &mut space.lists[..space.list_count]);
+    let section = keep_rules(space, plan)?;
+    let Space { book, lists, moves, .. } = space;
+    // by a section's least segment and by interval: the trains there, a bit each
+    let mut there = [[0; INTERVALS]; SEGMENTS];
+    for (i, train) in book.train[..book.trains].iter().enumerate() {
+        let list = &lists[train.list];
+        for k in 0..book.intervals {
+            let r = moves[i][k] as usize;
+            if r < list.count {
+                bits(list.masks[r]).for_each(|s| there[section[s].trailing_zeros() as usize][k] |= 1 << i);
+            }
+        }
+    }
+    let mut length = 0;
+    for node in (0..book.nodes).filter(|&node| book.kinds[node] == 1 && plan[node] == 1) {
+        let meetings = groups_at(book, node).filter_map(|group| first_meeting(group, &section, &there));
+        if let Some([interval, lower, higher]) = meetings.min() {
+            out[length..length + 4].copy_from_slice(&[node as u8, interval, lower, higher]);
+            length += 4;
+        }
+    }
+    Ok(length)
+}
+
+// The first meeting, if any, where the sections of a group become one: the interval, and the lowest two trains.
+fn first_meeting(group: u64, section: &[u64; SEGMENTS], there: &[[u8; INTERVALS]; SEGMENTS]) -> Option<[u8; 3]> {
+    let (mut all, mut left) = ([0; INTERVALS], group);
+    while left != 0 {
+        let one = section[left.trailing_zeros() as usize];
+        left &= !one;
+        all.iter_mut().zip(&there[one.trailing_zeros() as usize]).for_each(|(all, trains)| *all |= trains);
+    }
+    let but_lowest = |trains: u8| trains & trains.wrapping_sub(1);
+    // first whether there is one, without a branch an interval
+    if all.iter().fold(0, |any, &trains| any | but_lowest(trains)) == 0 {
+        return None;
+    }
+    let k = all.iter().position(|&trains| but_lowest(trains) != 0)?;
+    Some([k as u8, all[k].trailing_zeros() as u8, but_lowest(all[k]).trailing_zeros() as u8])
 }
 
 // Checks a refutation; all slices are zero afterwards.

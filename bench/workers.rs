@@ -49,6 +49,14 @@ pub fn graph_printers<'a>(book: &'a [u8], plan: &'a [u8]) -> Vec<Worker<'a, Vec<
     ]
 }
 
+pub fn carrier_listers<'a>(book: &'a [u8], plan: &'a [u8], space: &'a mut Space) -> Vec<Worker<'a, Vec<u8>>> {
+    vec![
+        worker("proved", |out: &mut Vec<u8>| proved::list_carriers(black_box(book), plan, out)),
+        worker("plain", |out: &mut Vec<u8>| checks::list_carriers(black_box(book), plan, out)),
+        worker("tuned", |out: &mut Vec<u8>| tuned_checks::list_carriers(black_box(book), plan, out, space)),
+    ]
+}
+
 pub fn assignment_checkers<'a>(book: &'a [u8], values: &'a [u8], space: &'a mut Space) -> Vec<Worker<'a, Vec<u8>>> {
     vec![
         worker("proved", |out: &mut Vec<u8>| proved::check_assignment(black_box(book), values, out)),

@@ -7,6 +7,7 @@ built program print, and the result in the last file, where one is named and the
   check_refutation BOOK REFUTATION
   upgrade_book OLD NEW                      an old book, of times of one byte, rewritten
   print_graph BOOK PLAN                     the plan's train graph, a line an interval
+  list_carriers BOOK PLAN OUT               which borders carry the plan, four bytes each
 
 Exit status: 0 answered, accepted or refused; 2 wrong usage, or a file can't be read.
 """
@@ -23,14 +24,21 @@ def arguments(parser):
     parser.set_defaults(complain=parser.error)
 
 
+def answered(command, *inputs):
+    """The verdict's line, and an accepted input's result, which may be empty, or None."""
+    if command == "list_carriers":
+        return reference.list_carriers(*inputs)
+    answer = reference.check_two(command, *inputs) if command in CHECKS else reference.rewrite(*inputs)
+    return reference.verdict_line(answer), answer[1] if answer[0] == "accepted" and len(answer) > 1 else None
+
+
 def check(command, names):
     """The verdict's line; an accepted input's result goes to the file behind the inputs."""
     count = COMMANDS[command].inputs
-    given = map(read_bytes, names[:count])
-    answer = reference.check_two(command, *given) if command in CHECKS else reference.rewrite(*given)
-    if len(names) > count and answer[0] == "accepted":
-        write_bytes(names[count], answer[1])
-    return reference.verdict_line(answer)
+    line, result = answered(command, *map(read_bytes, names[:count]))
+    if len(names) > count and result is not None:
+        write_bytes(names[count], result)
+    return line
 
 
 def said_by(command, names):

@@ -1,8 +1,8 @@
 """Holds the definitions of crates/spec, evaluated by the checker, against the reference: BOOKS random and damaged books from SEED, with
-assignments, plans and refutations for those that pass, and as many old books, and books whose plans are drawn as train graphs. Both sides are
-asked the same questions, and it prints how many answers of each kind agreed, or which did not. A question's answer is a row of numbers: 0 and
-the result, or the refusal's number and detail. The questions become a table of a small crate beside a copy of crates/spec, and the checker
-(`rt dev`) decides it; a table that it refuses is halved until the question is found.
+assignments, plans and refutations for those that pass, and as many old books, books whose plans are drawn as train graphs, and books whose plans
+are carried by borders. Both sides are asked the same questions, and it prints how many answers of each kind agreed, or which did not. A
+question's answer is a row of numbers: 0 and the result, or the refusal's number and detail. The questions become a table of a small crate beside
+a copy of crates/spec, and the checker (`rt dev`) decides it; a table that it refuses is halved until the question is found.
 
 Exit status: 0 none differs, 1 some differ, or the checker refused a table's form, 2 wrong usage.
 """
@@ -17,11 +17,14 @@ import tempfile
 from collections import Counter
 
 from . import library, reference
+from .carrying_books import carried_plans
+from .counts import listed as counted
 from .crates import Listed, below
-from .known import lone, moving, on_segment
+from .features import list_features
+from .known import TWO, far, lone, moving, on_segment, parted
 from .passing_books import passing_book
 from .random_books import book_to_rewrite, damaged_book, random_book
-from .random_inputs import kept_plans, random_assignments, random_borders, random_plans, random_refutations
+from .random_inputs import kept_plans, random_assignments, random_borders, random_plans, random_refutations, with_needed_borders
 from .repository import ROOT, read_text, write_text
 
 # the most characters of questions in one table: a declaration has a limit of steps
@@ -77,6 +80,9 @@ drawing s p n = answered (printGraph s p n) λ g. g
 lineDrawn : Bytes → Bytes → ℕ → List ℕ
 lineDrawn s p t = answered (printGraph s p 65536) λ g. length g ∷ take 81 (drop (81 * t) g)
 
+listing : Bytes → Bytes → ℕ → List ℕ
+listing s p n = answered (listCarriers s p n) λ l. l
+
 measuring : Bytes → List ℕ
 measuring s = answered (measureBook s) λ z.
     z .intervals ∷ z .nodes ∷ z .freeNodes ∷ z .segments ∷ z .trains ∷ z .variableCount ∷ z .clauseCount ∷ z .wordCount ∷ z .planBytes ∷ []
@@ -110,8 +116,8 @@ failing : ℕ → List Case → List ℕ
 failing n [] = []
 failing n (c ∷ cs) = only (mathlib.Core.Bool.not (same (c .asked) (c .answer))) (n ∷ []) ++ failing (suc n) cs
 """
-HELPERS = """answered code rows lists grouped words textOf decoding encoding refuting′ rewriting drawing lineDrawn measuring labelling showing
-    running meant meaning′ failing"""
+HELPERS = """answered code rows lists grouped words textOf decoding encoding refuting′ rewriting drawing lineDrawn listing measuring labelling
+    showing running meant meaning′ failing"""
 # the constructors that the tables name, by the module that has them
 MAKERS = {"Lists": ["accepted", "refused"], "Library": ["noTrain", "noRun", "shown", "border", "run", "gone", "claim", "noVariable"]}
 
@@ -213,6 +219,7 @@ def input_questions(rng, data, book, each):
         n = variables - (rng.random() < 0.1)
         yield "plan", "encoding %s %s %d" % (row(data), row(s), n), answer_of(reference.entry_check_plan(data, s, n))
         yield graph_question(rng, data, book, s)
+        yield carriers_question(rng, data, book, s)
     words = reference.word_count(clauses)
     for s in list(random_refutations(rng, book, each)):
         lent = [words + 400, len(clauses) + 60, variables, variables]
@@ -229,12 +236,25 @@ def graph_question(rng, data, book, plan):
     return "graph", "drawing %s %s %d" % (row(data), row(plan), n), answer_of(reference.entry_print_graph(data, plan, n))
 
 
-def kept_graphs(rng, most):
-    """Graphs of plans that keep the rules, of a book with trains that pass each other."""
+def carriers_question(rng, data, book, plan):
+    """The borders that carry a plan, with room for an entry a kind 1 node or a byte too little."""
+    n = max(reference.carriers_length(book) - (rng.random() < 0.1), 0)
+    return "carriers", "listing %s %s %d" % (row(data), row(plan), n), answer_of(reference.entry_list_carriers(data, plan, n))
+
+
+def kept_questions(rng, most):
+    """Graphs of plans that keep the rules, of a book with trains that pass each other, and their lists, with the borders that are needed."""
     data = passing_book(rng)
     book, refusal = library.book_or_refusal(data)
     for plan in [] if refusal else itertools.islice(kept_plans(rng, book, 300), most):
         yield graph_question(rng, data, book, plan)
+        yield carriers_question(rng, data, book, with_needed_borders(rng, book, plan))
+
+
+def edge_carriers(rng):
+    """What random books seldom have, one of each: the last interval of 256; the last node of 96, and the last two trains of eight."""
+    for data, plan in (parted((0, 1, 0), TWO, (0, 1, 0), (0, 1), [(1, 255)], 256), far(1)[:2]):
+        yield carriers_question(rng, data, reference.read_book(data), plan)
 
 
 def line_questions(data, plan, times):
@@ -272,13 +292,16 @@ def explodes(data, form=reference.NEW):
 
 def questions(rng, books):
     yield from edge_graphs(rng)
+    yield from edge_carriers(rng)
     for n in range(books):
         if n % 8 == 3:
             # many intervals: the formula has too many words for a table
             data = random_book(rng, "long")
             yield "book", "lists %s" % row(data), listed(data)
             yield from long_graph(rng, data)
-        yield from kept_graphs(rng, 4)
+        yield from kept_questions(rng, 4)
+        for given in carried_plans(rng, "large" if n % 8 == 5 else "small"):
+            yield carriers_question(rng, *given)
         old = book_to_rewrite(rng)
         if len(old) <= 900 and not explodes(old, reference.OLD):
             yield from old_questions(rng, old)
@@ -376,9 +399,11 @@ def run(options):
     wrong, undecided = run_tables(asked)
     kinds = Counter(kind for kind, _, _ in asked)
     answers = Counter(answer[0] for _, _, answer in asked)
+    lists = Counter(name for kind, _, answer in asked if kind == "carriers" and answer[0] == 0 for name in list_features(answer[1:]))
     print("seed %d, %d books: %d questions" % (options.seed, options.books, len(asked)))
     print("  by kind:", ", ".join("%s %d" % kv for kv in sorted(kinds.items())))
     print("  by answer (0 is accepted):", ", ".join("%d: %d" % kv for kv in sorted(answers.items())))
+    print("  lists of carriers:", counted(lists))
     for kind, question, answer in wrong:
         print("DIFFER %s: %s\n    reference: %s" % (kind, question, answer))
     for kind, question, answer in undecided:

@@ -1,4 +1,4 @@
-"""What a book has in it, looked up in the book and not in how it was made, so that counts of books say what was tried."""
+"""What a book or a list of carriers has in it, looked up there and not in how it was made, so that counts say what was tried."""
 import itertools
 
 from . import reference as ref
@@ -80,3 +80,23 @@ def features(book):
         "an exit": EXIT in book.nodes,
         "no exit": EXIT not in book.nodes,
     }
+
+
+def entries_of(carriers):
+    """The entries of a list of carriers: node, interval, lower and higher train."""
+    return [tuple(carriers[at:at + ref.ENTRY_BYTES]) for at in range(0, len(carriers), ref.ENTRY_BYTES)]
+
+
+def list_features(carriers):
+    """The names of what occurs in a list of carriers."""
+    entries = entries_of(carriers)
+    there = {
+        "empty": not entries,
+        "one entry": len(entries) == 1,
+        "several entries": len(entries) > 1,
+        "an interval above 0": any(t > 0 for _, t, _, _ in entries),
+        "several intervals": len({t for _, t, _, _ in entries}) > 1,
+        "other trains than 0 and 1": any(pair != [0, 1] for _, _, *pair in entries),
+        "several pairs": len({(i, j) for _, _, i, j in entries}) > 1,
+    }
+    return [name for name, has in there.items() if has]

@@ -3,10 +3,11 @@ SEED makes that book of the seed alone.
 
 Of each book: the formula's text is the reference's; the solver script decides it, and one of Debian's solvers that are installed, in turns;
 what they answer is accepted, and turned into a plan and back; spoiled assignments, plans and refutations get the reference's line and
-result, and every plan, spoiled or not, its train graph or line; no book has both a plan and a refutation accepted. Where the plans are few,
-all are tried by the reference's rules: there is one that keeps them exactly where there is an accepted assignment, and otherwise there is an
-accepted refutation. With each book goes an old one, good or damaged, which is rewritten as the reference does it; what comes of it has the
-formula that the old book had. Prints a summary and every difference; the files of those stay in a folder that it names.
+result, and every plan, spoiled or not, its train graph or line, and the list of the borders that carry it; no book has both a plan and a
+refutation accepted. Where the plans are few, all are tried by the reference's rules: there is one that keeps them exactly where there is an
+accepted assignment, and otherwise there is an accepted refutation. With each book goes an old one, good or damaged, which is rewritten as the
+reference does it; what comes of it has the formula that the old book had; and one with plans that borders carry, which are listed. Prints a
+summary and every difference; the files of those stay in a folder that it names.
 
 Exit status: 0 no difference, 1 a difference, 2 wrong usage, or the program is missing.
 """
@@ -23,9 +24,11 @@ from collections import Counter, defaultdict
 
 from . import reference as ref
 from .all_plans import keeping, plans_to_try
+from .ask import answered
 from .books import BORDER_KINDS
+from .carrying_books import carried_plans
 from .counts import answer_name, line_name, listed
-from .features import features, on, parallel_tracks
+from .features import features, list_features, on, parallel_tracks
 from .inputs import TooLong, plan_bytes, read_steps, step_frame
 from .passing_books import make_book
 from .program import CABINET, CHECKS, built, has_result
@@ -143,22 +146,28 @@ class Trial:
 
     # ---- verdicts
 
-    def check(self, program, second):
-        """The program's line and result beside the reference's; answers what the program said: its line, and the result or None."""
-        self.write("second", second)
+    def beside(self, program, *names):
+        """The program's line and result beside the reference's, of inputs that are in their files already; answers what the program said: its
+        line, and the result or None."""
         self.remove("result")
-        names = ["book", "second"] + ["result"] * has_result(program)
-        line, result = self.run(program, *names), self.read("result")
-        found = ref.check_two(program, self.data, second)
-        expected = ref.verdict_line(found), found[1] if found[0] == "accepted" and len(found) > 1 else None
+        inputs = {name: self.read(name) for name in names}
+        line, result = self.run(program, *names, *["result"] * has_result(program)), self.read("result")
+        expected = answered(program, *inputs.values())
         if (line, result) != expected:
             told = f"{program}: printed {line!r} and result {shown(result)}, the reference has {expected[0]!r} and {shown(expected[1])}"
-            self.differ(told, second=second, result=result or b"", expected=expected[1] or b"")
+            self.differ(told, **{**inputs, "result": result or b"", "expected": expected[1] or b""})
         self.count[program][line_name(line)] += 1
+        return line, result
+
+    def check(self, program, second):
+        """A check beside the reference's; a plan is drawn and listed too."""
+        self.write("second", second)
+        line, result = self.beside(program, "book", "second")
         if line == b"accepted\n":
             self.note_accepted(program, second)
         if program == "check_plan":
             self.draw(second)
+            self.list_carriers("book", "second")
         return line, result
 
     def draw(self, plan):
@@ -167,6 +176,12 @@ class Trial:
         if page != expected:
             self.differ("print_graph: another page or line than the reference's", second=plan, page=page, expected=expected)
         self.count["print_graph"]["accepted" if page.startswith(b" ") else line_name(page)] += 1
+
+    def list_carriers(self, *names):
+        """The borders that carry a plan, of a book and a plan that are in their files already."""
+        _, result = self.beside("list_carriers", *names)
+        if result is not None:
+            self.count["lists of carriers"].update(list_features(result))
 
     def note_accepted(self, program, second):
         """No book has both."""
@@ -192,15 +207,8 @@ class Trial:
         """An old book, or what is none; the line, the new book, and its formula beside the old one's."""
         old = book_to_rewrite(self.rng)
         self.write("old", old)
-        self.remove("result")
-        line, result = self.run("upgrade_book", "old", "result"), self.read("result")
-        found = ref.rewrite(old)
-        expected = ref.verdict_line(found), found[1] if found[0] == "accepted" else None
-        if (line, result) != expected:
-            told = f"upgrade_book: printed {line!r} and result {shown(result)}, the reference has {expected[0]!r} and {shown(expected[1])}"
-            self.differ(told, old=old, result=result or b"", expected=expected[1] or b"")
-        self.count["upgrade_book"][line_name(line)] += 1
-        if result is not None and found[0] == "accepted":
+        _, result = self.beside("upgrade_book", "old")
+        if result is not None and ref.rewrite(old)[0] == "accepted":
             self.same_formula(old, result)
 
     def same_formula(self, old, new):
@@ -208,6 +216,14 @@ class Trial:
         text = self.run("print_formula", stdin=new)
         if text.startswith(b"p cnf ") and text != ref.dimacs(ref.read_book(old, ref.OLD)):
             self.differ("upgrade_book: the new book has another formula than the old one had", old=old, new=new)
+
+    # ---- a book with plans that borders carry
+
+    def carry(self):
+        for data, _, plan in carried_plans(self.rng, self.rng.choice(("tiny", "small", "large"))):
+            self.write("carried", data)
+            self.write("plan", plan)
+            self.list_carriers("carried", "plan")
 
     # ---- the formula and the solvers
 
@@ -337,6 +353,7 @@ class Trial:
     def all(self):
         self.all_of_book()
         self.rewrite()
+        self.carry()
 
     def all_of_book(self):
         if not self.read_book():
@@ -410,7 +427,8 @@ def summary(session, seconds):
     count = session.count
     books, accepted = sum(count["books"].values()), count["books"].pop("accepted", 0)
     say(f"seed {session.seed}, {seconds:.0f} s: {books} books, {accepted} accepted; refused by {listed(count['books'])}")
-    for name in ("formula", "decided", "solvers", "refutations of solvers", "enumerated", *CHECKS, "upgrade_book", "print_graph"):
+    for name in ("formula", "decided", "solvers", "refutations of solvers", "enumerated", *CHECKS, "upgrade_book", "print_graph", "list_carriers",
+                 "lists of carriers"):
         say(f"{name}: {listed(count[name])}")
     missing = [name for name in SOLVERS if name not in session.solvers]
     say(f"real solvers: {', '.join(session.solvers) or 'none'}; not used: {', '.join(missing) or 'none'}")

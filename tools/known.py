@@ -1,7 +1,8 @@
 """Books that are known by name: document 01's, rows, stars and rings, books on each limit, books with many intervals, books as long as a slice,
-and books whose train graphs show every kind of cell; with the inputs and pages of some that were worked out by hand."""
+books whose train graphs show every kind of cell, and books whose plans are carried by borders; with the inputs, pages and lists of some that were
+worked out by hand."""
 from . import reference as ref
-from .books import EXIT, Spec, spec_bytes
+from .books import EXIT, MAY_BE_SET, NEVER, Spec, spec_bytes
 from .inputs import plan_bytes, step_frame
 from .reference import NEW, OLD
 
@@ -366,15 +367,100 @@ def on_segment(segment):
     return spec_bytes(spec), plan_bytes([0] * 65, [[2 * segment]])
 
 
-def circling(intervals, count=8):
-    """Trains on a ring of 64 segments, each a TTD of its own, eight apart; they go round it by one segment an interval. Book and plan."""
+def circling(intervals, count=8, apart=8, bordered=False):
+    """Trains on a ring of 64 segments, so many apart; they go round it by one segment an interval. Each segment is a TTD of its own; bordered, all
+    are of one TTD, and each node has a border, which may be set. Book and plan."""
     spec = Spec(100, 10, intervals)
-    spec.nodes = [0] * 64
-    spec.segments = [(s, (s + 1) % 64, s) for s in range(64)]
+    spec.nodes = [MAY_BE_SET if bordered else NEVER] * 64
+    spec.segments = [(s, (s + 1) % 64, 0 if bordered else s) for s in range(64)]
     spec.joins = [((s + 1) % 64, s, (s + 1) % 64) for s in range(64)]
     for train in range(count):
-        spec.trains.append((100, 36, 0, [16 * train]))
-        spec.calls.append((train, 8 * train, 0, intervals))
+        spec.trains.append((100, 36, 0, [2 * apart * train]))
+        spec.calls.append((train, apart * train, 0, intervals))
     # the runs that move follow 128 that stand, by their first segment, either way
-    moves = [[128 + 2 * ((8 * train + t) % 64) for t in range(intervals)] for train in range(count)]
-    return spec_bytes(spec), plan_bytes([0] * 64, moves)
+    moves = [[128 + 2 * ((apart * train + t) % 64) for t in range(intervals)] for train in range(count)]
+    return spec_bytes(spec), plan_bytes([int(bordered)] * 64, moves)
+
+
+# ------------------------------------------------- borders that carry a plan
+
+
+def list_of(*entries):
+    """A list by its entries: node, interval, lower and higher train."""
+    return bytes(x for entry in entries for x in entry)
+
+
+def parted(kinds, segments, borders, places, late=(), T=1):
+    """Unjoined segments, nodes of these kinds with these borders, and trains that stand on these segments from the first interval on, or from a
+    late one that is given by train. Book and plan."""
+    spec, moves = Spec(T=T), []
+    spec.nodes, spec.segments = list(kinds), list(segments)
+    for train, segment in enumerate(places):
+        departure = dict(late).get(train, 0)
+        spec.trains.append((100, 36, departure, [2 * segment]))
+        spec.calls.append((train, segment, 0, T))
+        # the runs of a segment there and back, none of which moves
+        moves.append([ref.ABSENT] * departure + [2 * segment] * (T - departure))
+    return spec_bytes(spec), plan_bytes(borders, moves)
+
+
+# segments of one TTD: two and three in a row, four in a ring, two that share both nodes, three that share node 1; and two pairs that share it, each
+# of a TTD of its own
+TWO, THREE = ((0, 1, 0), (1, 2, 0)), ((0, 1, 0), (1, 2, 0), (2, 3, 0))
+RING, PAIR = ((0, 1, 0), (1, 2, 0), (2, 3, 0), (3, 0, 0)), ((0, 1, 0), (1, 0, 0))
+FORK, CROSSING = ((0, 1, 0), (1, 2, 0), (1, 3, 0)), ((0, 1, 0), (1, 2, 0), (3, 1, 1), (1, 4, 1))
+
+# P5's cases of trains that stand for an interval: the nodes' kinds, segments, borders, where the trains stand, and the entries
+CARRYING = (
+    ((0, 1, 0), TWO, (0, 1, 0), (0, 1), [(1, 0, 0, 1)]),                                    # two trains, a border between them
+    ((0, 1, 0), TWO, (0, 1, 0), (1, 0), [(1, 0, 0, 1)]),                                    # the higher one ahead
+    ((0, 2, 0), TWO, (0, 1, 0), (0, 1), []),                                                # one that is always set
+    ((1, 2, 1), TWO, (1, 1, 1), (0, 1), []),                                                # with others that may be set
+    ((1, 1, 1), TWO, (1, 1, 1), (0, 1), [(1, 0, 0, 1)]),                                    # where a line ends it parts nothing
+    ((0, 1, 0), TWO, (0, 1, 0), (0,), []),                                                  # one train
+    ((0, 1, 0), ((0, 1, 0), (1, 2, 1)), (0, 1, 0), (0, 1), []),                             # two TTDs
+    ((0, 1, 0), ((0, 1, 0), (1, 2, 1)), (0, 0, 0), (0, 1), []),                             # and no border there
+    ((0, 1, 1, 0), THREE, (0, 1, 1, 0), (0, 2), []),                                        # two, either of which may go
+    ((0, 1, 1, 0), THREE, (0, 1, 0, 0), (0, 2), [(1, 0, 0, 1)]),                            # and then the other may not
+    ((0, 1, 1, 0), THREE, (0, 0, 1, 0), (0, 2), [(2, 0, 0, 1)]),
+    ((0, 1, 2, 0), THREE, (0, 1, 1, 0), (0, 2), []),                                        # behind it one that is always set
+    ((0, 1, 1, 0), THREE, (0, 1, 1, 0), (0, 1), [(1, 0, 0, 1)]),                            # one that carries, one that does not
+    ((0, 1, 1, 0), THREE, (0, 1, 1, 0), (0, 1, 2), [(1, 0, 0, 1), (2, 0, 1, 2)]),           # each with its pair
+    ((0, 1, 1, 0), THREE, (0, 1, 1, 0), (2, 1, 0), [(1, 0, 1, 2), (2, 0, 0, 1)]),           # the other way about
+    ((0, 1, 2, 0), THREE, (0, 1, 1, 0), (0, 1, 2), [(1, 0, 0, 1)]),
+    ((1, 1, 1, 1), RING, (1, 1, 1, 1), (0, 2), []),                                         # each has the next to help it
+    ((1, 1, 1, 1), RING, (1, 0, 1, 0), (0, 2), [(0, 0, 0, 1), (2, 0, 0, 1)]),               # both are needed
+    ((1, 1, 1, 1), RING, (1, 1, 1, 0), (0, 2), [(0, 0, 0, 1)]),                             # one side is parted twice
+    ((1, 1, 1, 1), RING, (1, 1, 1, 1), (0, 1), [(1, 0, 0, 1)]),                             # neighbours: the other way is parted thrice
+    ((1, 1, 1, 1), RING, (1, 1, 1, 1), (3, 2, 1, 0), [(0, 0, 0, 3), (1, 0, 2, 3), (2, 0, 1, 2), (3, 0, 0, 1)]),
+    ((1, 1), PAIR, (1, 1), (0, 1), [(0, 0, 0, 1), (1, 0, 0, 1)]),
+    ((1, 2), PAIR, (1, 1), (0, 1), [(0, 0, 0, 1)]),
+    ((0, 1, 0, 0), FORK, (0, 1, 0, 0), (2, 0, 1), [(1, 0, 0, 1)]),                          # all three meet
+    ((0, 1, 0, 0), FORK, (0, 1, 0, 0), (2, 0), [(1, 0, 0, 1)]),
+    ((0, 1, 0, 0, 0), CROSSING, (0, 1, 0, 0, 0), (0, 1, 2, 3), [(1, 0, 0, 1)]),             # 0 and 1, 2 and 3
+    ((0, 1, 0, 0, 0), CROSSING, (0, 1, 0, 0, 0), (0, 2, 1, 3), [(1, 0, 0, 2)]),             # 0 and 2, 1 and 3
+    ((0, 1, 0, 0, 0), CROSSING, (0, 1, 0, 0, 0), (0, 2, 3, 1), [(1, 0, 0, 3)]),             # 0 and 3, 1 and 2: the lower train counts first
+    ((0, 1, 0, 0, 0), CROSSING, (0, 1, 0, 0, 0), (2, 0, 1), [(1, 0, 1, 2)]),                # train 0 meets nobody
+)
+
+
+def far(T):
+    """Trains on segments of their own TTD, but for the last two of eight: they are about the last node of 96, and the last of them departs in
+    the last interval. Book, plan and list."""
+    segments = [(s, s + 1, s) for s in range(6)] + [(94, 95, 6), (93, 95, 6)]
+    return (*parted([NEVER] * 95 + [MAY_BE_SET], segments, [0] * 95 + [1], range(8), [(7, T - 1)], T), list_of((95, T - 1, 6, 7)))
+
+
+# three trains in a row, the last of which departs in interval 1; the border at the row's end parts nothing
+BOOK_CARRIED, PLAN_CARRIED = parted((NEVER, MAY_BE_SET, MAY_BE_SET, MAY_BE_SET), THREE, (0, 1, 1, 1), (2, 1, 0), [(2, 1)], 2)
+LIST_CARRIED = list_of((1, 1, 1, 2), (2, 0, 0, 1))
+# without the border at node 1: trains 1 and 2 meet
+PLAN_MEETING = b"\0\0" + PLAN_CARRIED[2:]
+
+
+def chasing(intervals):
+    """Eight trains that go round the ring one behind another, each node with a border; and the list of all 64 borders, the longest there is, where
+    there are 52 intervals or more. In interval t trains i and i + 1 are about node 2i + 2 + t: nodes 2 to 15 have two trains about them in
+    the first two intervals, and the others are reached by the last two trains."""
+    entries = [(node, node % 2, node // 2 - 1, node // 2) if 2 <= node < 16 else (node, (node - 14) % 64, 6, 7) for node in range(64)]
+    return (*circling(intervals, 8, 2, True), list_of(*entries))

@@ -14,6 +14,7 @@ import tempfile
 from collections import Counter
 
 from . import reference
+from .carrying_books import carried_plans
 from .random_books import book_to_rewrite, damaged_book, random_book, random_size
 from .random_inputs import kept_plans, random_assignments, random_borders, random_plans, random_refutations
 from .repository import ROOT, Stop, write_text
@@ -43,6 +44,7 @@ FUNCTIONS = {
     "explain_variable": ("variable", "Bu"),
     "upgrade_book": ("output", "Bb"),
     "print_graph": ("output", "BBb"),
+    "list_carriers": ("output", "BBb"),
 }
 
 # what `kind` says of a variable
@@ -224,8 +226,8 @@ def book_questions(rng, data):
         yield "measure_book", (data,), refused("sizes", *refusal), []
         yield "show_run", (data, train, run), refused("run", *refusal), []
         yield "explain_variable", (data, variable), refused("variable", *refusal), []
-        yield "label_sections", (data, b"", room), refused("output", *refusal), [[OLD] * room]
-        yield "print_graph", (data, b"", room), refused("output", *refusal), [[OLD] * room]
+        for name in ("label_sections", "print_graph", "list_carriers"):
+            yield name, (data, b"", room), refused("output", *refusal), [[OLD] * room]
         yield "write_formula", (data, room), refused("totals", *refusal), [[OLD] * room]
         return
     size = measured(book)
@@ -261,6 +263,12 @@ def graph_question(rng, data, book, plan):
     return output_question("print_graph", reference.entry_print_graph, data, plan, room)
 
 
+def carriers_question(rng, data, book, plan):
+    """The borders that carry a plan, with room for an entry a kind 1 node, for more, or for less."""
+    room = max(reference.carriers_length(book) + rng.choice((-1, 0, 0, 2)), 0)
+    return output_question("list_carriers", reference.entry_list_carriers, data, plan, room)
+
+
 def input_questions(rng, data, book):
     variables, clauses = reference.formula(book)
     plan_bytes, words = reference.plan_length(book), reference.word_count(clauses)
@@ -269,6 +277,7 @@ def input_questions(rng, data, book):
     for plan in random_plans(rng, book, 4):
         yield output_question("check_plan", reference.entry_check_plan, data, plan, variables + rng.choice((-1, 0, 0, 2)))
         yield graph_question(rng, data, book, plan)
+        yield carriers_question(rng, data, book, plan)
     for plan in itertools.islice(kept_plans(rng, book), 4):
         yield graph_question(rng, data, book, plan)
     for refutation in random_refutations(rng, book, 4):
@@ -297,6 +306,8 @@ def questions(rng, count):
         if not refusal and len(reference.formula(book)[1]) <= MOST_CLAUSES:
             yield from input_questions(rng, data, book)
         yield from rewriting_questions(rng)
+        for given in carried_plans(rng, rng.choice(("tiny", "small", "large"))):
+            yield carriers_question(rng, *given)
 
 
 def arguments(parser):

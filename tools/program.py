@@ -17,10 +17,10 @@ COMMANDS = {
     "check_refutation": Command("n", 2, 2, 2),
     "upgrade_book": Command("u", 1, 2, 2),
     "print_graph": Command("g", 2, 2, 2),
+    "list_carriers": Command("c", 2, 3, 3),
 }
-# those that take a book and a second input, and those of them that print a verdict: the others print what they make
-TWO_INPUTS = tuple(name for name, command in COMMANDS.items() if command.inputs == 2)
-CHECKS = tuple(name for name in TWO_INPUTS if name.startswith("check_"))
+# those that check a second input; the others that take one make something of a plan
+CHECKS = tuple(name for name in COMMANDS if name.startswith("check_"))
 BY_LETTER = {command.letter: name for name, command in COMMANDS.items()}
 
 

@@ -16,17 +16,19 @@ def random_borders(rng, book):
     return [rng.choice(some) if len(some) > 1 else some[0] for some in allowed]
 
 
-def random_walk(rng, book, tr, still):
-    """A movement that keeps rules 2 to 4: runs end to end, maybe gone."""
+def random_walk(rng, book, tr, still, free=lambda t, run: True):
+    """A movement that keeps rules 2 to 4: runs end to end, each free in its interval, maybe gone; None where it comes to a dead end."""
     train, runs, place = book.trains[tr], book.runs[tr], book.trains[tr].place
     row_, gone = [ABSENT] * train.departure, False
     while len(row_) < book.T:
-        free = ref.may_leave(book, train, place) and len(row_) > train.departure
-        gone = gone or (free and rng.random() < 0.4)
+        leaves = ref.may_leave(book, train, place) and len(row_) > train.departure
+        gone = gone or (leaves and rng.random() < 0.4)
         if gone:
             row_.append(GONE)
             continue
-        ways = [r for r, run in enumerate(runs) if run[:train.l] == place]
+        ways = [r for r, run in enumerate(runs) if run[:train.l] == place and free(len(row_), run)]
+        if not ways:
+            return None
         r = ways[0] if still else rng.choice(ways)
         row_.append(r)
         place = ref.end_place(train, runs[r])
@@ -149,6 +151,40 @@ def kept_plans(rng, book, tries=30, assignment=None):
 def with_borders(rng, book, plan):
     """The same movements with other borders."""
     return bytes(random_borders(rng, book)) + plan[len(book.nodes):]
+
+
+def all_borders(book):
+    """As many borders as there may be."""
+    return [max(border_bytes(kind)) for kind in book.nodes]
+
+
+def with_all_borders(book, plan):
+    """The same movements with as many borders as there may be; where the rules were kept they are now."""
+    return bytes(all_borders(book)) + plan[len(book.nodes):]
+
+
+def with_needed_borders(rng, book, plan):
+    """Of a plan that keeps the rules the movements with as many borders as there may be, cleared one after another, in any order, where the rules
+    stay kept: each border of kind 1 that is left carries the plan."""
+    borders, moves = ref.read_plan(book, with_all_borders(book, plan))
+    for node in rng.sample(range(len(borders)), len(borders)):
+        less = [*borders[:node], min(border_bytes(book.nodes[node])), *borders[node + 1:]]
+        if ref.broken_rule(book, less, moves) == 0:
+            borders = less
+    return plan_bytes(borders, moves)
+
+
+def with_more_borders(rng, book, plan):
+    """The same movements with further borders, so that some may carry and others not."""
+    more = [rng.choice((border, border, most)) for border, most in zip(plan, all_borders(book))]
+    return bytes(more) + plan[len(book.nodes):]
+
+
+def border_plans(rng, book, plan):
+    """Of a plan that keeps the rules, plans that keep them too, with as many borders as there may be, with none that could go, with a few
+    more than that, and as it is; each once."""
+    needed = with_needed_borders(rng, book, plan)
+    return list(dict.fromkeys((plan, with_all_borders(book, plan), needed, with_more_borders(rng, book, needed))))
 
 
 # ------------------------------------------------------ random assignments

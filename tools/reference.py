@@ -2,7 +2,8 @@
 """A plain reference of document 01: book, plan, formula, verdict; with
 document 02's requests P1: times of two bytes, and old books rewritten; P2: a
 train graph on paper, printed by `print_graph BOOK PLAN`; P3: speeds to the
-nearest segment; and P4: a terminating train stays on the track.
+nearest segment; P4: a terminating train stays on the track; and P5: which
+border carries the plan, listed by `list_carriers BOOK PLAN OUT`.
 
 Every function states sentences of the documents as simply as it can.  Nothing
 here is fast on purpose; the only care taken is that no input can make a
@@ -35,6 +36,9 @@ FIELDS = {HEAD: (2, 2, TIME), NODE: (1,), SEGMENT: (1, 1, 1), JOIN: (1, 1, 1),
 MOST_NODES, MOST_SEGMENTS, MOST_JOINS, MOST_TRAINS = 96, 64, 128, 8
 MOST_CALLS, MOST_RUNS = 4, 256
 
+# "border kind, 0 never, 1 may be set, 2 always set"
+MAY_BE_SET = 1
+
 # P4: "Node kind 3 is an exit without a border"
 EXIT = 3
 
@@ -43,6 +47,9 @@ STEP = 20
 
 # P2: "one line an interval, 80 bytes and a newline", "nine bytes a train"
 LINE_BYTES, CELL_BYTES = 80, 9
+
+# P5: "An entry is four bytes: node, interval, lower and higher train"
+ENTRY_BYTES = 4
 
 # "they lend at most 64 KiB a slice"
 LENT_BYTES = 65536
@@ -515,13 +522,18 @@ def keeps_rule_5(book, borders, moves):
 def keeps_rule_6(book, borders, moves):
     """Text: "In each interval no section holds segments of two trains' runs"."""
     together = sections(book, borders)
-    for i in range(book.T):
-        holder = {}
-        for tr in range(len(book.trains)):
-            for s in touched(together, run_in(book, moves, tr, i)):
-                if holder.setdefault(s, tr) != tr:
-                    return False
-    return True
+    return not any(meeting_pairs(book, together, moves, i)
+                   for i in range(book.T))
+
+
+def meeting_pairs(book, together, moves, i):
+    """The pairs of trains that meet in interval i: a "section holds segments of
+    two trains' runs".  They stand "by lower and then by higher train"."""
+    held = [set(touched(together, run_in(book, moves, tr, i)))
+            for tr in range(len(book.trains))]
+    return [(lower, higher) for lower in range(len(held))
+            for higher in range(lower + 1, len(held))
+            if held[lower] & held[higher]]
 
 
 def touched(together, run):
@@ -817,6 +829,53 @@ def run_cell(train, run):
     return " %02d-%02d %d " % (rear, front, moved)
 
 
+# -------------------------------------------------- which border carries it
+
+
+def carriers_length(book):
+    """P5: "12 asks for an entry a kind 1 node", be it set or not."""
+    return ENTRY_BYTES * book.nodes.count(MAY_BE_SET)
+
+
+def list_of_carriers(book, borders, moves):
+    """The bytes of the list for "a plan that keeps the rules": "An entry is four
+    bytes: node, interval, lower and higher train"."""
+    return b"".join(bytes(entry) for entry in carriers(book, borders, moves))
+
+
+def carriers(book, borders, moves):
+    """P5: "list in rising node number each set border of kind 1 whose clearing
+    alone makes the plan break rule 6"; next to each its first meeting."""
+    entries = []
+    for node in range(len(book.nodes)):
+        if not may_be_cleared(book, borders, node):
+            continue
+        less = cleared(borders, node)
+        if not keeps_rule_6(book, less, moves):
+            entries.append((node,) + first_meeting(book, less, moves))
+    return entries
+
+
+def may_be_cleared(book, borders, node):
+    """P5: a "set border of kind 1"."""
+    return book.nodes[node] == MAY_BE_SET and borders[node] == 1
+
+
+def cleared(borders, node):
+    """The borders after "clearing alone" this one."""
+    return [0 if at == node else border for at, border in enumerate(borders)]
+
+
+def first_meeting(book, borders, moves):
+    """P5: "the earliest interval in which trains then meet, and of the pairs
+    that meet in it the first by lower and then by higher train", of a plan
+    that breaks rule 6."""
+    together = sections(book, borders)
+    meetings = [(i, lower, higher) for i in range(book.T)
+                for lower, higher in meeting_pairs(book, together, moves, i)]
+    return meetings[0]
+
+
 # ----------------------------------------------------------- the refutation
 
 Step = namedtuple("Step", "literals hints")
@@ -970,6 +1029,16 @@ def entry_print_graph(book_bytes, plan_bytes, page_len):
     return verdict(check)
 
 
+def entry_list_carriers(book_bytes, plan_bytes, out_len):
+    """P5: "12 asks for an entry a kind 1 node, 15 and 16 a bad plan"."""
+    def check():
+        book = read_book(book_bytes)
+        refuse_if(out_len < carriers_length(book), 12)
+        borders, moves = accepted_plan(book, plan_bytes)
+        return (list_of_carriers(book, borders, moves),)
+    return verdict(check)
+
+
 def entry_check_refutation(book_bytes, refutation_bytes, words_len,
                            clauses_len, values_len, trail_len):
     def check():
@@ -1035,6 +1104,14 @@ def rewrite(old_bytes):
     return longer_input(old_bytes) or entry_upgrade_book(old_bytes, LENT_BYTES)
 
 
+def list_carriers(book_bytes, plan_bytes):
+    """The line of the verdict, and the bytes of the list or None on a refusal."""
+    answer = longer_input(book_bytes, plan_bytes)
+    answer = answer or entry_list_carriers(book_bytes, plan_bytes, LENT_BYTES)
+    out = answer[1] if answer[0] == "accepted" else None
+    return verdict_line(answer), out
+
+
 def read_file(name):
     with open(name, "rb") as file:
         return file.read()
@@ -1043,11 +1120,13 @@ def read_file(name):
 def main(arguments):
     usage = ("usage: print_formula < BOOK | check_assignment BOOK ASSIGNMENT "
              "[PLAN] | check_plan BOOK PLAN [ASSIGNMENT] | check_refutation "
-             "BOOK REFUTATION | upgrade_book OLD NEW | print_graph BOOK PLAN")
+             "BOOK REFUTATION | upgrade_book OLD NEW | print_graph BOOK PLAN | "
+             "list_carriers BOOK PLAN OUT")
     # the least and the most words, and how many name inputs
     counts = {"print_formula": (1, 1, 0), "check_assignment": (3, 4, 2),
               "check_plan": (3, 4, 2), "check_refutation": (3, 3, 2),
-              "upgrade_book": (3, 3, 1), "print_graph": (3, 3, 2)}
+              "upgrade_book": (3, 3, 1), "print_graph": (3, 3, 2),
+              "list_carriers": (4, 4, 2)}
     name = arguments[0] if arguments else None
     if name not in counts:
         sys.exit(usage)
@@ -1060,6 +1139,13 @@ def main(arguments):
     given = [read_file(file) for file in arguments[1:1 + inputs]]
     if name == "print_graph":
         sys.stdout.buffer.write(print_graph(*given))
+        return 0
+    if name == "list_carriers":
+        line, out = list_carriers(*given)
+        if out is not None:
+            with open(arguments[1 + inputs], "wb") as file:
+                file.write(out)
+        sys.stdout.buffer.write(line)
         return 0
     answer = rewrite(*given) if inputs == 1 else check_two(name, *given)
     if len(arguments) > 1 + inputs and answer[0] == "accepted":

@@ -1,8 +1,8 @@
 """Tests the reference by itself, on inputs made from SEED: document 01's examples ("On each edge", starred or not), whose books L and M are
 rewritten; random and damaged books, with every refusal of the book among them; old books, good and damaged, rewritten: the formula stays, and
-so does every number; trains that leave over an exit, and that may not; train graphs, read back by their columns; assignments, plans and
-refutations, with every rule broken; and brute force: on tiny books every plan is enumerated, and a plan that keeps the rules exists exactly
-where the formula is satisfiable. Prints counts.
+so does every number; trains that leave over an exit, and that may not; train graphs, read back by their columns; lists of carriers, with each
+border cleared and the plan judged again; assignments, plans and refutations, with every rule broken; and brute force: on tiny books every plan is
+enumerated, and a plan that keeps the rules exists exactly where the formula is satisfiable. Prints counts.
 
 Exit status: 0 all held, 1 something did not (an assertion says what), 2 wrong usage.
 """
@@ -13,14 +13,17 @@ from collections import Counter
 
 from . import reference as ref
 from .all_plans import keeping, plans_to_try
-from .books import BORDER_KINDS, EXIT, Spec, bordered_kinds, spec_bytes, split
+from .books import BORDER_KINDS, EXIT, MAY_BE_SET, Spec, bordered_kinds, spec_bytes, split
+from .carrying_books import carried_plans
 from .counts import answer_name, listed
+from .features import entries_of, list_features
 from .inputs import TooLong, encode_steps, plan_bytes, step_frame
-from .known import (BOOK_GRAPH, BOOK_L, FORMULA_L, LEAVING, OLD_L, PAGE_GRAPH, PAGE_L, PLAN_GRAPH, PLAN_L, SPEEDS, add_train, book_m,
-                    circling, leaving_spec, lone_spec, outgrowing, padded, row_spec, spec_l, speed_spec)
+from .known import (BOOK_CARRIED, BOOK_GRAPH, BOOK_L, CARRYING, FORMULA_L, LEAVING, LIST_CARRIED, OLD_L, PAGE_GRAPH, PAGE_L, PLAN_CARRIED,
+                    PLAN_GRAPH, PLAN_L, SPEEDS, add_train, book_m, chasing, circling, far, leaving_spec, list_of, lone_spec, outgrowing, padded,
+                    parted, row_spec, spec_l, speed_spec)
 from .passing_books import passing_book
 from .random_books import book_to_rewrite, damaged_book, random_book
-from .random_inputs import kept_plans, random_assignments, random_plans, random_refutations, solved, walked_plan
+from .random_inputs import kept_plans, random_assignments, random_plans, random_refutations, solved, walked_plan, with_needed_borders
 from .small_solver import Solver
 
 sys.setrecursionlimit(20000)
@@ -253,6 +256,95 @@ def check_graphs(rng, count):
     assert {"absent", "gone", "moved 0", "moved 1", "moved 2", "same page"} <= set(tally)
 
 
+# -------------------------------------------------------- lists of carriers
+
+
+def check_lists():
+    """Lists worked out by hand; 12 where an entry a kind 1 node has no room, ahead of what is wrong with the plan, and behind the book."""
+    worked = [(*parted(*given), list_of(*entries)) for *given, entries in CARRYING]
+    for book, plan, carriers in (*worked, (BOOK_CARRIED, PLAN_CARRIED, LIST_CARRIED), (BOOK_L, PLAN_L, b""), far(256), chasing(64)):
+        room = 4 * split(book)[0].count([ref.NODE, b"\1"])
+        met = [cleared(plan, node) for node, *_ in entries_of(carriers)[-1:]]
+        assert ref.list_carriers(book, plan) == (b"accepted\n", carriers)
+        for more in (0, 1):
+            assert ref.entry_list_carriers(book, plan, room + more) == ("accepted", carriers)
+        for second in (plan, plan[1:], b"\2" + plan[1:], *met):
+            assert room == 0 or ref.entry_list_carriers(book, second, room - 1) == ("refused", 12, 0)
+        assert ref.entry_list_carriers(book, plan + b"\0", room) == ("refused", 15, 0)
+        assert all(ref.entry_list_carriers(book, second, room) == ("refused", 16, 6) for second in met)
+        assert ref.entry_list_carriers(book[:-1], plan, 0) == ("refused", 1, 0)
+
+
+def cleared(plan, node):
+    return plan[:node] + b"\0" + plan[node + 1:]
+
+
+def labels_of(book, borders):
+    """A label for each segment, the same within a section: about a node without a border the segments of one TTD take the least of theirs."""
+    labels = list(range(len(book.segments)))
+    for node in range(len(book.nodes)):
+        touching = [(s, ttd) for s, (a, b, ttd) in enumerate(book.segments) if node in (a, b) and not borders[node]]
+        for ttd in {ttd for _, ttd in touching}:
+            there = {labels[s] for s, other in touching if other == ttd}
+            labels = [min(there) if label in there else label for label in labels]
+    return labels
+
+
+def meetings(book, plan):
+    """All intervals and pairs of trains that then have a label in common: interval, lower and higher train."""
+    borders, moves = ref.read_plan(book, plan)
+    labels = labels_of(book, borders)
+
+    def held(tr, t):
+        move = moves[tr][t]
+        return {labels[x // 2] for x in book.runs[tr][move]} if move < ref.ABSENT else set()
+
+    pairs = [(i, j) for j in range(len(book.trains)) for i in range(j)]
+    return [(t, i, j) for i, j in pairs for t in range(book.T) if held(i, t) & held(j, t)]
+
+
+def check_listed(data, plan, tally):
+    """The list of a plan that keeps the rules: each set border of kind 1 is cleared, and it is there exactly where trains meet then, which breaks
+    rule 6, and else the plan keeps all six; next to it the least meeting. Answers its nodes."""
+    book = ref.read_book(data)
+    room = 4 * sum(kind == MAY_BE_SET for kind in book.nodes)
+    answer = ref.entry_list_carriers(data, plan, room)
+    assert answer[0] == "accepted" and len(answer[1]) <= room and not meetings(book, plan)
+    assert room == 0 or ref.entry_list_carriers(data, plan, room - 1) == ("refused", 12, 0)
+    met = {node: meeting for node, *meeting in entries_of(answer[1])}
+    assert answer[1] == list_of(*((node, *met[node]) for node in sorted(met)))
+    for node, kind in enumerate(book.nodes):
+        if kind != MAY_BE_SET or not plan[node]:
+            assert node not in met
+            continue
+        less = cleared(plan, node)
+        then = meetings(book, less)
+        assert ref.broken_rule(book, *ref.read_plan(book, less)) == (6 if then else 0)
+        assert met.get(node, []) == list(min(then, default=()))
+        tally["borders that carry" if then else "borders that do not"] += 1
+    tally["plans"] += 1
+    tally.update(list_features(answer[1]))
+    return set(met)
+
+
+def check_carriers(rng, count):
+    """Lists of random plans that keep the rules, with few borders and with many; where none could go all are on the list."""
+    tally = Counter()
+    for number in range(count):
+        for data, _, plan in carried_plans(rng, ("tiny", "small", "large")[number % 3]):
+            check_listed(data, plan, tally)
+        data = passing_book(rng) if number % 2 else random_book(rng, "small")
+        if ref.entry_read_book(data)[0] == "refused":
+            continue
+        book = ref.read_book(data)
+        for plan in kept_plans(rng, book, 20):
+            check_listed(data, plan, tally)
+            needed = with_needed_borders(rng, book, plan)
+            assert check_listed(data, needed, tally) == {node for node, kind in enumerate(book.nodes) if kind == MAY_BE_SET and needed[node]}
+    print(f"lists of carriers: {listed(tally)}")
+    assert {"borders that carry", "borders that do not", "empty", "several entries", "several intervals", "several pairs"} <= set(tally)
+
+
 # --------------------------------------------------------------- self-test
 
 
@@ -389,6 +481,7 @@ def run(options):
     check_lengths()
     check_rewritten_l_and_m()
     check_pages()
+    check_lists()
     print("the document's examples hold")
     check_books(rng, 400)
     check_rewriting(rng, 1000)
@@ -401,5 +494,6 @@ def run(options):
             tried += 1
     print(f"meaning: {listed(meaning)}")
     check_graphs(rng, 200)
+    check_carriers(rng, 300)
     print("all held")
     return 0

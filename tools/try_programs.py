@@ -13,8 +13,9 @@ from collections import namedtuple
 
 from . import reference
 from .inputs import encode_steps, step_frame
-from .known import (ASSIGNMENT_L, ASSIGNMENT_PADDED, BOOK_GRAPH, BOOK_L, FORMULA_L, OLD_L, PAGE_GRAPH, PAGE_L, PLAN_GRAPH, PLAN_L, PLAN_PADDED,
-                    REFUTATION_M, REFUTATION_PADDED, book_m, circling, outgrowing, padded, standing)
+from .known import (ASSIGNMENT_L, ASSIGNMENT_PADDED, BOOK_CARRIED, BOOK_GRAPH, BOOK_L, FORMULA_L, LIST_CARRIED, OLD_L, PAGE_GRAPH, PAGE_L,
+                    PLAN_CARRIED, PLAN_GRAPH, PLAN_L, PLAN_MEETING, PLAN_PADDED, REFUTATION_M, REFUTATION_PADDED, book_m, chasing, circling, far,
+                    outgrowing, padded, standing)
 from .program import CABINET, COMMANDS, built
 from .repository import PROGRAMS, ROOT, write_bytes
 
@@ -40,8 +41,12 @@ CHECKS = (
     Check("check_refutation", BOOK_M, REFUTATION_M, ACCEPTED, None, step_frame([], [19, 16, 17]), b"20 1\n", REFUTATION_M[:-1], b"17 1\n"),
     # a plan as above; the page is printed in place of a verdict
     Check("print_graph", BOOK_L, PLAN_L, PAGE_L, None, bytes([0, 0, 1, 0]), b"16 2\n", PLAN_L + b"\0", b"15 0\n"),
+    # the border at node 1 is not set, and trains 1 and 2 meet
+    Check("list_carriers", BOOK_CARRIED, PLAN_CARRIED, ACCEPTED, LIST_CARRIED, PLAN_MEETING, b"16 6\n", PLAN_CARRIED[:-1], b"15 0\n"),
 )
+# those that have a result, and those that two names are enough for
 WITH_RESULT = [check for check in CHECKS if check.result is not None]
+TWO_NAMES = [check for check in CHECKS if COMMANDS[check.program].least == 2]
 
 Answer = namedtuple("Answer", "out err status")
 
@@ -72,6 +77,10 @@ class Tries:
         name = self.unused()
         write_bytes(name, data)
         return name
+
+    def names(self, check, book, second):
+        """The names for a check: the inputs and, where two names are not enough, that of a new file."""
+        return (book, second) if check in TWO_NAMES else (book, second, self.unused())
 
     def run(self, command, *names, stdin=b"", **how):
         return self.run_words((command, *names), stdin, **how)
@@ -144,7 +153,7 @@ def try_examples(t):
 
 
 def try_results(t):
-    for check in CHECKS:
+    for check in TWO_NAMES:
         book, good, bad = t.file(check.book), t.file(check.good), t.file(check.bad)
         before = os.listdir(t.folder)
         t.verdict(f"{check.program}, two names", check.said, t.run(check.program, book, good))
@@ -153,17 +162,17 @@ def try_results(t):
         made = set(os.listdir(t.folder)) - set(before) - {f"file{t.made}"}
         t.expect(f"{check.program}, two names: no file is made", not made, made)
     for check in WITH_RESULT:
-        try_third(t, check)
+        try_last(t, check.program, check.program, (check.book, check.good), check.result)
         try_refused_third(t, check)
 
 
-def try_third(t, check):
-    """The result alone stands in the third file: made anew, over a longer file, over a shorter one."""
-    book, good = t.file(check.book), t.file(check.good)
-    for what, third in (("new", t.unused()), ("longer before", t.file(b"x" * 100000)), ("empty before", t.file(b""))):
-        t.verdict(f"{check.program}, third file {what}", ACCEPTED, t.run(check.program, book, good, third))
-        t.expect(f"{check.program}, third file {what}: exactly the result", read(third) == check.result, read(third))
-    t.expect(f"{check.program}: inputs untouched", (read(book), read(good)) == (check.book, check.good), None)
+def try_last(t, what, program, inputs, result):
+    """The result alone stands in the last file: made anew, over a longer file, over an empty one; and the inputs stay as they are."""
+    names = [t.file(data) for data in inputs]
+    for how, last in (("new", t.unused()), ("longer before", t.file(b"x" * 100000)), ("empty before", t.file(b""))):
+        t.verdict(f"{what}, last file {how}", ACCEPTED, t.run(program, *names, last))
+        t.expect(f"{what}, last file {how}: exactly the result", read(last) == result, read(last))
+    t.expect(f"{what}: inputs untouched", tuple(map(read, names)) == inputs, None)
 
 
 def refused_inputs(check):
@@ -214,7 +223,8 @@ def try_name_counts(t):
     for check in CHECKS:
         book, good, third = t.file(check.book), t.file(check.good), t.file(b"kept")
         names = (book, good, third, t.file(b""), t.file(b""))
-        for count in (0, 1, 4, 5) if check.result is not None else (0, 1, 3, 4):
+        right = range(COMMANDS[check.program].least, COMMANDS[check.program].most + 1)
+        for count in set(range(6)).difference(right):
             try_usage(t, f"{check.program}, {count} names", check.program, t.run(check.program, *names[:count]))
         untouched = list(map(read, names[:3])) == [check.book, check.good, b"kept"]
         t.expect(f"{check.program}, wrong numbers of names: files untouched", untouched, None)
@@ -229,7 +239,7 @@ def try_unreadable(t):
         for what, name in wrong:
             for other in (check.book, check.good, bytes(MOST + 1), b""):
                 try_unreadable_places(t, check, what, name, t.file(other))
-        both = t.run(check.program, t.path("missing"), t.path("missing2"))
+        both = t.run(check.program, *t.names(check, t.path("missing"), t.path("missing2")))
         t.no_verdict(f"{check.program}, both missing", b"missing: ", both)
 
 
@@ -267,8 +277,8 @@ def try_closed_files(t, check, how):
         os.chmod(name, 0o644)
     os.chmod(closed, 0)
     said = os.fsencode(closed) + b": "
-    t.no_verdict(f"{check.program}, book without permission", said, t.run(check.program, closed, good, **how))
-    t.no_verdict(f"{check.program}, second input without permission", said, t.run(check.program, book, closed, **how))
+    t.no_verdict(f"{check.program}, book without permission", said, t.run(check.program, *t.names(check, closed, good), **how))
+    t.no_verdict(f"{check.program}, second input without permission", said, t.run(check.program, *t.names(check, book, closed), **how))
     if check.result is not None:
         answer = t.run(check.program, book, good, closed, **how)
         stands(t, f"{check.program}, third file without permission", closed, answer)
@@ -284,18 +294,20 @@ def stands(t, what, name, answer):
 
 
 def try_unwritable_third(t):
-    for check in WITH_RESULT:
+    """An empty list has no bytes that a full device could refuse; but its file can't be made either."""
+    never, full = (t.path("folder"), t.path("missing/x"), ""), ("/dev/full",) if os.path.exists("/dev/full") else ()
+    empty = CHECKS[-1]._replace(book=BOOK_L, good=PLAN_L)
+    for check, names in (*((check, never + full) for check in WITH_RESULT), (empty, never)):
         book, good = t.file(check.book), t.file(check.good)
-        for third in (t.path("folder"), t.path("missing/x"), "/dev/full", ""):
-            if third != "/dev/full" or os.path.exists(third):
-                stands(t, f"{check.program}, third name {third!r}", third, t.run(check.program, book, good, third))
+        for third in names:
+            stands(t, f"{check.program}, third name {third!r}", third, t.run(check.program, book, good, third))
 
 
 def try_same_names(t):
     """One file as both inputs, or as an input and the result."""
-    for check, line in zip(CHECKS, (b"13 0\n", b"15 0\n", b"17 1\n", b"15 0\n")):
+    for check, line in zip(CHECKS, (b"13 0\n", b"15 0\n", b"17 1\n", b"15 0\n", b"15 0\n")):
         book = t.file(check.book)
-        t.verdict(f"{check.program}, the book twice", line, t.run(check.program, book, book))
+        t.verdict(f"{check.program}, the book twice", line, t.run(check.program, *t.names(check, book, book)))
     for check in WITH_RESULT:
         for place in (0, 1):
             names = [t.file(check.book), t.file(check.bad)]
@@ -340,23 +352,23 @@ def try_book_lengths(t):
     t.expect("the reference accepts a book of 65,536 bytes", text.startswith(b"p cnf 19 "), text)
     for what, book, line in long_books(padded(0), text):
         t.verdict(f"print_formula, {what}", line, t.run("print_formula", stdin=book))
-    for check, second, call in zip(CHECKS, (ASSIGNMENT_PADDED, PLAN_PADDED, REFUTATION_PADDED, PLAN_PADDED), (0, 0, 1, 0)):
+    for check, second, call in zip(CHECKS, (ASSIGNMENT_PADDED, PLAN_PADDED, REFUTATION_PADDED, PLAN_PADDED, PLAN_PADDED), (0, 0, 1, 0, 0)):
         # the page is that of book L: one train, which stands on segment 0 in the one interval
         for what, book, line in long_books(padded(call), check.said):
-            t.verdict(f"{check.program}, book of {what}", line, t.run(check.program, t.file(book), t.file(second)))
+            t.verdict(f"{check.program}, book of {what}", line, t.run(check.program, *t.names(check, t.file(book), t.file(second))))
 
 
 def try_second_lengths(t):
     """12 comes before all else: whatever the book is, an input of 65,537 bytes has that line, and one of 65,536 another."""
-    for check, line in zip(CHECKS, (b"13 0\n", b"15 0\n", b"17 1\n", b"15 0\n")):
+    for check, line in zip(CHECKS, (b"13 0\n", b"15 0\n", b"17 1\n", b"15 0\n", b"15 0\n")):
         books = (("a good book", check.book, line), ("an empty book", b"", b"1 0\n"), ("a bad book", b"\xff" * 9, b"1 0\n"),
                  ("a book with a byte behind", check.book + b"\0", b"3 0\n"))
         for what, book, expected in books:
             for size in (MOST, MOST + 1):
-                answer = t.run(check.program, t.file(book), t.file(bytes(size)))
+                answer = t.run(check.program, *t.names(check, t.file(book), t.file(bytes(size))))
                 t.verdict(f"{check.program}, {what} and {size} bytes", expected if size == MOST else TOO_LONG, answer)
         both = t.file(bytes(MOST + 1))
-        t.verdict(f"{check.program}, both of 65,537 bytes", TOO_LONG, t.run(check.program, both, both))
+        t.verdict(f"{check.program}, both of 65,537 bytes", TOO_LONG, t.run(check.program, *t.names(check, both, both)))
 
 
 def try_full_output(t):
@@ -390,12 +402,12 @@ def try_full_refutation(t):
 
 def try_empty(t):
     t.verdict("print_formula, nothing", b"1 0\n", t.run("print_formula"))
-    for check, line in zip(CHECKS, (b"13 0\n", b"15 0\n", b"21 0\n", b"15 0\n")):
+    for check, line in zip(CHECKS, (b"13 0\n", b"15 0\n", b"21 0\n", b"15 0\n", b"15 0\n")):
         empty, book, good = t.file(b""), t.file(check.book), t.file(check.good)
-        t.verdict(f"{check.program}, empty book", b"1 0\n", t.run(check.program, empty, good))
-        t.verdict(f"{check.program}, empty second input", line, t.run(check.program, book, empty))
-        t.verdict(f"{check.program}, both empty", b"1 0\n", t.run(check.program, empty, empty))
-        t.verdict(f"{check.program}, /dev/null", b"1 0\n", t.run(check.program, "/dev/null", "/dev/null"))
+        t.verdict(f"{check.program}, empty book", b"1 0\n", t.run(check.program, *t.names(check, empty, good)))
+        t.verdict(f"{check.program}, empty second input", line, t.run(check.program, *t.names(check, book, empty)))
+        t.verdict(f"{check.program}, both empty", b"1 0\n", t.run(check.program, *t.names(check, empty, empty)))
+        t.verdict(f"{check.program}, /dev/null", b"1 0\n", t.run(check.program, *t.names(check, "/dev/null", "/dev/null")))
 
 
 # ---- outputs and inputs that are no plain files
@@ -427,7 +439,7 @@ def try_closed_output(t):
         jobs.append((check.program, (t.file(check.book), t.file(check.good), *rest), b""))
         jobs.append((check.program, (t.file(check.book), t.file(check.bad), *rest), b""))
         jobs.append((check.program, (), b""))
-        jobs.append((check.program, (t.path("missing"), t.path("missing")), b""))
+        jobs.append((check.program, t.names(check, t.path("missing"), t.path("missing")), b""))
     for program, names, stdin in jobs:
         before = [read(name) for name in names[:2]]
         for what, answer in closed_outputs(t, program, names, stdin):
@@ -478,11 +490,11 @@ def try_pipes(t):
     for check in CHECKS:
         book, good = t.file(check.book), t.file(check.good)
         what = f"{check.program}, an input by a pipe"
-        t.verdict(what, check.said, in_pieces(t, check.program, ("/dev/stdin", good), check.book, 3))
-        t.verdict(what, check.said, in_pieces(t, check.program, (book, "/dev/stdin"), check.good, 1))
-        t.verdict(what, TOO_LONG, in_pieces(t, check.program, (book, "/dev/stdin"), bytes(MOST + 1), 5000))
-        t.verdict(f"{check.program}, a book without end", TOO_LONG, t.run(check.program, "/dev/zero", good))
-        t.verdict(f"{check.program}, a second input without end", TOO_LONG, t.run(check.program, book, "/dev/zero"))
+        t.verdict(what, check.said, in_pieces(t, check.program, t.names(check, "/dev/stdin", good), check.book, 3))
+        t.verdict(what, check.said, in_pieces(t, check.program, t.names(check, book, "/dev/stdin"), check.good, 1))
+        t.verdict(what, TOO_LONG, in_pieces(t, check.program, t.names(check, book, "/dev/stdin"), bytes(MOST + 1), 5000))
+        t.verdict(f"{check.program}, a book without end", TOO_LONG, t.run(check.program, *t.names(check, "/dev/zero", good)))
+        t.verdict(f"{check.program}, a second input without end", TOO_LONG, t.run(check.program, *t.names(check, book, "/dev/zero")))
     with open("/dev/zero", "rb") as zeros:
         t.verdict("print_formula, a book without end", TOO_LONG, t.run("print_formula", stdin=zeros.fileno()))
 
@@ -510,11 +522,7 @@ def try_old_books(t):
     t.verdict("print_formula, old book L", b"4 0\n", t.run("print_formula", stdin=OLD_L))
     t.verdict("check_assignment, old book L", b"4 0\n", t.run("check_assignment", t.file(OLD_L), t.file(ASSIGNMENT_L)))
     for what, old, book in (("book L", OLD_L, BOOK_L), ("book M", OLD_M, BOOK_M), ("65,532 bytes", padded(0, reference.OLD), padded(0))):
-        for how, new in (("new", t.unused()), ("longer before", t.file(b"x" * 100000)), ("empty before", t.file(b""))):
-            name = t.file(old)
-            t.verdict(f"upgrade_book, {what}, {how}", ACCEPTED, t.run("upgrade_book", name, new))
-            t.expect(f"upgrade_book, {what}, {how}: exactly the new book", read(new) == book, read(new))
-            t.expect(f"upgrade_book, {what}, {how}: the old book untouched", read(name) == old, None)
+        try_last(t, f"upgrade_book, {what}", "upgrade_book", (old,), book)
     t.verdict("print_formula, rewritten book L", FORMULA_L, t.run("print_formula", stdin=read_rewritten(t, OLD_L)))
 
 
@@ -578,6 +586,31 @@ def try_graphs(t):
     t.verdict("print_graph, 65,537 variables", page, t.run("print_graph", t.file(data), t.file(plan)))
 
 
+# ---- lists of carriers
+
+
+def lists():
+    """Books, plans and their lists: several entries, none where no border may be set or none carries, the longest, the greatest numbers."""
+    yield "three trains", BOOK_CARRIED, PLAN_CARRIED, LIST_CARRIED
+    yield "no border of kind 1", BOOK_L, PLAN_L, b""
+    yield "64 borders", *chasing(256)
+    yield "64 borders that carry nothing", *circling(256, bordered=True), b""
+    yield "the last node, interval and trains", *far(256)
+    # more variables than check_plan has room for
+    yield "65,537 variables", *standing(65)[:2], b""
+
+
+def try_lists(t):
+    """An accepted list stands in its file, and where it is empty the file is, whatever it held."""
+    for what, book, plan, carriers in lists():
+        try_last(t, f"list_carriers, {what}", "list_carriers", (book, plan), carriers)
+    book, plan, carriers = chasing(256)
+    out = t.unused()
+    t.verdict("list_carriers, a plan by a pipe", ACCEPTED, in_pieces(t, "list_carriers", (t.file(book), "/dev/stdin", out), plan, 1000))
+    t.expect("list_carriers, a plan by a pipe: the list", read(out) == carriers, read(out))
+    t.verdict("list_carriers, old book L", b"4 0\n", t.run("list_carriers", t.file(OLD_L), t.file(PLAN_L), t.unused()))
+
+
 # ---- the scripts
 
 
@@ -609,12 +642,12 @@ def try_scripts(t):
     for check in CHECKS:
         script = os.path.join(scripts, check.program)
         names, third = (t.file(check.book), t.file(check.good)), t.unused()
-        t.verdict(f"bin/{check.program}", check.said, t.run_words(names, program=script))
-        t.verdict(f"bin/{check.program}, refused", check.bad_line, t.run_words((names[0], t.file(check.bad)), program=script))
+        t.verdict(f"bin/{check.program}", check.said, t.run_words(t.names(check, *names), program=script))
+        t.verdict(f"bin/{check.program}, refused", check.bad_line, t.run_words(t.names(check, names[0], t.file(check.bad)), program=script))
         t.no_verdict(f"bin/{check.program}, one name", b"usage", t.run_words(names[:1], program=script))
         odd = t.path("a name with blanks")
         write_bytes(odd, check.good)
-        t.verdict(f"bin/{check.program}, a name with blanks", check.said, t.run_words((names[0], odd), program=script))
+        t.verdict(f"bin/{check.program}, a name with blanks", check.said, t.run_words(t.names(check, names[0], odd), program=script))
         if check.result is not None:
             t.verdict(f"bin/{check.program}, three names", ACCEPTED, t.run_words((*names, third), program=script))
             t.expect(f"bin/{check.program}, three names: the result", read(third) == check.result, read(third))
@@ -626,7 +659,7 @@ def try_scripts(t):
 GROUPS = (
     try_examples, try_results, try_commands, try_name_counts, try_unreadable, try_unreadable_standard_input, try_without_permission,
     try_unwritable_third, try_same_names, try_odd_names, try_book_lengths, try_second_lengths, try_full_output, try_full_refutation, try_empty,
-    try_closed_output, try_pipes, try_old_books, try_refused_old_books, try_old_book_names, try_graphs, try_scripts)
+    try_closed_output, try_pipes, try_old_books, try_refused_old_books, try_old_book_names, try_graphs, try_lists, try_scripts)
 
 
 def copied(program, folder):

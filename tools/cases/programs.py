@@ -1,11 +1,12 @@
 """The commands' own code on stored files: each check with an input that it accepts and inputs that it refuses; results that are new, that
 replace a file, that must not be written, and that are not named; inputs of 65,536 and of 65,537 bytes in either place; missing files. Old books
 that are rewritten, in place too; one whose new book fills the slice, and one whose new book is too long for it. Train graphs, up to the longest
-page, with plans and books that are refused, too long or missing."""
+page, with plans and books that are refused, too long or missing. Lists of carriers, up to the longest; empty ones, which leave an empty file; and
+in place of an input."""
 from ..books import spec_bytes
 from ..inputs import step_frame
-from ..known import (ASSIGNMENT_L, ASSIGNMENT_PADDED, BOOK_GRAPH, BOOK_L, OLD_L, PLAN_GRAPH, PLAN_L, PLAN_PADDED, REFUTATION_M,
-                     REFUTATION_PADDED, book_m, circling, lone_spec, outgrowing, padded, standing)
+from ..known import (ASSIGNMENT_L, ASSIGNMENT_PADDED, BOOK_CARRIED, BOOK_GRAPH, BOOK_L, OLD_L, PLAN_CARRIED, PLAN_GRAPH, PLAN_L, PLAN_MEETING,
+                     PLAN_PADDED, REFUTATION_M, REFUTATION_PADDED, book_m, chasing, circling, lone_spec, outgrowing, padded, standing)
 from ..reference import LENT_BYTES, OLD
 from .records import Record
 
@@ -18,6 +19,7 @@ def files():
     """The stored files, by name."""
     large_book, large_plan, _ = standing(64)
     round_book, round_plan = circling(256)
+    chasing_book, chasing_plan, _ = chasing(64)
     return {
         KEPT: b"kept", "empty": b"", "zeros": bytes(LENT_BYTES), "long": bytes(LENT_BYTES + 1),
         "old": b"longer than any plan of these books",
@@ -32,6 +34,8 @@ def files():
         "full_refutation": REFUTATION_PADDED,
         "large_book": large_book, "large_plan": large_plan,
         "graph_book": BOOK_GRAPH, "graph_plan": PLAN_GRAPH, "round_book": round_book, "round_plan": round_plan,
+        "carried_book": BOOK_CARRIED, "carried_plan": PLAN_CARRIED, "meeting_plan": PLAN_MEETING,
+        "chasing_book": chasing_book, "chasing_plan": chasing_plan,
         # old books, which only upgrade_book takes
         "book_before": OLD_L, "no_plan_before": book_m(0, 1, OLD), "cut_before": OLD_L[:-1], "more_before": OLD_L + b"\0",
         "late_before": spec_bytes(lone_spec(33, 0, 0, 33), OLD), "full_before": padded(0, OLD), "outgrowing_before": outgrowing(),
@@ -39,7 +43,7 @@ def files():
 
 
 def two_inputs(question, book, good, refused):
-    """An accepted input, refused ones, refused books, long and missing inputs."""
+    """An accepted input, refused ones, refused books, long and missing inputs; each with a result's name."""
     yield question, book, good, KEPT if question == "n" else "first_" + question
     for second in (*refused, "empty", "zeros", "long", MISSING):
         yield question, book, second, KEPT
@@ -49,9 +53,6 @@ def two_inputs(question, book, good, refused):
     yield question, "long", MISSING, KEPT
     yield question, "cut_book", "long", "none"
     yield question, MISSING, MISSING, "none"
-    # no result is named
-    yield question, book, good, ""
-    yield question, book, refused[0], ""
 
 
 def listed():
@@ -59,9 +60,13 @@ def listed():
     for book in ("book", "no_plan", "cut_book", "empty", "full_book", "long_book", "zeros", "long", "large_book", MISSING):
         yield "f", book, "", ""
     yield "f", "book", "", KEPT
-    yield from two_inputs("a", "book", "assignment", ("zero_assignment", "two_assignment", "plan"))
-    yield from two_inputs("p", "book", "plan", ("odd_plan", "far_plan", "assignment"))
-    yield from two_inputs("n", "no_plan", "refutation", ("cut_refutation", "wrong_kind", "far_literal", "far_hint", "unproved", "unfinished"))
+    for question, book, good, refused in (
+            ("a", "book", "assignment", ("zero_assignment", "two_assignment", "plan")), ("p", "book", "plan", ("odd_plan", "far_plan", "assignment")),
+            ("n", "no_plan", "refutation", ("cut_refutation", "wrong_kind", "far_literal", "far_hint", "unproved", "unfinished"))):
+        yield from two_inputs(question, book, good, refused)
+        # no result is named
+        yield question, book, good, ""
+        yield question, book, refused[0], ""
     yield "a", "full_book", "full_book_assignment", "new_plan"
     yield "p", "full_book", "full_book_plan", "new_assignment"
     yield "n", "full_no_plan", "full_refutation", KEPT
@@ -115,6 +120,27 @@ def drawn():
     yield "g", MISSING, MISSING, ""
 
 
+def carried():
+    """The cases of list_carriers: question, book, plan, result."""
+    yield from two_inputs("c", "carried_book", "carried_plan", ("meeting_plan", "odd_plan", "plan"))
+    yield "c", "chasing_book", "chasing_plan", "carriers"
+    # a longer list is replaced, by one that is empty too; and that by a list
+    yield "c", "carried_book", "carried_plan", "carriers"
+    yield "c", "book", "plan", "carriers"
+    yield "c", "carried_book", "carried_plan", "carriers"
+    yield "c", "large_book", "large_plan", "carriers"
+    # an empty list makes a file, and a refusal leaves it
+    yield "c", "full_book", "full_book_plan", "no_carriers"
+    yield "c", "carried_book", "meeting_plan", "no_carriers"
+    yield "c", "no_plan_before", "plan", "no_carriers"
+    # in place of the plan, which is none then, and of the book
+    yield "c", "carried_book", "carried_plan", "carried_plan"
+    yield "c", "carried_book", "carried_plan", "carried_plan"
+    yield "c", "chasing_book", "chasing_plan", "chasing_book"
+    yield "c", "chasing_book", "chasing_plan", "carriers"
+    yield "p", "carried_book", "carried_plan", KEPT
+
+
 def records(rng, note):
-    for question, *names in (*rewritten(), *drawn(), *listed()):
+    for question, *names in (*rewritten(), *drawn(), *carried(), *listed()):
         yield Record(question, *(name.encode() for name in names))

@@ -9,21 +9,24 @@ where one is missing, it is as much as the programs lend.
   F  its formula's text                               N  check a refutation: the verdict
   D  that text's length and checksum                  U  rewrite an old book: the verdict, and an accepted one's new book
                                                       G  draw a plan's train graph: the verdict, and an accepted one's page
+                                                      C  list the borders that carry a plan: the verdict, and the list, if it has entries
 
-For a small letter the parts are the names of stored files: the book's, the second input's and the result's, which may be empty. f, a, p, n
-and u are print_formula, the three checks and upgrade_book, which has no second input; the answer is what the command prints, and then the
-file that has the result's name by then. g is print_graph, which has no result: the answer is what the command prints, and nothing else.
+For a small letter the parts are the names of stored files: the book's, the second input's and the result's, which may be empty. f, a, p, n,
+u and c are print_formula, the three checks, upgrade_book, which has no second input, and list_carriers; the answer is what the command prints, and
+then the file that has the result's name by then, on a line. g is print_graph, which has no result: the answer is what the command prints, and
+nothing else.
 """
 import struct
 from collections import namedtuple
 
 from .. import reference
-from ..program import BY_LETTER, CHECKS, TWO_INPUTS
+from ..ask import answered
+from ..program import BY_LETTER, COMMANDS
 from ..reference import LENT_BYTES, LENT_CLAUSES, LENT_TRAIL, LENT_VALUES, LENT_WORDS
 
 # what the programs lend, by question
 LENT = {"F": (LENT_WORDS,), "D": (LENT_WORDS,), "A": (LENT_BYTES,), "P": (LENT_BYTES,), "U": (LENT_BYTES,), "G": (LENT_BYTES,),
-        "N": (LENT_WORDS, LENT_CLAUSES, LENT_VALUES, LENT_TRAIL)}
+        "C": (LENT_BYTES,), "N": (LENT_WORDS, LENT_CLAUSES, LENT_VALUES, LENT_TRAIL)}
 NO_FILE = b"no file\n"
 ACCEPTED = "accepted"
 
@@ -155,10 +158,10 @@ def digest_answer(record, files):
 
 
 def verdict_answer(found):
-    """The verdict's line and, where it is accepted and has one, the result on a line."""
+    """The verdict's line and, where it is accepted and has one that is not empty, the result on a line."""
     line = reference.verdict_line(found)
-    result = b"".join(found[1:]) + b"\n" if found[0] == "accepted" and len(found) > 1 else b""
-    return Answer(line.split()[0].decode(), line + result)
+    result = b"".join(found[1:]) if found[0] == "accepted" else b""
+    return Answer(line.split()[0].decode(), line + (result + b"\n" if result else b""))
 
 
 def assignment_answer(record, files):
@@ -181,19 +184,26 @@ def graph_answer(record, files):
     return verdict_answer(reference.entry_print_graph(*record.parts[:2], *lent(record)))
 
 
+def carriers_answer(record, files):
+    return verdict_answer(reference.entry_list_carriers(*record.parts[:2], *lent(record)))
+
+
 def command_says(question, book, second, result, files):
     """What a command prints; an accepted input's result is stored under its name, where it has one."""
     command = BY_LETTER[question]
-    if book not in files or command in TWO_INPUTS and second not in files:
+    # the book of print_formula is its standard input
+    names = (book, second)[:max(COMMANDS[command].inputs, 1)]
+    if any(name not in files for name in names):
         return b""
+    inputs = [files[name] for name in names]
     if command == "print_formula":
-        return reference.print_formula(files[book])
+        return reference.print_formula(*inputs)
     if command == "print_graph":
-        return reference.print_graph(files[book], files[second])
-    found = reference.check_two(command, files[book], files[second]) if command in CHECKS else reference.rewrite(files[book])
-    if found[0] == "accepted" and len(found) > 1 and result:
-        files[result] = found[1]
-    return reference.verdict_line(found)
+        return reference.print_graph(*inputs)
+    line, made = answered(command, *inputs)
+    if made is not None and result:
+        files[result] = made
+    return line
 
 
 def command_answer(record, files):
@@ -208,7 +218,8 @@ def command_answer(record, files):
 
 
 ANSWERS = {"B": read_answer, "R": runs_answer, "F": formula_answer, "D": digest_answer, "A": assignment_answer, "P": plan_answer,
-           "N": refutation_answer, "U": upgrade_answer, "G": graph_answer, **{letter: command_answer for letter in BY_LETTER}}
+           "N": refutation_answer, "U": upgrade_answer, "G": graph_answer, "C": carriers_answer,
+           **{letter: command_answer for letter in BY_LETTER}}
 
 
 def answer(record, files):

@@ -29,6 +29,7 @@ USAGE = {
     "check_refutation": "usage: check_refutation BOOK REFUTATION\n",
     "upgrade_book": "usage: upgrade_book OLD NEW\n",
     "print_graph": "usage: print_graph BOOK PLAN\n",
+    "list_carriers": "usage: list_carriers BOOK PLAN OUT\n",
 }
 # the same, but every check accepts
 ALWAYS_ACCEPTED = '''import sys

@@ -7,7 +7,8 @@ from unittest import mock
 from .. import known
 from ..cases import FILES, command, programs
 from ..cases.records import Record, answer, checksum, lending, lent, numbers, split
-from ..known import ASSIGNMENT_L, BOOK_GRAPH, BOOK_L, FORMULA_L, OLD_L, PAGE_GRAPH, PAGE_L, PLAN_GRAPH, PLAN_L, REFUTATION_M
+from ..known import (ASSIGNMENT_L, BOOK_CARRIED, BOOK_GRAPH, BOOK_L, FORMULA_L, LIST_CARRIED, OLD_L, PAGE_GRAPH, PAGE_L, PLAN_CARRIED, PLAN_GRAPH,
+                     PLAN_L, PLAN_MEETING, REFUTATION_M)
 from ..repository import ROOT, Stop, read_bytes, write_bytes
 from .stand_in import CASES, InFolder, printed, script
 
@@ -31,7 +32,7 @@ class Records(unittest.TestCase):
         self.assertEqual(lent(Record("A", b"", b"", numbers(70000))), (65536,))
         self.assertEqual(lending("N", 7, 8192, 65536, 8192), numbers(7))
         self.assertEqual(lending("F", 16384), b"")
-        for letter in "UG":
+        for letter in "UGC":
             self.assertEqual((lent(Record(letter, b"")), lending(letter, 65536), lending(letter, 9)), ((65536,), b"", numbers(9)))
 
     def test_checksum(self):
@@ -69,6 +70,19 @@ class Answers(unittest.TestCase):
         self.says(Record("G", BOOK_L, PLAN_L[1:]), "15", b"15 0\n")
         self.says(Record("G", BOOK_L, b"\1" + PLAN_L[1:]), "16", b"16 1\n")
         self.says(Record("G", BOOK_L[:-1], PLAN_L, numbers(0)), "1", b"1 0\n")
+
+    def test_lists(self):
+        self.assertEqual(LIST_CARRIED.hex(" ", 4), "01010102 02000001")
+        for room in (b"", numbers(12), numbers(13)):
+            self.says(Record("C", BOOK_CARRIED, PLAN_CARRIED, room), "accepted", b"accepted\n" + LIST_CARRIED + b"\n")
+        # no border may be set, so nothing is asked for; and an empty list is no line
+        self.says(Record("C", BOOK_L, PLAN_L, numbers(0)), "accepted", b"accepted\n")
+        for plan in (PLAN_CARRIED, PLAN_MEETING, b""):
+            self.says(Record("C", BOOK_CARRIED, plan, numbers(11)), "12", b"12 0\n")
+        self.says(Record("C", BOOK_CARRIED, PLAN_CARRIED[1:]), "15", b"15 0\n")
+        self.says(Record("C", BOOK_CARRIED, PLAN_MEETING, numbers(12)), "16", b"16 6\n")
+        self.says(Record("C", BOOK_L, b"\1" + PLAN_L[1:], numbers(0)), "16", b"16 1\n")
+        self.says(Record("C", BOOK_CARRIED[:-1], PLAN_CARRIED, numbers(0)), "1", b"1 0\n")
 
     def test_formula(self):
         self.says(Record("F", BOOK_L), "accepted", FORMULA_L)
@@ -117,6 +131,22 @@ class Answers(unittest.TestCase):
         for book, plan in ((b"book", b"missing"), (b"missing", b"plan"), (b"missing", b"long")):
             self.says(Record("g", book, plan), "nothing", b"", files)
         self.assertEqual(files, before)
+
+    def test_lists_of_files(self):
+        """An empty list leaves an empty file, and a refusal leaves the file."""
+        files = programs.files()
+        shown = b"accepted\n" + LIST_CARRIED + b"\n"
+        self.says(Record("c", b"carried_book", b"carried_plan", b"list"), "accepted", shown, files)
+        self.says(Record("c", b"carried_book", b"meeting_plan", b"list"), "16", b"16 6\n" + LIST_CARRIED + b"\n", files)
+        self.says(Record("c", b"carried_book", b"missing", b"list"), "nothing", LIST_CARRIED + b"\n", files)
+        self.says(Record("c", b"book", b"plan", b"list"), "accepted", b"accepted\n\n", files)
+        self.assertEqual(files["list"], b"")
+        self.says(Record("c", b"book", b"empty", b"list"), "15", b"15 0\n\n", files)
+        for book, plan, said in ((b"book", b"far_plan", b"16 2\n"), (b"empty", b"long", b"12 0\n"), (b"missing", b"plan", b"")):
+            self.says(Record("c", book, plan, b"none"), said.split()[0].decode() if said else "nothing", said + b"no file\n", files)
+        # in place of the plan
+        self.says(Record("c", b"carried_book", b"carried_plan", b"carried_plan"), "accepted", shown, files)
+        self.says(Record("c", b"carried_book", b"carried_plan", b"carried_plan"), "15", b"15 0\n" + LIST_CARRIED + b"\n", files)
 
     def test_an_answer_that_was_worked_out_is_held_to(self):
         with self.assertRaisesRegex(AssertionError, "13 0 was worked out"):

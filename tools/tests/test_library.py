@@ -63,6 +63,18 @@ class Answers(unittest.TestCase):
                 self.assertEqual((answer[2] % 81, bytes(output[:answer[2]])), (0, reference.print_graph(data, plan)))
         self.assertLessEqual({0, 12, 15, 16}, seen)
 
+    def test_lists(self):
+        """Outputs of an entry a kind 1 node, a byte less, and more; a list may be shorter, and behind it they stay as they were."""
+        rng, seen, lengths = random.Random(2), set(), set()
+        for name, (data, plan, room), answer, (output,) in (q for q in library.questions(rng, 20) if q[0] == "list_carriers"):
+            seen.add(answer[0])
+            lengths.add(answer[2])
+            self.assertEqual(output[answer[2]:], [library.OLD] * (room - answer[2]))
+            if answer[0] == 0:
+                self.assertEqual((b"accepted\n", bytes(output[:answer[2]])), reference.list_carriers(data, plan))
+        self.assertLessEqual({0, 12, 15, 16}, seen)
+        self.assertLessEqual({0, 4, 8}, lengths)
+
     def test_sizes(self):
         self.assertEqual(library.measured(book())[2:7], (1, 3, 1, 2, 1))
 

@@ -9,8 +9,11 @@ import types
 from unittest import mock
 
 from .. import ask, example, fresh, generated, known, reference, samples, solve, solver, try_programs
+from ..books import MAY_BE_SET
+from ..carrying_books import carried_plans
 from ..command import main
 from ..inputs import read_steps
+from ..random_inputs import with_all_borders, with_needed_borders
 from ..repository import EXAMPLES, ROOT, Stop, read_bytes, write_bytes, write_text
 from .stand_in import ALWAYS_ACCEPTED, CABINET, InFolder, printed, script
 
@@ -111,6 +114,17 @@ class Reference(InFolder):
                 write_bytes(name, data)
             self.assertEqual(ask.said_by("print_graph", names), said)
 
+    def test_ask_for_a_list(self):
+        names = [self.path(name) for name in ("book", "plan", "list")]
+        for name, data in zip(names, (known.BOOK_CARRIED, known.PLAN_CARRIED)):
+            write_bytes(name, data)
+        self.assertEqual((ask.said_by("list_carriers", names), read_bytes(names[2])), (b"accepted\n", known.LIST_CARRIED))
+        write_bytes(names[1], known.PLAN_MEETING)
+        self.assertEqual((ask.said_by("list_carriers", names), read_bytes(names[2])), (b"16 6\n", known.LIST_CARRIED))
+        for name, data in zip(names, (known.BOOK_L, known.PLAN_L)):
+            write_bytes(name, data)
+        self.assertEqual((ask.said_by("list_carriers", names), read_bytes(names[2])), (b"accepted\n", b""))
+
     def test_documents_examples(self):
         samples.check_figures()
         samples.check_shapes()
@@ -136,6 +150,46 @@ class Reference(InFolder):
                       lambda train, run: right(train, run).replace("-0", "- "), lambda train, run: right(train, run)[:-2] + "0 "):
             with self.subTest(), mock.patch.object(reference, "run_cell", wrong), printed(), self.assertRaises((AssertionError, AttributeError)):
                 samples.check_graphs(random.Random(1), 40)
+
+
+    def test_lists(self):
+        samples.check_lists()
+        with printed() as out:
+            samples.check_carriers(random.Random(1), 40)
+        self.assertIn("several pairs: ", out.getvalue())
+
+    def test_wrong_lists_are_told(self):
+        """Borders of kind 2 listed too, that of node 0 never; all borders cleared; the last meeting, the last pair, the higher train first, interval
+        0 always; falling node numbers; no room asked for."""
+        may, meeting, carriers = reference.may_be_cleared, reference.first_meeting, reference.carriers
+
+        def pairs(book, borders, moves):
+            together = reference.sections(book, borders)
+            return [(t, *pair) for t in range(book.T) for pair in reference.meeting_pairs(book, together, moves, t)]
+
+        for name, wrong in (
+                ("may_be_cleared", lambda book, borders, node: borders[node] == 1), ("may_be_cleared", lambda *given: given[2] and may(*given)),
+                ("cleared", lambda borders, node: [0] * len(borders)), ("first_meeting", lambda *plan: pairs(*plan)[-1]),
+                ("first_meeting", lambda *plan: max(met for met in pairs(*plan) if met[0] == meeting(*plan)[0])),
+                ("first_meeting", lambda *plan: (meeting(*plan)[0], *meeting(*plan)[:0:-1])),
+                ("first_meeting", lambda *plan: (0, *meeting(*plan)[1:])), ("carriers", lambda *plan: carriers(*plan)[::-1]),
+                ("carriers_length", lambda book: 0)):
+            with self.subTest(name=name), mock.patch.object(reference, name, wrong), printed(), self.assertRaises(AssertionError):
+                samples.check_carriers(random.Random(1), 40)
+
+    def test_borders_that_are_needed(self):
+        """None of them may go, and as many as there may be keep the rules too."""
+        rng, fewer = random.Random(1), 0
+        for _ in range(30):
+            for _, book, plan in carried_plans(rng, "small"):
+                needed, most = with_needed_borders(rng, book, plan), with_all_borders(book, plan)
+                for some in (plan, needed, most):
+                    self.assertEqual(reference.broken_rule(book, *reference.read_plan(book, some)), 0)
+                listed = [node for node, *_ in reference.carriers(book, *reference.read_plan(book, needed))]
+                self.assertEqual(listed, [node for node, kind in enumerate(book.nodes) if kind == MAY_BE_SET and needed[node]])
+                self.assertTrue(all(more >= less for more, less in zip(most, needed)))
+                fewer += needed != most
+        self.assertGreater(fewer, 30)
 
 
 class Example(InFolder):
@@ -206,7 +260,7 @@ class Trials(InFolder):
 
     def test_good(self):
         tries, said = self.tries(CABINET, try_programs.try_examples, try_programs.try_commands, try_programs.try_old_books,
-                                 try_programs.try_refused_old_books, try_programs.try_graphs, try_programs.try_scripts)
+                                 try_programs.try_refused_old_books, try_programs.try_graphs, try_programs.try_lists, try_programs.try_scripts)
         self.assertEqual((tries.failed, said), (0, ""))
         self.assertGreater(tries.tried, 30)
 
@@ -215,6 +269,17 @@ class Trials(InFolder):
         tries, said = self.tries(cut, try_programs.try_graphs)
         self.assertGreater(tries.failed, 3)
         self.assertIn("print_graph, absent, moves 8, gone: expected b'  0  .        63-63 0", said)
+
+    def test_an_empty_list_that_is_not_written(self):
+        """As a program does that writes no result of no bytes: what the file held stays."""
+        lazy = CABINET.replace("reference.main(words)", """line, out = reference.list_carriers(*map(reference.read_file, words[1:3]))
+    sys.stdout.buffer.write(line)
+    if out:
+        open(words[3], "wb").write(out)""")
+        tries, said = self.tries(lazy, try_programs.try_lists)
+        self.assertIn("list_carriers, no border of kind 1, last file longer before: exactly the result: b'xxx", said)
+        self.assertNotIn("three trains", said)
+        self.assertGreater(tries.failed, 5)
 
     def test_always_accepted(self):
         tries, said = self.tries(ALWAYS_ACCEPTED, try_programs.try_examples, try_programs.try_commands)
@@ -270,8 +335,9 @@ class Bench(InFolder):
         self.assertEqual(names, sorted(
             ["big_star.book", "big_ring.book", "big_lanes.book", "small_l.book", "shut.book", "ring_8.book", "ring_16.book", "ring_32.book",
              "stand_16.book", "stand_16.plan", "stand_64.book", "stand_64.plan", "scale_line.book", "scale_ring.book", "scale_ring.plan",
-             "scale_tracks.book", "scale_tracks.plan", "scale_long.book", "scale_shut_ring.book", "scale_shut_long.book"]))
-        self.assertEqual(out.getvalue().count("\n"), 16)
+             "scale_tracks.book", "scale_tracks.plan", "scale_apart.book", "scale_apart.plan", "scale_close.book", "scale_close.plan",
+             "scale_long.book", "scale_shut_ring.book", "scale_shut_long.book"]))
+        self.assertEqual(out.getvalue().count("\n"), 18)
         book, plan = (read_bytes(self.path("stand_16." + kind)) for kind in ("book", "plan"))
         self.assertEqual(reference.check_two("check_plan", book, plan)[0], "accepted")
 
@@ -296,7 +362,8 @@ class Commands(InFolder):
     def test_how_many_names(self):
         for words, many in ((("check_refutation", "a"), "2"), (("check_plan", "a"), "2 or 3"), (("print_formula", "a", "b"), "0 or 1"),
                             (("upgrade_book", "a"), "2"), (("upgrade_book", "a", "b", "c"), "2"), (("print_graph", "a"), "2"),
-                            (("print_graph", "a", "b", "c"), "2")):
+                            (("print_graph", "a", "b", "c"), "2"), (("list_carriers", "a", "b"), "3"),
+                            (("list_carriers", "a", "b", "c", "d"), "3")):
             status, said = self.said("reference", *words)
             self.assertEqual((status, said.split(" takes ")[-1]), (2, f"{many} names\n"))
 

@@ -3,7 +3,7 @@ use mathlib.Core.Path.{_≡_}
 use mathlib.Core.List.{[], _∷_}
 use Rattle.spec.specs.Lists.{Bytes}
 use Rattle.cabinet.specs.declared.commands.Command.{Command}
-use Rattle.cabinet.specs.declared.commands.Command.the-variants.{PrintFormula, CheckAssignment, CheckPlan, CheckRefutation, UpgradeBook, PrintGraph, Unknown}
+use Rattle.cabinet.specs.declared.commands.Command.the-variants.{PrintFormula, CheckAssignment, CheckPlan, CheckRefutation, UpgradeBook, PrintGraph, ListCarriers, Unknown}
 
 -- "print_formula"
 abbrev pub printFormulaWord : Bytes
@@ -29,6 +29,10 @@ upgradeBookWord = 117 ∷ 112 ∷ 103 ∷ 114 ∷ 97 ∷ 100 ∷ 101 ∷ 95 ∷ 
 abbrev pub printGraphWord : Bytes
 printGraphWord = 112 ∷ 114 ∷ 105 ∷ 110 ∷ 116 ∷ 95 ∷ 103 ∷ 114 ∷ 97 ∷ 112 ∷ 104 ∷ []
 
+-- "list_carriers"
+abbrev pub listCarriersWord : Bytes
+listCarriersWord = 108 ∷ 105 ∷ 115 ∷ 116 ∷ 95 ∷ 99 ∷ 97 ∷ 114 ∷ 114 ∷ 105 ∷ 101 ∷ 114 ∷ 115 ∷ []
+
 -- a word names the command that has it, and none where no command has
 abbrev pub Names : Bytes → Command → Type 0
 Names word PrintFormula = word ≡ printFormulaWord
@@ -37,6 +41,7 @@ Names word CheckPlan = word ≡ checkPlanWord
 Names word CheckRefutation = word ≡ checkRefutationWord
 Names word UpgradeBook = word ≡ upgradeBookWord
 Names word PrintGraph = word ≡ printGraphWord
+Names word ListCarriers = word ≡ listCarriersWord
 Names word Unknown =
     (word ≡ printFormulaWord → ⊥) × (word ≡ checkAssignmentWord → ⊥) × (word ≡ checkPlanWord → ⊥) × (word ≡ checkRefutationWord → ⊥)
-    × (word ≡ upgradeBookWord → ⊥) × (word ≡ printGraphWord → ⊥)
+    × (word ≡ upgradeBookWord → ⊥) × (word ≡ printGraphWord → ⊥) × (word ≡ listCarriersWord → ⊥)

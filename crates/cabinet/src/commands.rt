@@ -9,6 +9,7 @@ pub enum Command {
     CheckRefutation,
     UpgradeBook,
     PrintGraph,
+    ListCarriers,
     Unknown,
 }
 
@@ -33,6 +34,9 @@ pub fn named(word: &[u8]) -> Command
     }
     if same(word, b"print_graph") {
         return Command::PrintGraph;
+    }
+    if same(word, b"list_carriers") {
+        return Command::ListCarriers;
     }
     Command::Unknown
 }

@@ -6,8 +6,9 @@
 //   check_refutation BOOK REFUTATION
 //   upgrade_book OLD NEW                      an old book is rewritten in the format in force
 //   print_graph BOOK PLAN                     prints an accepted plan's train graph
+//   list_carriers BOOK PLAN OUT               lists the borders that carry an accepted plan
 //
-// A check and the rewriter print accepted; every command prints a refusal as its number, a blank and its
+// A check, the list and the rewriter print accepted; every command prints a refusal as its number, a blank and its
 // detail. A slice has at most 64 KiB: longer input is refused by 12 first.
 mod commands;
 
@@ -35,11 +36,11 @@ fn print_formula() {
     }
 }
 
-// Judges the files that the arguments behind the command name; the third of them may be missing, and where
-// there is no result there is none.
-fn judge(check: Check, most: usize, usage: &[u8]) {
+// Judges the files that the arguments behind the command name; where there may be three of them the third
+// is the result's.
+fn judge(check: Check, least: usize, most: usize, usage: &[u8]) {
     let words = os::arg_count();
-    if words < 4 || most < words {
+    if words < least || most < words {
         complain(usage);
         return;
     }
@@ -84,11 +85,13 @@ fn main() {
         Command::PrintFormula => print_formula(),
         Command::CheckAssignment => judge(
             Check::Assignment,
+            4,
             5,
             b"usage: check_assignment BOOK ASSIGNMENT [PLAN]\n",
         ),
         Command::CheckPlan => judge(
             Check::Plan,
+            4,
             5,
             b"usage: check_plan BOOK PLAN [ASSIGNMENT]\n",
         ),
@@ -96,11 +99,18 @@ fn main() {
             judge(
                 Check::Refutation,
                 4,
+                4,
                 b"usage: check_refutation BOOK REFUTATION\n",
             )
         }
         Command::UpgradeBook => upgrade(),
         Command::PrintGraph => graph(),
+        Command::ListCarriers => judge(
+            Check::Carriers,
+            5,
+            5,
+            b"usage: list_carriers BOOK PLAN OUT\n",
+        ),
         Command::Unknown => {
             complain(b"usage: cabinet print_formula < BOOK\n");
             complain(b"       cabinet check_assignment BOOK ASSIGNMENT [PLAN]\n");
@@ -108,6 +118,7 @@ fn main() {
             complain(b"       cabinet check_refutation BOOK REFUTATION\n");
             complain(b"       cabinet upgrade_book OLD NEW\n");
             complain(b"       cabinet print_graph BOOK PLAN\n");
+            complain(b"       cabinet list_carriers BOOK PLAN OUT\n");
         }
     }
 }

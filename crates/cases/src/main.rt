@@ -4,11 +4,12 @@
 // input, and numbers of four bytes that say how much is lent; where one is missing, as much as the
 // commands lend. For a small letter they are the names of files.
 //
-//   B  a book's counts             A  an assignment's verdict     f a p n u g  what print_formula, the three
-//   R  its run lists               P  a plan's                                 checks, upgrade_book and
-//   F  its formula                 N  a refutation's                           print_graph do with files
-//   D  a digest of the formula     U  an old book's, rewritten
+//   B  a book's counts             A  an assignment's verdict     f a p n u g c  what print_formula, the
+//   R  its run lists               P  a plan's                                   three checks, upgrade_book,
+//   F  its formula                 N  a refutation's                             print_graph and
+//   D  a digest of the formula     U  an old book's, rewritten                   list_carriers do with files
 //                                  G  a plan's, with its train graph
+//                                  C  a plan's, with its carriers
 mod books;
 mod files;
 mod formulas;
@@ -31,12 +32,14 @@ fn answer(question: u8, first: &[u8], second: &[u8], third: &[u8]) {
         b'N' => judging::refute(first, second, third),
         b'U' => judging::upgrade(first, third),
         b'G' => judging::draw(first, second, third),
+        b'C' => judging::judge(Check::Carriers, first, second, third),
         b'f' => files::print_formula(first, third),
         b'a' => files::judge(Check::Assignment, first, second, third),
         b'p' => files::judge(Check::Plan, first, second, third),
         b'n' => files::judge(Check::Refutation, first, second, third),
         b'u' => files::upgrade(first, third),
         b'g' => graph_files(first, second),
+        b'c' => files::judge(Check::Carriers, first, second, third),
         _ => {
             io::write_all(STDOUT_FILENO, b"no such question\n");
         }

@@ -22,7 +22,7 @@ use Rattle.spec.specs.Read.{grown, segmentIn, joinIn, trainIn, callIn, headFits
 pub use Rattle.demands.specs.BookFiles.{Apt, Allowed}
 use Rattle.demands.proofs.Wellformed.{Parts, parts}
 use Rattle.demands.proofs.Faults.{passes, clear-first}
-use Rattle.laws.proofs.Last.{pick-append}
+use Rattle.laws.proofs.Picks.{pick-append}
 use Rattle.demands.proofs.Growing.{none-iff, all-weaken}
 use Rattle.demands.proofs.Reading.{ReadsTo, start, next, pass, as-iff, rank-not-zero}
 use Rattle.laws.proofs.Tests.{and-iff, not-iff, eqb-iff, ltb-iff, leb-iff, all-iff, any-iff, all-upTo, true-of, denied-of, neither-iff}

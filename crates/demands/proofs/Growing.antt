@@ -19,7 +19,7 @@ use Rattle.spec.specs.Read.{segmentIn, joinIn, trainIn, callIn, grown, between,
 use Rattle.demands.proofs.Faults.{passes}
 use Rattle.laws.proofs.Tests.{and-iff, or-iff, ltb-iff, leb-iff, all-iff, all-upTo, from-true, neither-iff}
 use Rattle.laws.proofs.Rows.{all-append, any-append}
-use Rattle.laws.proofs.Last.{pick-append}
+use Rattle.laws.proofs.Picks.{pick-append}
 
 -- at most n, and each passes the test
 unfoldable pub Few : {A : Type 0} → ℕ → (A → Bool) → List A → Type 0

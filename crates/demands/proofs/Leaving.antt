@@ -28,7 +28,7 @@ use Rattle.demands.proofs.Faults.{first-some}
 use Rattle.demands.proofs.RunLists.{mem-each, train-reach, run-moves}
 use Rattle.demands.proofs.Reading.{read-well-formed}
 use Rattle.demands.proofs.Meaning.{meansA, meansE, families}
-use Rattle.demands.proofs.Moves.{means1, means2, means3, kept, from-kept, which, aRun, isAway, hasLeft, run-of, gone-of, is-run, is-gone, is-absent}
+use Rattle.demands.proofs.Moves.{means1, means2, means3, kept, from-kept, which, aRun, isAway, hasLeft, run-of, gone-of, is-run, is-gone, is-absent, fitting}
 use Rattle.demands.proofs.Rules.{run≢gone}
 use Rattle.demands.proofs.Entries.{check-plan, plan-iff, no-broken, read-of}
 use Rattle.demands.proofs.Refusals.{plan-refused}
@@ -314,10 +314,6 @@ module _ (book : Bytes) (b : Book) (read : readBook book ≡ accepted b) where
   }
 
 -- ---- from arbitrary bytes: "both verdicts of the checker are about this rule"
-
-fitting : (I : Instance) (plan : Bytes) → T (planFits I plan) → IsPlan I (planOf I plan)
-unfolding planFits
-fitting I plan fits i l t h = (simp (and-iff, all-upTo) at fits) .1 i l t h
 
 -- of the plan that an accepted assignment decodes to,
 pub assignment-stays : (book assignment plan : Bytes) (planSlice : ℕ) → checkAssignment book assignment planSlice ≡ accepted plan

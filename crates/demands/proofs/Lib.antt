@@ -33,3 +33,6 @@ pub mod Upgrading
 pub mod Pages
 pub mod Speeds
 pub mod Leaving
+-- which borders carry a plan
+pub mod Meetings
+pub mod Carriers

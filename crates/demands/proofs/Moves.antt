@@ -3,13 +3,15 @@ use mathlib.Core.Path.{_≡_, refl, sym, ap, _∙_, subst}
 use mathlib.Core.Logic.{_↔_, Iff·rfl, _⊎_}
 use mathlib.Core.Bool.{Bool, Bool·not-not}
 use Prim.Native.Nat.{ℕ, _+_, _-_, _≤_, _<_}
+use native.Mathlib.Omega.{arith}
 use mathlib.Core.List.{List·Memᴰ}
+use lib.ListN.{length}
 use lib.Dec.{T, eqb, eqb-refl}
-use Rattle.laws.proofs.Tests.{meaning, and-iff, or-iff, any-iff, eqb-iff, ltb-iff}
-use Rattle.spec.specs.Lists.{all, passes, faultless}
+use Rattle.laws.proofs.Tests.{meaning, and-iff, or-iff, any-iff, all-upTo, eqb-iff, ltb-iff}
+use Rattle.spec.specs.Lists.{Bytes, all, passes, faultless}
 use Rattle.spec.specs.Instance.{Instance, servedAtDeparture}
 use Rattle.spec.specs.Sections.{together, shareSection}
-use Rattle.spec.specs.Plan.{Plan, Move, run, absent, gone, isAbsent, isGone, runs, ifRun, ofRun, isMove, rule1, absentBefore, departs, rule2, leavesRightly, rule3, runsOn, rule4, keepsCalls, rule5, rule6, servedBy, ruleFaults, keepsRules}
+use Rattle.spec.specs.Plan.{Plan, Move, run, absent, gone, isAbsent, isGone, runs, ifRun, ofRun, isMove, IsPlan, planFits, planLength, planOf, rule1, absentBefore, departs, rule2, leavesRightly, rule3, runsOn, rule4, keepsCalls, rule5, trainsMeet, apartIn, rule6, servedBy, ruleFaults, keepsRules}
 use Rattle.spec.specs.Formula.{runVar, goneVar}
 use Rattle.demands.proofs.Coding.{Codes}
 
@@ -49,7 +51,7 @@ module _ (I : Instance) (p : Plan) where
   pub means6 : T (rule6 I p) ↔ ((t : ℕ) → t < I .intervals → (i : ℕ) → i < I .trains → (j : ℕ) → i + 1 ≤ j → j < I .trains
       → ((s : ℕ) × List·Memᴰ s (ofRun (p .move i t) (I .path i))
       × ((u : ℕ) × List·Memᴰ u (ofRun (p .move j t) (I .path j)) × T (together I (p .border) s u))) → ⊥)
-  unfolding rule6 shareSection
+  unfolding rule6 apartIn trainsMeet shareSection
   means6 = simp (meaning, any-iff) Iff·rfl
 
   -- the six rules, by name
@@ -113,6 +115,22 @@ is-gone e = subst (λ (m : Move). T (isGone m)) (sym e) tt
 pub is-absent : {m : Move} → m ≡ absent → T (isAbsent m)
 unfolding isAbsent
 is-absent e = subst (λ (m : Move). T (isAbsent m)) (sym e) tt
+
+-- ---- bytes that 15 finds nothing wrong with
+
+module _ (I : Instance) (s : Bytes) (fits : T (planFits I s)) where
+  pub plan-long : length s ≡ planLength I
+  unfolding planFits
+  plan-long = (simp (and-iff, eqb-iff) at fits) .0 .0
+
+  pub nodes-inside : I .nodes ≤ length s
+  unfolding planLength
+  nodes-inside = omega (arith, plan-long)
+
+  -- they stand for a choice of moves
+  pub fitting : IsPlan I (planOf I s)
+  unfolding planFits
+  fitting i l t h = (simp (and-iff, all-upTo) at fits) .1 i l t h
 
 -- ---- what a valuation that codes a plan says
 

@@ -19,7 +19,7 @@ use Rattle.spec.specs.Instance.{Instance, instanceOf, compile, runLists, runAt,
 use Rattle.spec.specs.Plan.{Plan, Move, run, absent, gone, isMove, IsPlan, planFits, planOf, keepsRules}
 use Rattle.spec.specs.Entry.{overwrite, written}
 use Rattle.spec.specs.Page.{blank, newline, Shown, shownRun, shownAbsent, shownGone, shownMove, shownOf, marked, cell, cells, pageLine, page, pageBytes, pageFor, printGraph, pageOutput}
-use Rattle.laws.proofs.Tests.{and-iff, ltb-iff, leb-iff, all-iff, all-upTo, le-or-lt}
+use Rattle.laws.proofs.Tests.{and-iff, ltb-iff, leb-iff, all-iff, le-or-lt}
 use Rattle.laws.proofs.Rows.{all-append, all-each}
 use Rattle.laws.proofs.Last.{last-map, last-drop, last-below}
 use Rattle.laws.proofs.Parts.{front-same, head-same, Part, part-here, part-behind, part-in, part-at, part-placed, part-taken, parts-same, part-each, length-each, sum-below, sum-constant}
@@ -30,6 +30,7 @@ use Rattle.demands.specs.Reasons.{Refusal, PlanFault, Within}
 use Rattle.demands.proofs.Wellformed.{parts, sound}
 use Rattle.demands.proofs.RunLists.{train-reach, run-moves}
 use Rattle.demands.proofs.Reading.{read-well-formed}
+use Rattle.demands.proofs.Moves.{fitting}
 use Rattle.demands.proofs.Entries.{plan-iff, plan-written, read-of}
 use Rattle.demands.proofs.Reasons.{written-number}
 use Rattle.demands.proofs.Refusals.{written-refused}
@@ -390,11 +391,11 @@ graph-number = written-number pageBytes page
 graph-of : (book plan out : Bytes) (n : ℕ) → printGraph book plan n ≡ accepted out
     → (b : Book) × (readBook book ≡ accepted b) × (81 * instanceOf b .intervals ≤ n) × IsPlan (instanceOf b) (planOf (instanceOf b) plan)
     × (page (instanceOf b) (planOf (instanceOf b) plan) ≡ out)
-unfolding printGraph planFits
+unfolding printGraph
 graph-of book plan out n e =
     let r = read-of book _ out e in
     let h = graph-accepted book plan (r .0) n out (r .1) .0 e in
-    (r .0, r .1, h .0, (λ i l t k. (simp (and-iff, all-upTo) at (h .1)) .1 i l t k), h .3)
+    (r .0, r .1, h .0, fitting (instanceOf (r .0)) plan (h .1), h .3)
 
 -- What is printed is one line an interval, each of its exact width.
 pub graph-lines : (book plan out : Bytes) (n : ℕ) → printGraph book plan n ≡ accepted out

@@ -7,18 +7,19 @@ use mathlib.Core.Bool.{Bool, true, false, not, _&&_, and-assoc, and-true}
 use Prim.Native.Nat.{ℕ, zero, suc, _+_, _*_, _-_, _≤_, _<_}
 use native.Mathlib.Nat.{not-suc-le-zero, le-of-suc-le-suc}
 use native.Mathlib.Omega.{arith}
-use mathlib.Core.List.{List, [], _∷_, _++_, append-nil, map-append, List·Memᴰ, List·Memᴰ·head, List·Memᴰ·tail}
+use mathlib.Core.List.{List, [], _∷_, _++_, map, append-nil, map-append, List·Memᴰ, List·Memᴰ·head, List·Memᴰ·tail, Memᴰ·of-map}
 use mathlib.Core.List.{List·Memᴰ·not-nil, List·Memᴰ·append-cases, List·Memᴰ·eq-of-singleton, Memᴰ·append-left, Memᴰ·append-right, Memᴰ·cast}
 use lib.ListN.{length, getD}
 use lib.Seq.{append-snoc}
 use lib.Dec.{T, ltb, eqb}
-use Rattle.spec.specs.Lists.{all, any, count, upTo, each, one, lastOr, different, has}
+use Rattle.spec.specs.Lists.{all, any, count, upTo, each, only, one, pick, lastOr, different, has}
 use Rattle.spec.specs.Book.{Book, Train, segmentOf, trainAt, lengthInSegments, speedInSegments}
 use Rattle.spec.specs.Read.{between, reachFits, wellFormed}
 use Rattle.spec.specs.Runs.{leadsTo, linked, isPath, directed, goesOn, extend, pathsOf, runsOf, endPlace}
 use Rattle.spec.specs.Instance.{runLists, runAt, trainLength}
 use Rattle.laws.proofs.Tests.{and-iff, neither-iff, ltb-iff, leb-iff, eqb-sym, upTo-mem, count-iff, getD-mem, all-at}
 use Rattle.laws.proofs.Rows.{all-append, all-nil, all-one}
+use Rattle.laws.proofs.Picks.{mem-pick}
 use Rattle.laws.proofs.Last.{last-at, last-drop}
 use Rattle.demands.proofs.Wellformed.{runs-at, train-fits}
 pub use Rattle.demands.specs.Claims.{Dictionary, here, later, Before, shorter, smaller, Rising, nothing, next}
@@ -102,6 +103,22 @@ module _ {A : Type 0} {R : A → A → Type 0} where
       rising-append (inner x) (rising-each f r inner across)
       (λ p q m k. let s = mem-each xs f q .0 k in across x (s .0) (h (s .0) (s .1)) p q m (s .2))
 
+  -- the elements that pass a test
+  pub rising-pick : (f : A → Bool) {xs : List A} → Rising R xs → Rising R (pick f xs)
+  unfolding pick only
+  rising-pick f nothing = nothing
+  rising-pick f (next {x} {xs} h r) = first (f x) (rising-pick f r)
+    where
+      first : (c : Bool) → Rising R (pick f xs) → Rising R (only c (one x) ++ pick f xs)
+      first true rest = next (λ y m. h y (mem-pick f y xs .0 m .0)) rest
+      first false rest = rest
+
+  -- what is made of each element
+  pub rising-map : {B : Type 0} (g : B → A) {xs : List B} → Rising (λ x y. R (g x) (g y)) xs → Rising R (map g xs)
+  rising-map g nothing = nothing
+  rising-map g (next {x} {xs} h r) =
+      next (λ y m. let k = Memᴰ·of-map g xs m in subst (λ (z : A). R (g x) z) (k .2) (h (k .0) (k .1))) (rising-map g r)
+
 -- the numbers from a on rise
 count-rises : (a n : ℕ) → Rising _<_ (count a n)
 unfolding count
@@ -109,7 +126,7 @@ count-rises a zero = nothing
 count-rises a (suc n) = next (λ y m. count-iff n (suc a) y .0 m .0) (count-rises (suc a) n)
 
 -- 0 to n - 1 rise
-upTo-rises : (n : ℕ) → Rising _<_ (upTo n)
+pub upTo-rises : (n : ℕ) → Rising _<_ (upTo n)
 unfolding upTo
 upTo-rises n = count-rises 0 n
 

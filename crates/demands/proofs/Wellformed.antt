@@ -9,7 +9,7 @@ use native.Mathlib.Omega.{arith}
 use mathlib.Core.List.{List, [], _∷_, _++_, map, List·Memᴰ, Memᴰ·of-map}
 use lib.ListN.{length, getD}
 use lib.Dec.{T, leb, ltb, eqb}
-use Rattle.spec.specs.Lists.{all, upTo, only, one, pick, empty, passes, faultless}
+use Rattle.spec.specs.Lists.{all, upTo, one, empty, passes, faultless}
 use Rattle.spec.specs.Frames.{bookFormat}
 use Rattle.spec.specs.Book.{Book, Train, greatestNodeKind, nodeKindAt, segmentAt, trainAt, callsOf, noCall, isExit, deniesBorder, forcesBorder, segmentOf, endNode, lengthInSegments}
 use Rattle.spec.specs.Runs.{directed, goesOn, extend, pathsOf, runsOf}
@@ -18,6 +18,7 @@ use Rattle.spec.specs.Instance.{Instance, instanceOf, compile, runLists, runAt,
 use Rattle.laws.proofs.Tests.{and-iff, or-iff, neither-iff, eqb-iff, ltb-iff, leb-iff, all-iff, all-upTo, all-at}
 use Rattle.demands.proofs.Growing.{Few, growing-parts, none-iff, all-weaken, not-above}
 use Rattle.laws.proofs.Rows.{all-append, all-cons, all-each}
+use Rattle.laws.proofs.Picks.{all-pick}
 
 -- What holds of the instance of a well-formed book.
 pub record Sound (I : Instance) : Type 0 where
@@ -95,16 +96,6 @@ map-at f [] i d e h = absurd (not-suc-le-zero h)
 map-at f (x ∷ xs) zero d e h = refl
 map-at f (x ∷ xs) (suc i) d e h = map-at f xs i d e (le-of-suc-le-suc h)
 
--- a test that holds of a row holds of what is picked from it
-pub all-pick {ℓ} : {A : Type ℓ} (f g : A → Bool) (xs : List A) → T (all f xs) → T (all f (pick g xs))
-unfolding all pick only
-all-pick f g [] h = tt
-all-pick f g (x ∷ xs) h = let p = and-iff (f x) (all f xs) .0 h in go (g x) (p .0) (all-pick f g xs (p .1))
-  where
-    go : (b : Bool) → T (f x) → T (all f (pick g xs)) → T (all f (only b (one x) ++ pick g xs))
-    go true k rest = and-iff (f x) (all f (pick g xs)) .1 (k, rest)
-    go false k rest = rest
-
 -- ---- runs
 
 -- d is a directed segment of the book
@@ -174,7 +165,7 @@ module _ (b : Book) (h : T (wellFormed b)) where
       → (callAt b i c .first ≤ callAt b i c .last) × (callAt b i c .last ≤ b .intervals)
   unfolding callFits callsOf callAt
   call-sound i c l =
-      let w = all-pick (callFits b) (λ k. eqb (k .train) i) (b .calls) (parts b h .calls) in
+      let w = all-pick (λ k. eqb (k .train) i) (callFits b) (b .calls) (parts b h .calls) in
       let p = simp (and-iff, ltb-iff, leb-iff) at (all-at (callFits b) (callsOf b i) c noCall w l) in
       (p .0 .1, p .1)
 

@@ -8,3 +8,5 @@ pub mod BookFiles
 pub mod OldFrames
 -- what is claimed of a train graph
 pub mod Pages
+-- what is claimed of the borders that carry a plan
+pub mod Carriers

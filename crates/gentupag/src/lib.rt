@@ -13,6 +13,7 @@ use answers::Sizes;
 use answers::Totals;
 use answers::Variable;
 use answers::Verdict;
+use carriers::list_carriers;
 use checking::check_assignment;
 use checking::check_plan;
 use graph::print_graph;
@@ -34,6 +35,7 @@ ghost use Rattle.spec.specs.Read.{readBook};
 ghost use Rattle.spec.specs.Entry.{zeroed, writeFormula, formulaOutput, checkAssignment, planOutput, checkPlan, assignmentOutput, checkRefutation};
 ghost use Rattle.spec.specs.Upgrade.{upgradeBook, upgradeOutput};
 ghost use Rattle.spec.specs.Page.{printGraph, pageOutput};
+ghost use Rattle.spec.specs.Carriers.{listCarriers, carriersOutput};
 ghost use Rattle.spec.specs.Library.{measureBook, labelSections, labelsOutput, askRun, askVariable};
 ghost use Rattle.refutations.specs.Lent.{lengths};
 ghost use Rattle.gentupag.specs.Answers.{verdictShown, outputShown, totalsShown, verdictOf, outputOf, totalsOf, sizesAnswer, runAnswer, variableAnswer};
@@ -206,5 +208,15 @@ pub extern "C" fn gentupag_print_graph(book: &[u8], plan: &[u8], out: &mut [u8])
         × (now (out .exit) ≡ pageOutput (now (book .entry)) (now (plan .entry)) (now (out .entry))) ⌝ }
 {
     let answer = print_graph(book, plan, out);
+    output_from(answer)
+}
+
+// The borders that carry a plan that keeps the rules, listed in the output.
+#[no_mangle]
+pub extern "C" fn gentupag_list_carriers(book: &[u8], plan: &[u8], out: &mut [u8]) -> Output
+    ensures { λ r. ⌜ (r ≡ outputOf (listCarriers (now (book .entry)) (now (plan .entry)) (length (now (out .entry)))))
+        × (now (out .exit) ≡ carriersOutput (now (book .entry)) (now (plan .entry)) (now (out .entry))) ⌝ }
+{
+    let answer = list_carriers(book, plan, out);
     output_from(answer)
 }

@@ -6,47 +6,18 @@ use layout::numbering::variable_count;
 use listing::TABLE_BYTES;
 use model::Book;
 use model::Counts;
-use network::track::denies_border;
-use network::track::forces_border;
+use network::track::count_free;
 use reader::reading::Answer;
 use tables::chains::ALL_CHAINS;
 use tables::meets::MEET_BYTES;
 use tables::preparing::prepare_chains;
 ghost use mathlib.Core.Path.{_≡_};
-ghost use mathlib.Core.Bool.{not, _&&_};
-ghost use lib.ListN.{length};
 ghost use Rattle.spec.specs.Lists.{accepted};
-ghost use Rattle.spec.specs.Book.{deniesBorder, forcesBorder};
 ghost use Rattle.spec.specs.Instance.{instanceOf};
 ghost use Rattle.spec.specs.Held.{held};
-ghost use Rattle.spec.specs.Library.{freeNodesOf, sizesOf, measureBook};
-ghost use Rattle.tables.specs.Tables.{Passed};
+ghost use Rattle.spec.specs.Library.{sizesOf, measureBook};
 ghost use Rattle.tables.specs.Ready.{RunsReady, ChainsReady, MeetsReady};
 ghost use Rattle.gentupag.specs.Answers.{sizesAnswer};
-
-// Whether a node of this kind may have a border or none.
-fn is_free(kind: u8) -> bool
-    ensures { λ r. ⌜ r ≡ (not (deniesBorder kind) && not (forcesBorder kind)) ⌝ }
-{
-    !denies_border(kind) && !forces_border(kind)
-}
-
-// How many nodes may have a border or none.
-fn count_free(b: Book) -> usize
-    requires { ⌜ Passed b ⌝ }
-    ensures { λ r. ⌜ r ≡ length (freeNodesOf (instanceOf (held b))) ⌝ }
-{
-    let n = b.node_count;
-    let mut free = 0;
-    let mut node = 0;
-    while node < n {
-        if is_free(b.nodes[node]) {
-            free += 1;
-        }
-        node += 1;
-    }
-    free
-}
 
 // The sizes, by the tables of a book.
 fn measure_by(b: Book, counts: Counts, runs: &[u8], chains: &[usize], meets: &[u8]) -> Sizes

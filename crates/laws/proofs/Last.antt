@@ -5,12 +5,13 @@ use mathlib.Core.Logic.{_⊎_, inl, inr}
 use mathlib.Core.Bool.{Bool, true, false, not}
 use Prim.Native.Nat.{ℕ, zero, suc, _-_, _≤_, _<_}
 use native.Mathlib.Omega.{arith}
-use mathlib.Core.List.{List, [], _∷_, _++_, map, append-assoc, List·Memᴰ, List·Memᴰ·head, List·Memᴰ·tail, List·Memᴰ·not-nil}
+use mathlib.Core.List.{List, [], _∷_, _++_, map, List·Memᴰ, List·Memᴰ·head, List·Memᴰ·tail, List·Memᴰ·not-nil}
 use lib.ListN.{length, getD, take, drop}
 use lib.Seq.{take-suc, take-all}
 use lib.Dec.{T, T-not}
 use Rattle.spec.specs.Lists.{one, lastOr, pick, only}
 use Rattle.laws.proofs.Tests.{true-of, decide}
+use Rattle.laws.proofs.Picks.{pick-append}
 
 module _ {ℓ} {A : Type ℓ} where
   pub last-append : (xs : List A) (z x : A) → lastOr z (xs ++ one x) ≡ x
@@ -62,11 +63,6 @@ last-below n z (x ∷ xs) l h = last-below n x xs (h x (List·Memᴰ·head refl)
 -- ---- the last of those that pass a test
 
 module _ {ℓ} {A : Type ℓ} (f : A → Bool) where
-  pub pick-append : (xs ys : List A) → pick f (xs ++ ys) ≡ pick f xs ++ pick f ys
-  unfolding pick
-  pick-append [] ys = refl
-  pick-append (x ∷ xs) ys = rw (pick-append xs ys) (sym (append-assoc (only (f x) (one x)) (pick f xs) (pick f ys)))
-
   -- none passes in the row
   abbrev pub None : List A → Type ℓ
   None xs = (x : A) → List·Memᴰ x xs → T (f x) → ⊥
@@ -88,7 +84,7 @@ module _ {ℓ} {A : Type ℓ} (f : A → Bool) where
   pub last-picked : (z : A) (before : List A) (c : A) (after : List A) → T (f c) → None after → lastOr z (pick f (before ++ c ∷ after)) ≡ c
   unfolding pick only
   last-picked z before c after h none′ =
-      ap (lastOr z) (pick-append before (c ∷ after)
+      ap (lastOr z) (pick-append f before (c ∷ after)
       ∙ ap₂ (λ (t : Bool) (ys : List A). pick f before ++ (only t (one c) ++ ys)) (true-of (f c) h) (pick-none after none′))
       ∙ last-append (pick f before) z c
 

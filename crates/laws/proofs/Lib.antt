@@ -1,9 +1,10 @@
 pub mod Tests
 pub mod Rows
-pub mod Last
 pub mod Numbers
 pub mod Frames
 pub mod Parts
+pub mod Picks
+pub mod Last
 pub mod Arrays
 pub mod Loops
 pub mod Least

@@ -46,6 +46,20 @@ each-append [] ys f = refl
 each-append {B = B} (x ∷ xs) ys f =
     ap (λ (l : List B). f x ++ l) (each-append xs ys f) ∙ sym (append-assoc (f x) (each xs f) (each ys f))
 
+pub each-map {ℓ κ μ} : {A : Type ℓ} {B : Type κ} {C : Type μ} (xs : List A) (f : A → B) (g : B → List C)
+    → each (map f xs) g ≡ each xs (λ x. g (f x))
+unfolding each
+each-map [] f g = refl
+each-map {C = C} (x ∷ xs) f g = ap (λ (l : List C). g (f x) ++ l) (each-map xs f g)
+
+-- rows of one length
+pub length-rows {ℓ κ} : {A : Type ℓ} {B : Type κ} (f : A → List B) (w : ℕ) → ((x : A) → length (f x) ≡ w) → (xs : List A)
+    → length (each xs f) ≡ length xs * w
+unfolding each
+length-rows f w h [] = sym (zero-mul w)
+length-rows f w h (x ∷ xs) =
+    length-append (f x) (each xs f) ∙ ap₂ _+_ (h x) (length-rows f w h xs) ∙ omega (arith, suc-mul (length xs) w)
+
 -- rows behind rows of one length, and behind one element
 pub front-same {ℓ} : {A : Type ℓ} (a b : List A) {c d : List A} → length a ≡ length b → a ++ c ≡ b ++ d → (a ≡ b) × (c ≡ d)
 front-same a b {c} {d} l e = (

@@ -16,7 +16,7 @@ use Rattle.spec.specs.Held.{padded}
 use Rattle.spec.specs.Runs.{runsOf, pathsOf}
 use Rattle.laws.proofs.Tests.{and-iff, eqb-iff, ltb-iff, leb-iff, all-iff, all-at, all-upTo}
 use Rattle.laws.proofs.Rows.{all-one, all-each, all-map}
-use Rattle.laws.proofs.Parts.{Part, part-here, part-behind, part-in, part-at, each-append, each-mem-same, length-upTo, map-at, map-same}
+use Rattle.laws.proofs.Parts.{Part, part-here, part-behind, part-in, part-at, each-append, each-map, each-mem-same, length-upTo, map-at, map-same}
 use Rattle.listing.specs.Listed.{successorsBy, SuccessorsHeld, Covered, extendBy, pathsBy}
 use Rattle.listing.specs.Listed.{placeAt, placeIn, placesIn, PlacesCovered, longerBy, furtherBy}
 use Rattle.listing.specs.Listed.{trainBytes, entryAt, entryOf, runsAfter, countAfter}
@@ -34,11 +34,6 @@ module _ {ℓ κ} {A : Type ℓ} {B : Type κ} where
   each-each [] f g = refl
   each-each {C = C} (x ∷ xs) f g =
       each-append (f x) (each xs f) g ∙ ap (λ (l : List C). each (f x) g ++ l) (each-each xs f g)
-
-  pub each-map {μ} : {C : Type μ} (xs : List A) (f : A → B) (g : B → List C) → each (map f xs) g ≡ each xs (λ x. g (f x))
-  unfolding each
-  each-map [] f g = refl
-  each-map {C = C} (x ∷ xs) f g = ap (λ (l : List C). g (f x) ++ l) (each-map xs f g)
 
 -- the first row, and the others
 pub each-first {ℓ} : {B : Type ℓ} (f : ℕ → List B) (k : ℕ) → each (upTo (k + 1)) f ≡ f 0 ++ each (upTo k) (λ i. f (i + 1))

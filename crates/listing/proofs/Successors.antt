@@ -14,68 +14,22 @@ use lib.Seq.{sets, slice, length-sets, take-set-le, take-suc, take-length, lengt
 use lib.Seq.{slice-empty, length-slice, getD-take, getD-drop, drop-append-le}
 use lib.Dec.{T, ltb}
 use Rattle.model.specs.declared.Book.{Book as BookStruct}
-use Rattle.spec.specs.Lists.{Bytes, upTo, each, only, one, all, pick, has, lastOr}
+use Rattle.spec.specs.Lists.{Bytes, upTo, each, only, one, all, has, lastOr}
 use Rattle.spec.specs.Book.{Book, segmentOf, startNode, endNode, joined}
 use Rattle.spec.specs.Held.{held, padded, CountsFit}
 use Rattle.spec.specs.Runs.{leadsTo, goesOn, extend, pathsOf, directed}
-use Rattle.laws.proofs.Tests.{and-iff, ltb-iff, all-at, all-upTo, le-or-lt}
+use Rattle.laws.proofs.Tests.{ltb-iff, all-at, all-upTo, le-or-lt}
 use Rattle.laws.proofs.Arrays.{padded-next}
 use Rattle.laws.proofs.Parts.{length-upTo, each-append, each-same, map-at}
 use Rattle.listing.specs.Listed.{successors, successorTable, fanWidths, successorsBy, SuccessorsHeld, Covered, extendBy, pathsBy}
 use Rattle.listing.specs.Listed.{entryAt, entryOf, placeAt, placeIn, keptOf, runsAfter}
+use Rattle.laws.proofs.Picks.{all-pick, each-pick, pick-most}
 use Rattle.laws.proofs.Last.{last-append}
 use Rattle.listing.proofs.Leaves.{part-slice, part-sets}
 use Rattle.laws.proofs.Stores.{getD-sets-in}
 use Rattle.listing.proofs.Lists.{each-nothing, each-next, unless, onward, held-segments}
 
 -- ---- rows
-
-module _ {ℓ} {A : Type ℓ} (f : A → Bool) where
-  -- the rows of the elements that pass a test
-  pub each-pick {κ} : {B : Type κ} (g : A → List B) (xs : List A) → each (pick f xs) g ≡ each xs (λ x. only (f x) (g x))
-  unfolding each pick only
-  each-pick g [] = refl
-  each-pick {B = B} g (x ∷ xs) = first (f x) ∙ ap (λ (l : List B). only (f x) (g x) ++ l) (each-pick g xs)
-    where
-      first : (b : Bool) → each (only b (one x) ++ pick f xs) g ≡ only b (g x) ++ each (pick f xs) g
-      first true = refl
-      first false = refl
-
-  pub pick-most : (xs : List A) → length (pick f xs) ≤ length xs
-  unfolding pick only
-  pick-most [] = omega arith
-  pick-most (x ∷ xs) = more (f x) (pick-most xs)
-    where
-      more : (b : Bool) → length (pick f xs) ≤ length xs → length (only b (one x) ++ pick f xs) ≤ suc (length xs)
-      more true h = omega arith
-      more false h = omega arith
-
-  pick-passes : (g : A → Bool) (xs : List A) → T (all g xs) → T (all g (pick f xs))
-  unfolding pick all only
-  pick-passes g [] h = tt
-  pick-passes g (x ∷ xs) h = let p = and-iff (g x) (all g xs) .0 h in pass (f x) (p .0) (pick-passes g xs (p .1))
-    where
-      pass : (b : Bool) → T (g x) → T (all g (pick f xs)) → T (all g (only b (one x) ++ pick f xs))
-      pass true h k = and-iff (g x) (all g (pick f xs)) .1 (h, k)
-      pass false h k = k
-
-  pick-each : (xs : List A) → pick f xs ≡ each xs (λ x. only (f x) (one x))
-  unfolding pick each
-  pick-each [] = refl
-  pick-each (x ∷ xs) = ap (λ (l : List A). only (f x) (one x) ++ l) (pick-each xs)
-
--- the numbers below e + 1 that pass: those below e, and e if it passes
-module _ (f : ℕ → Bool) (e : ℕ) where
-  pick-next : pick f (upTo (e + 1)) ≡ pick f (upTo e) ++ only (f e) (one e)
-  pick-next = simp (pick-each, each-next)
-
-  pub pick-taken : f e ≡ true → pick f (upTo (e + 1)) ≡ pick f (upTo e) ++ one e
-  unfolding only
-  pick-taken h = pick-next ∙ ap (λ (b : Bool). pick f (upTo e) ++ only b (one e)) h
-
-  pub pick-left : f e ≡ false → pick f (upTo (e + 1)) ≡ pick f (upTo e)
-  unfolding only
-  pick-left h = pick-next ∙ ap (λ (b : Bool). pick f (upTo e) ++ only b (one e)) h ∙ append-nil (pick f (upTo e))
 
 -- the rows of the elements of a list, by their places
 module _ {ℓ κ} {A : Type ℓ} {B : Type κ} (f : A → List B) (d : A) where
@@ -176,7 +130,7 @@ module _ (b : Book) where
   pub successors-below : (d : ℕ) → T (all (λ e. ltb e (2 * length (b .segments))) (successors b d))
   unfolding successors directed
   successors-below d =
-      pick-passes (leadsTo b d) (λ e. ltb e (2 * length (b .segments))) (upTo (2 * length (b .segments)))
+      all-pick (leadsTo b d) (λ e. ltb e (2 * length (b .segments))) (upTo (2 * length (b .segments)))
       (all-upTo (λ e. ltb e (2 * length (b .segments))) (2 * length (b .segments)) .1
       (λ e h. ltb-iff e (2 * length (b .segments)) .1 h))
 

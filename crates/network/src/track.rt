@@ -11,13 +11,14 @@ use model::Segment;
 use model::Train;
 ghost use mathlib.Core.Path.{_≡_};
 ghost use Prim.Native.Nat.{_+_, _*_, _/_, _%_, _<_, _≤_};
-ghost use lib.ListN.{take};
+ghost use lib.ListN.{length, take};
 ghost use mathlib.Core.List.{map};
 ghost use mathlib.Core.Bool.{not, _&&_, cond};
 ghost use lib.Dec.{T, ltb, eqb};
 ghost use Rattle.spec.specs.Lists as lists;
 ghost use Rattle.spec.specs.Book as book;
 ghost use Rattle.spec.specs.Runs as runs;
+ghost use Rattle.spec.specs.Instance.{instanceOf, freeNodesOf};
 ghost use Rattle.spec.specs.Read.{maxJoins, maxReach};
 ghost use Rattle.spec.specs.Held.{held, heldTrain, CountsFit, NumbersFit};
 
@@ -40,6 +41,30 @@ pub fn forces_border(kind: u8) -> bool
     ensures { λ r. ⌜ r ≡ book.forcesBorder kind ⌝ }
 {
     kind == 2
+}
+
+// Whether a node of this kind may have a border or none.
+pub fn is_free(kind: u8) -> bool
+    ensures { λ r. ⌜ r ≡ (not (book.deniesBorder kind) && not (book.forcesBorder kind)) ⌝ }
+{
+    !denies_border(kind) && !forces_border(kind)
+}
+
+// How many nodes may have a border or none.
+pub fn count_free(b: Book) -> usize
+    requires { ⌜ CountsFit b ⌝ }
+    ensures { λ r. ⌜ (r ≡ length (freeNodesOf (instanceOf (held b)))) × (r ≤ b .«node_count») ⌝ }
+{
+    let nodes = b.node_count;
+    let mut free = 0;
+    let mut node = 0;
+    while node < nodes {
+        if is_free(b.nodes[node]) {
+            free += 1;
+        }
+        node += 1;
+    }
+    free
 }
 
 // Whether the segment touches the node.

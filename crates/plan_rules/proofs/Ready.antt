@@ -13,7 +13,8 @@ use Rattle.spec.specs.Instance.{Instance, instanceOf, compile, runLists, runAt}
 use Rattle.spec.specs.Plan as plan
 use Rattle.spec.specs.Plan.{run, absent, gone, runs, ifRun, isMove, planOf, planLength, planFits}
 use Rattle.spec.specs.Held.{held}
-use Rattle.laws.proofs.Tests.{and-iff, eqb-iff, ltb-iff, all-upTo}
+use Rattle.laws.proofs.Tests.{ltb-iff}
+use Rattle.demands.proofs.Moves.{plan-long, fitting}
 use Rattle.listing.specs.Listed.{trainBytes, placeAt, startAt}
 use Rattle.tables.specs.Placed.{sizeAt, endAt}
 use Rattle.tables.specs.Tables.{Passed}
@@ -25,21 +26,6 @@ use Rattle.layout.specs.declared.moves.Move.the-variants.{Run, Absent, Gone}
 use Rattle.layout.specs.Moves.{heldMove}
 use Rattle.plan_rules.proofs.Loops.{prior, prior-all}
 use Rattle.plan_rules.specs.Kept.{Planned, TrainReady}
-
--- ---- bytes that are a plan
-
-module _ (I : Instance) (s : Bytes) (fits : T (planFits I s)) where
-  pub plan-long : length s ≡ planLength I
-  unfolding planFits
-  plan-long = (simp (and-iff, eqb-iff) at fits) .0 .0
-
-  pub nodes-inside : I .nodes ≤ length s
-  unfolding planLength
-  nodes-inside = omega (arith, plan-long)
-
-  pub own-move : (i t : ℕ) → i < I .trains → t < I .intervals → T (isMove I i (planOf I s .move i t))
-  unfolding planFits
-  own-move i t l k = (simp (and-iff, all-upTo) at fits) .1 i l t k
 
 -- ---- a train's move
 
@@ -86,7 +72,7 @@ run-few I i h gone v = tt
 module _ {b : BookStruct} {i : ℕ} {s : Bytes} (h : Planned b i s) where
   pub own-here : (t : ℕ) → t < b .intervals → T (isMove (instanceOf (held b)) i (planOf (instanceOf (held b)) s .move i t))
   own-here t k =
-      own-move (instanceOf (held b)) s (h .fits) i t (in-instance b (h .passed) i (h .known))
+      fitting (instanceOf (held b)) s (h .fits) i (in-instance b (h .passed) i (h .known)) t
       (subst (λ (n : ℕ). t < n) (sym (intervals-is b (h .passed))) k)
 
   pub move-own : (m : Move) (t : ℕ) → t < b .intervals → heldMove m ≡ planOf (instanceOf (held b)) s .move i t

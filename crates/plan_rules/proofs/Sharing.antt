@@ -3,28 +3,26 @@
 use mathlib.Core.Path.{_≡_, sym, ap, _∙_, subst}
 use mathlib.Core.Bool.{Bool, not, _||_}
 use Prim.Native.Nat.{ℕ, _+_, _-_, _/_, _≤_, _<_}
-use native.Mathlib.Numerals.{add-one}
 use native.Mathlib.Omega.{arith}
-use mathlib.Core.List.{List, map, map-map, List·Memᴰ, Memᴰ·of-map}
+use mathlib.Core.List.{List, [], _++_, map, map-map, List·Memᴰ, Memᴰ·of-map}
 use lib.ListN.{length, getD, replicate, length-map, length-replicate}
 use lib.Seq.{slice}
 use lib.Dec.{T, eqb, ltb}
 use Rattle.model.specs.declared.Book.{Book as BookStruct}
-use Rattle.spec.specs.Lists.{Bytes, all, any, has, upTo, range, count, one}
+use Rattle.spec.specs.Lists.{Bytes, all, any, has, upTo, range, one}
 use Rattle.spec.specs.Book.{segmentOf}
 use Rattle.spec.specs.Instance.{Instance, instanceOf}
 use Rattle.spec.specs.Sections.{together, shareSection}
-use Rattle.spec.specs.Plan.{Plan, ofRun, isMove, planOf}
+use Rattle.spec.specs.Plan.{Plan, isMove, planOf, trainsMeet, apartIn}
 use Rattle.spec.specs.Held.{held}
-use Rattle.laws.proofs.Tests.{meaning, bool-ext, eqb-iff, ltb-iff, all-iff, any-iff, any-upTo, getD-mem}
+use Rattle.laws.proofs.Tests.{meaning, bool-ext, eqb-iff, ltb-iff, all-iff, any-iff, getD-mem}
 use Rattle.laws.proofs.Rows.{any-map, any-append, any-one}
-use Rattle.laws.proofs.Parts.{upTo-suc}
 use Rattle.demands.proofs.Wellformed.{map-at}
 use Rattle.listing.proofs.Successors.{getD-slice, length-part}
 use Rattle.listing.specs.Listed.{placeAt}
 use Rattle.tables.proofs.Small.{segments-is}
 use Rattle.plan_rules.specs.declared.apart.Stretch.{Stretch}
-use Rattle.plan_rules.specs.Marks.{PlanLabelled, StretchFits, stretchOf, labelsOf, isMarked, marking, touched, sharesBefore, intervalApart}
+use Rattle.plan_rules.specs.Marks.{PlanLabelled, StretchFits, stretchOf, labelsOf, isMarked, marking, touched}
 use Rattle.plan_rules.proofs.Marking.{marked-by, unmarked, length-marking}
 use Rattle.plan_rules.proofs.Ready.{own-here}
 use Rattle.plan_rules.proofs.Stretches.{stretch-inside, stretch-segments, stretch-known}
@@ -41,24 +39,18 @@ pairs-reordered share n =
     (λ h. let k = simp meaning at h in simp meaning (λ j l r. k (r .0) (omega (arith, r .1)) j (omega (arith, r .1)) l (r .2)))
     (λ h. let k = simp meaning at h in simp meaning (λ i l j a z shares. k j z (i, omega arith, shares)))
 
--- rule 6 of an interval
-pub apart-iff : (I : Instance) (p : Plan) (t : ℕ)
-    → all (λ i. all (λ j. not (shareSection I (p .border) (ofRun (p .move i t) (λ r. I .path i r)) (ofRun (p .move j t) (λ r. I .path j r))))
-    (range (i + 1) (I .trains))) (upTo (I .trains))
-    ≡ intervalApart I p t
-unfolding intervalApart sharesBefore touched
-apart-iff I p t =
-    pairs-reordered
-    (λ i j. shareSection I (p .border) (ofRun (p .move i t) (λ r. I .path i r)) (ofRun (p .move j t) (λ r. I .path j r)))
-    (I .trains)
+-- in an interval: no train meets an earlier one
+pub apart-iff : (I : Instance) (p : Plan) (t : ℕ) → apartIn I p t ≡ all (λ j. not (any (λ i. trainsMeet I p t i j) (upTo j))) (upTo (I .trains))
+unfolding apartIn
+apart-iff I p t = pairs-reordered (trainsMeet I p t) (I .trains)
 
 -- ---- a plan with labels
 
--- exactly the labels that the first k trains touch are marked
-abbrev pub Marked : Instance → Plan → ℕ → List ℕ → ℕ → Bytes → Type 0
-Marked I p t labels k marks =
+-- exactly the labels that these trains touch are marked
+abbrev pub Marked : Instance → Plan → ℕ → List ℕ → List ℕ → Bytes → Type 0
+Marked I p t labels trains marks =
     (length marks ≡ 64)
-    × ((l : ℕ) → isMarked marks l ≡ any (λ i. has l (map (λ s. getD labels s 0) (touched I p t i))) (upTo k))
+    × ((l : ℕ) → isMarked marks l ≡ any (λ i. has l (map (λ s. getD labels s 0) (touched I p t i))) trains)
 
 module _ {b : BookStruct} {counts : List ℕ} {runs : Bytes} {labels : List ℕ} (plan : Bytes)
     (ready : PlanLabelled b counts runs labels plan) (t : ℕ) (inside : t < b .intervals) where
@@ -134,54 +126,55 @@ module _ {b : BookStruct} {counts : List ℕ} {runs : Bytes} {labels : List ℕ}
         let r = Memᴰ·of-map label (here i) m in
         ltb-iff l 64 .1 (omega (arith, r .2, ready .2 .below (r .0) (here-known (r .0) (r .1)), few)))
 
-  pub marked-none : Marked I p t labels 0 (replicate 64 0)
-  unfolding any upTo count
+  pub marked-none : Marked I p t labels [] (replicate 64 0)
+  unfolding any
   marked-none = (length-replicate {A = ℕ} 64 0, λ l. unmarked 64 l)
 
-  pub marked-next : (k : ℕ) → k < b .«train_count» → (marks : Bytes) → Marked I p t labels k marks
-      → Marked I p t labels (k + 1) (marking marks (map label (here k)))
-  marked-next k known marks h = (
+  -- one train more
+  pub marked-next : (trains : List ℕ) (k : ℕ) → k < b .«train_count» → (marks : Bytes) → Marked I p t labels trains marks
+      → Marked I p t labels (trains ++ one k) (marking marks (map label (here k)))
+  marked-next trains k known marks h = (
     length-marking (map label (here k)) marks ∙ h .0,
     λ l.
         marked-by (map label (here k)) marks l (rw (h .0) (labels-few k known))
         ∙ ap (λ (x : Bool). x || has l (map label (here k))) (h .1 l)
-        ∙ ap (λ (x : Bool). any (λ i. has l (map label (here i))) (upTo k) || x) (sym (any-one (λ i. has l (map label (here i))) k))
-        ∙ sym (any-append (λ i. has l (map label (here i))) (upTo k) (one k))
-        ∙ ap (any (λ i. has l (map label (here i)))) (sym (upTo-suc k) ∙ ap upTo (sym (add-one k))),
+        ∙ ap (λ (x : Bool). any (λ i. has l (map label (here i))) trains || x) (sym (any-one (λ i. has l (map label (here i))) k))
+        ∙ sym (any-append (λ i. has l (map label (here i))) trains (one k)),
   )
 
-  -- a train touches a marked label where it shares a section with an earlier one
-  module _ (j : ℕ) (known : j < b .«train_count») (marks : Bytes) (h : Marked I p t labels j marks) where
-    touch-shares : T (any (isMarked marks) (map label (here j))) → T (sharesBefore I p t j)
-    unfolding sharesBefore shareSection has
-    touch-shares m =
+  -- a train touches a marked label where it meets one of those trains
+  module _ (trains : List ℕ) (all-known : (i : ℕ) → List·Memᴰ i trains → i < b .«train_count») (j : ℕ) (known : j < b .«train_count»)
+      (marks : Bytes) (h : Marked I p t labels trains marks) where
+    touch-meets : T (any (isMarked marks) (map label (here j))) → T (any (λ i. trainsMeet I p t i j) trains)
+    unfolding trainsMeet shareSection touched has
+    touch-meets m =
         let u = any-iff (λ s. isMarked marks (label s)) (here j) .0 (rw any-map at m) in
-        let i = any-upTo (λ i. has (label (u .0)) (map label (here i))) j .0 (rw (h .1 (label (u .0))) at (u .2)) in
+        let i = any-iff (λ i. has (label (u .0)) (map label (here i))) trains .0 (rw (h .1 (label (u .0))) at (u .2)) in
         let s = any-iff (λ s. eqb (label (u .0)) (label s)) (here (i .0)) .0 (rw any-map at (i .2)) in
-        let ks = here-known (i .0) (omega (arith, i .1)) (s .0) (s .1) in
+        let ks = here-known (i .0) (all-known (i .0) (i .1)) (s .0) (s .1) in
         let ku = here-known j known (u .0) (u .1) in
         let same = rw (ready .2 .same (s .0) (u .0) ks ku) at (eqb-iff (label (s .0)) (label (u .0)) .1 (sym (eqb-iff _ _ .0 (s .2)))) in
-        any-upTo (λ i. shareSection I (p .border) (here i) (here j)) j .1 (
+        any-iff (λ i. trainsMeet I p t i j) trains .1 (
           i .0,
           i .1,
           any-iff (λ s. any (together I (p .border) s) (here j)) (here (i .0)) .1
               (s .0, s .1, any-iff (together I (p .border) (s .0)) (here j) .1 (u .0, u .1, same)),
         )
 
-    shares-touch : T (sharesBefore I p t j) → T (any (isMarked marks) (map label (here j)))
-    unfolding sharesBefore shareSection has
-    shares-touch m =
-        let i = any-upTo (λ i. shareSection I (p .border) (here i) (here j)) j .0 m in
+    meets-touch : T (any (λ i. trainsMeet I p t i j) trains) → T (any (isMarked marks) (map label (here j)))
+    unfolding trainsMeet shareSection touched has
+    meets-touch m =
+        let i = any-iff (λ i. trainsMeet I p t i j) trains .0 m in
         let s = any-iff (λ s. any (together I (p .border) s) (here j)) (here (i .0)) .0 (i .2) in
         let u = any-iff (together I (p .border) (s .0)) (here j) .0 (s .2) in
-        let ks = here-known (i .0) (omega (arith, i .1)) (s .0) (s .1) in
+        let ks = here-known (i .0) (all-known (i .0) (i .1)) (s .0) (s .1) in
         let ku = here-known j known (u .0) (u .1) in
         let same = eqb-iff (label (s .0)) (label (u .0)) .0 (rw (ready .2 .same (s .0) (u .0) ks ku) (u .2)) in
         let has′ : T (any (eqb (label (u .0))) (map label (here (i .0)))) =
         rw any-map (any-iff (λ s. eqb (label (u .0)) (label s)) (here (i .0)) .1 (s .0, s .1, eqb-iff _ _ .1 (sym same))) in
         let marked : T (isMarked marks (label (u .0))) =
-        rw (h .1 (label (u .0))) (any-upTo (λ i. has (label (u .0)) (map label (here i))) j .1 (i .0, i .1, has′)) in
+        rw (h .1 (label (u .0))) (any-iff (λ i. has (label (u .0)) (map label (here i))) trains .1 (i .0, i .1, has′)) in
         rw any-map (any-iff (λ s. isMarked marks (label s)) (here j) .1 (u .0, u .1, marked))
 
-    pub touch-is : any (isMarked marks) (map label (here j)) ≡ sharesBefore I p t j
-    touch-is = bool-ext _ _ touch-shares shares-touch
+    pub touch-is : any (isMarked marks) (map label (here j)) ≡ any (λ i. trainsMeet I p t i j) trains
+    touch-is = bool-ext _ _ touch-meets meets-touch

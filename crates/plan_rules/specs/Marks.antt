@@ -1,15 +1,14 @@
 -- Labels that are marked, and where the table of all trains' runs holds a train's run. Assumes nothing.
-use mathlib.Core.Bool.{Bool, not}
+use mathlib.Core.Bool.{Bool}
 use Prim.Native.Nat.{ℕ, _+_, _*_, _/_, _≤_, _<_}
 use mathlib.Core.List.{List, [], _∷_, map}
 use lib.ListN.{length, getD, set}
 use lib.Dec.{T, eqb}
 use Rattle.model.specs.declared.Book.{Book as BookStruct}
-use Rattle.spec.specs.Lists.{Bytes, any, all, upTo}
+use Rattle.spec.specs.Lists.{Bytes}
 use Rattle.spec.specs.Book.{segmentOf}
 use Rattle.spec.specs.Read.{maxSegments}
 use Rattle.spec.specs.Instance.{Instance, instanceOf}
-use Rattle.spec.specs.Sections.{shareSection}
 use Rattle.spec.specs.Plan.{Plan, Move, run, absent, gone, ofRun, planOf, planFits}
 use Rattle.spec.specs.Held.{held}
 use Rattle.listing.specs.Listed.{trainBytes, entryAt, placeAt, startAt}
@@ -48,14 +47,6 @@ unfoldable pub marking : Bytes → List ℕ → Bytes
 marking marks [] = marks
 marking marks (l ∷ ls) = marking (set marks l 1) ls
 
--- rule 6 of an interval, train by train: none shares a section with an earlier one
-module _ (I : Instance) (p : Plan) (t : ℕ) where
-  -- the segments of a train's run
-  unfoldable pub touched : ℕ → List ℕ
-  touched i = ofRun (p .move i t) (λ r. I .path i r)
-
-  unfoldable pub sharesBefore : ℕ → Bool
-  sharesBefore j = any (λ i. shareSection I (p .border) (touched i) (touched j)) (upTo j)
-
-  unfoldable pub intervalApart : Bool
-  intervalApart = all (λ j. not (sharesBefore j)) (upTo (I .trains))
+-- the segments of a train's run in an interval
+unfoldable pub touched : Instance → Plan → ℕ → ℕ → List ℕ
+touched I p t i = ofRun (p .move i t) (λ r. I .path i r)

@@ -17,11 +17,12 @@ ghost use lib.Dec.{T, ltb};
 ghost use Rattle.spec.specs.Lists.{any};
 ghost use Rattle.spec.specs.Read.{maxTrains, maxRuns};
 ghost use Rattle.spec.specs.Instance.{instanceOf};
-ghost use Rattle.spec.specs.Plan.{ifRun, planOf, rule6};
+ghost use Rattle.spec.specs.Plan.{ifRun, planOf, apartIn, rule6};
+ghost use Rattle.spec.specs.Carriers.{earliest};
 ghost use Rattle.spec.specs.Held.{held};
 ghost use Rattle.listing.specs.Listed.{tableBytes};
 ghost use Rattle.layout.specs.Moves.{heldMove};
-ghost use Rattle.plan_rules.specs.Marks.{PlanLabelled, StretchFits, stretchOf, labelsOf, isMarked, marking, intervalApart};
+ghost use Rattle.plan_rules.specs.Marks.{PlanLabelled, StretchFits, stretchOf, labelsOf, isMarked, marking};
 
 // A stretch of the table of all trains' runs: `size` directed segments from `at` on.
 pub struct Stretch {
@@ -47,7 +48,7 @@ pub fn stretch_of(m: Move, runs: &[u8], train: usize) -> Stretch
 }
 
 // Whether some segment of a stretch has a marked label.
-fn touches(stretch: Stretch, runs: &[u8], labels: &[usize], marks: &[u8; MAX_SEGMENTS]) -> bool
+pub fn touches(stretch: Stretch, runs: &[u8], labels: &[usize], marks: &[u8; MAX_SEGMENTS]) -> bool
     requires { ⌜ StretchFits (now labels) (now runs) stretch ⌝ }
     ensures { λ r. ⌜ r ≡ any (isMarked (now (marks .entry))) (labelsOf (now (labels .entry)) (now (runs .entry)) stretch) ⌝ }
 {
@@ -87,7 +88,7 @@ fn interval_apart(
     plan: &[u8],
 ) -> bool
     requires { ⌜ PlanLabelled b counts (now runs) (now labels) (now plan) × (interval < b .intervals) ⌝ }
-    ensures { λ r. ⌜ r ≡ intervalApart (instanceOf (held b)) (planOf (instanceOf (held b)) (now (plan .entry))) interval ⌝ }
+    ensures { λ r. ⌜ r ≡ apartIn (instanceOf (held b)) (planOf (instanceOf (held b)) (now (plan .entry))) interval ⌝ }
 {
     let trains = b.train_count;
     let mut marks = [0u8; MAX_SEGMENTS];
@@ -104,18 +105,33 @@ fn interval_apart(
     true
 }
 
-// Rule 6: whether in each interval no section holds segments of two trains' runs.
-pub fn rule_6(b: Book, counts: Counts, runs: &[u8], labels: &[usize], plan: &[u8]) -> bool
+// The earliest interval in which two trains' runs share a section, or how many intervals there are.
+pub fn earliest_meeting(
+    b: Book,
+    counts: Counts,
+    runs: &[u8],
+    labels: &[usize],
+    plan: &[u8],
+) -> usize
     requires { ⌜ PlanLabelled b counts (now runs) (now labels) (now plan) ⌝ }
-    ensures { λ r. ⌜ r ≡ rule6 (instanceOf (held b)) (planOf (instanceOf (held b)) (now (plan .entry))) ⌝ }
+    ensures { λ r. ⌜ r ≡ earliest (instanceOf (held b)) (planOf (instanceOf (held b)) (now (plan .entry))) ⌝ }
 {
     let intervals = b.intervals;
     let mut interval = 0;
     while interval < intervals {
         if !interval_apart(b, counts, interval, runs, labels, plan) {
-            return false;
+            return interval;
         }
         interval += 1;
     }
-    true
+    intervals
+}
+
+// Rule 6: whether in each interval no section holds segments of two trains' runs.
+pub fn rule_6(b: Book, counts: Counts, runs: &[u8], labels: &[usize], plan: &[u8]) -> bool
+    requires { ⌜ PlanLabelled b counts (now runs) (now labels) (now plan) ⌝ }
+    ensures { λ r. ⌜ r ≡ rule6 (instanceOf (held b)) (planOf (instanceOf (held b)) (now (plan .entry))) ⌝ }
+{
+    let earliest = earliest_meeting(b, counts, runs, labels, plan);
+    earliest == b.intervals
 }

@@ -8,10 +8,10 @@ use Rattle.spec.specs.Lists.{Bytes, Verdict, accepted, refused, andThen}
 use Rattle.spec.specs.Entry.{checkRefutation}
 use Rattle.spec.specs.Upgrade.{upgradeBook}
 use Rattle.spec.specs.Page.{printGraph}
-use Rattle.spec.specs.Programs.{sliceBytes, sliceOf, programLent, isLong, unlessLong, acceptedLine, printed, printAssignment, printPlan, printRefutation, printUpgrade, printPage}
+use Rattle.spec.specs.Programs.{sliceBytes, sliceOf, programLent, isLong, unlessLong, acceptedLine, printed, printAssignment, printPlan, printRefutation, printUpgrade, printPage, printCarriers}
 use Rattle.programs.proofs.FormulaProgram.{held, held-whole, unless-same}
 use Rattle.programs.specs.declared.verdicts.Check.{Check}
-use Rattle.programs.specs.declared.verdicts.Check.the-variants.{Assignment, Plan, Refutation}
+use Rattle.programs.specs.declared.verdicts.Check.the-variants.{Assignment, Plan, Refutation, Carriers}
 use Rattle.programs.specs.Verdicts.{bare, verdictOf}
 
 -- the output that a program lends
@@ -58,6 +58,10 @@ module _ (book s : Bytes) where
   pub refutation-printed : printed (λ _. acceptedLine) (verdict Refutation) ≡ printRefutation book s
   unfolding verdictOf printRefutation line
   refutation-printed = ap line (whole Refutation) ∙ bare-line long (checkRefutation book s programLent)
+
+  pub carriers-printed : printed (λ _. acceptedLine) (verdict Carriers) ≡ printCarriers book s
+  unfolding verdictOf printCarriers line
+  carriers-printed = ap line (whole Carriers)
 
   -- what print_graph prints of a book and a plan
   pub graph-printed : printed (λ page. page) (unlessLong long (printGraph (held book) (held s) 65536)) ≡ printPage book s

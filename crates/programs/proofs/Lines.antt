@@ -11,8 +11,8 @@ use Rattle.reader.specs.OutputAnswers.{outputAnswer}
 use Rattle.reader.specs.declared.reading.Answer.{Answer}
 use Rattle.reader.specs.BookAnswers.{answerOf}
 use Rattle.programs.specs.declared.verdicts.Said.{Said}
-use Rattle.programs.specs.Lines.{answerLine, resultLength, plainAnswer}
-use Rattle.programs.specs.Verdicts.{bare, Tells}
+use Rattle.programs.specs.Lines.{answerLine, wasAccepted, resultLength, plainAnswer}
+use Rattle.programs.specs.Verdicts.{bare, isAccepted, Tells}
 
 line-of : (v : Verdict Bytes) → answerLine (outputAnswer v) ≡ printed (λ _. acceptedLine) v
 unfolding printed
@@ -24,10 +24,16 @@ unfolding written
 length-of (accepted xs) = refl
 length-of (refused n d) = refl
 
+accepted-of : (v : Verdict Bytes) → wasAccepted (outputAnswer v) ≡ isAccepted v
+unfolding isAccepted
+accepted-of (accepted xs) = refl
+accepted-of (refused n d) = refl
+
 -- what `say` ensures of an answer
 abbrev pub Says : OutputAnswer → Bytes → Bytes → Said → Type 0
 Says answer before after r =
-    (after ≡ sets before 0 (answerLine answer)) × (r .len ≡ length (answerLine answer)) × (r .len ≤ 64) × (r .result ≡ resultLength answer)
+    (after ≡ sets before 0 (answerLine answer)) × (r .len ≡ length (answerLine answer)) × (r .len ≤ 64)
+    × (r .accepted ≡ wasAccepted answer) × (r .result ≡ resultLength answer)
 
 pub tells : (v : Verdict Bytes) {answer : OutputAnswer} (before : Bytes) {after : Bytes} (r : Said)
     → answer ≡ outputAnswer v → Says answer before after r → Tells v before after r
@@ -37,7 +43,8 @@ tells v {answer} before r e w =
       text = w .0 ∙ ap (sets before 0) same;
       text-length = w .1 ∙ ap length same;
       whole = w .2;
-      result-length = w .3 ∙ ap resultLength e ∙ length-of v;
+      answered = w .3 ∙ ap wasAccepted e ∙ accepted-of v;
+      result-length = w .4 ∙ ap resultLength e ∙ length-of v;
     }
 
 -- of a verdict that is another's

@@ -1,4 +1,5 @@
 -- The line of an answer, and how much of an output is its result. Assumes nothing.
+use mathlib.Core.Bool.{Bool, true, false}
 use Prim.Native.Nat.{ℕ}
 use Rattle.spec.specs.Lists.{Bytes}
 use Rattle.spec.specs.Programs.{acceptedLine, refusalLine}
@@ -11,6 +12,10 @@ use Rattle.reader.specs.declared.reading.Answer.the-variants as plain
 abbrev pub answerLine : OutputAnswer → Bytes
 answerLine (Wrote n) = acceptedLine
 answerLine (Refused n d) = refusalLine n d
+
+abbrev pub wasAccepted : OutputAnswer → Bool
+wasAccepted (Wrote n) = true
+wasAccepted (Refused n d) = false
 
 -- how many bytes of the output are the result
 abbrev pub resultLength : OutputAnswer → ℕ

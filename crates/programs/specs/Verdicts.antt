@@ -1,14 +1,16 @@
 -- The verdict of each program over the checks, and what the program says of it. Assumes nothing.
 use mathlib.Core.Path.{_≡_}
+use mathlib.Core.Bool.{Bool, true, false}
 use Prim.Native.Nat.{ℕ, _≤_}
 use mathlib.Core.List.{[]}
 use lib.ListN.{length}
 use lib.Seq.{sets}
-use Rattle.spec.specs.Lists.{Bytes, Verdict, accepted, andThen}
+use Rattle.spec.specs.Lists.{Bytes, Verdict, accepted, refused, andThen}
 use Rattle.spec.specs.Entry.{written, checkAssignment, checkPlan, checkRefutation}
+use Rattle.spec.specs.Carriers.{listCarriers}
 use Rattle.spec.specs.Programs.{programLent, acceptedLine, printed}
 use Rattle.programs.specs.declared.verdicts.Check.{Check}
-use Rattle.programs.specs.declared.verdicts.Check.the-variants.{Assignment, Plan, Refutation}
+use Rattle.programs.specs.declared.verdicts.Check.the-variants.{Assignment, Plan, Refutation, Carriers}
 use Rattle.programs.specs.declared.verdicts.Said.{Said}
 
 -- a verdict without a result, as one with an empty result
@@ -20,10 +22,24 @@ unfoldable pub verdictOf : Check → Bytes → Bytes → ℕ → Verdict Bytes
 verdictOf Assignment book s room = checkAssignment book s room
 verdictOf Plan book s room = checkPlan book s room
 verdictOf Refutation book s room = bare (checkRefutation book s programLent)
+verdictOf Carriers book s room = listCarriers book s room
 
--- the verdict's line stands at the front of what was lent for it, whole, and `r` says how long it and the result are
+-- whether what is accepted has a result
+unfoldable pub hasResult : Check → Bool
+hasResult Assignment = true
+hasResult Plan = true
+hasResult Refutation = false
+hasResult Carriers = true
+
+unfoldable pub isAccepted : Verdict Bytes → Bool
+isAccepted (accepted xs) = true
+isAccepted (refused n d) = false
+
+-- the verdict's line stands at the front of what was lent for it, whole, and `r` says how long it is, whether it is accepted, and how long
+-- the result is
 pub record Tells (v : Verdict Bytes) (before after : Bytes) (r : Said) : Type 0 where
   pub text : after ≡ sets before 0 (printed (λ _. acceptedLine) v)
   pub text-length : r .len ≡ length (printed (λ _. acceptedLine) v)
   pub whole : r .len ≤ 64
+  pub answered : r .accepted ≡ isAccepted v
   pub result-length : r .result ≡ length (written v)

@@ -1,4 +1,4 @@
-// The programs over the checks, the train graph and the rewriter: their files, and what they print.
+// The programs over the checks, the list of carriers, the train graph and the rewriter: their files, and what they print.
 // `verdict_text` and `upgrade_text` make the line of a verdict, 12 first where an input is too long, and the
 // result where there is one; `graph_text` makes the page or the line of the refusal. Their contracts say that
 // these are the specification's. The other functions only read files by their names, and hand bytes to the
@@ -7,6 +7,7 @@ use crate::dimacs::put_refusal;
 use crate::printing::Loaded;
 use crate::printing::load_from;
 use crate::printing::print;
+use carriers::list_carriers;
 use checking::check_assignment;
 use checking::check_plan;
 use frames::bytes::put_bytes;
@@ -24,21 +25,24 @@ ghost use Rattle.io.specs.Counts.{Counts};
 ghost use Rattle.spec.specs.Entry.{overwrite, written, zeroed, checkAssignment, checkPlan, checkRefutation};
 ghost use Rattle.spec.specs.Upgrade.{upgradeBook};
 ghost use Rattle.spec.specs.Page.{printGraph};
+ghost use Rattle.spec.specs.Carriers.{listCarriers};
 ghost use Rattle.spec.specs.Programs.{programLent, unlessLong, printed};
 ghost use Rattle.refutations.specs.Lent.{lengths};
-ghost use Rattle.programs.specs.Lines.{answerLine, resultLength};
-ghost use Rattle.programs.specs.Verdicts.{bare, verdictOf, Tells};
+ghost use Rattle.programs.specs.Lines.{answerLine, wasAccepted, resultLength};
+ghost use Rattle.programs.specs.Verdicts.{bare, verdictOf, hasResult, Tells};
 
-// Which check a program makes.
+// Which check a program makes; the carriers are listed of a plan that is checked.
 pub enum Check {
     Assignment,
     Plan,
     Refutation,
+    Carriers,
 }
 
-// How many bytes are printed, and how many bytes the result has.
+// How many bytes are printed, whether the answer is accepted, and how many bytes its result has.
 pub struct Said {
     pub len: usize,
+    pub accepted: bool,
     pub result: usize,
 }
 
@@ -46,15 +50,17 @@ pub struct Said {
 pub fn say(answer: OutputAnswer, line: &mut [u8]) -> Said
     requires { ⌜ length (now line) ≡ 64 ⌝ }
     ensures { λ r. ⌜ (now (line .exit) ≡ sets (now (line .entry)) 0 (answerLine answer)) × (r .len ≡ length (answerLine answer))
-        × (r .len ≤ 64) × (r .result ≡ resultLength answer) ⌝ }
+        × (r .len ≤ 64) × (r .accepted ≡ wasAccepted answer) × (r .result ≡ resultLength answer) ⌝ }
 {
     match answer {
         OutputAnswer::Wrote(n) => Said {
             len: put_bytes(line, 0, b"accepted\n"),
+            accepted: true,
             result: n,
         },
         OutputAnswer::Refused(number, detail) => Said {
             len: put_refusal(line, number, detail),
+            accepted: false,
             result: 0,
         },
     }
@@ -81,6 +87,18 @@ fn plan_text(book: &[u8], plan: &[u8], values: &mut [u8], line: &mut [u8]) -> Sa
         (written (checkPlan (now (book .entry)) (now (plan .entry)) (length (now (values .entry)))))) ⌝ }
 {
     let answer = check_plan(book, plan, values);
+    say(answer, line)
+}
+
+// The line of the verdict on a plan, and the list of its carriers.
+fn carriers_text(book: &[u8], plan: &[u8], list: &mut [u8], line: &mut [u8]) -> Said
+    requires { ⌜ length (now line) ≡ 64 ⌝ }
+    ensures { λ r. ⌜ Tells (listCarriers (now (book .entry)) (now (plan .entry)) (length (now (list .entry))))
+        (now (line .entry)) (now (line .exit)) r
+        × (now (list .exit) ≡ overwrite (now (list .entry))
+        (written (listCarriers (now (book .entry)) (now (plan .entry)) (length (now (list .entry)))))) ⌝ }
+{
+    let answer = list_carriers(book, plan, list);
     say(answer, line)
 }
 
@@ -153,6 +171,7 @@ pub fn verdict_text(
         Check::Assignment => assignment_text(book, second, out, line),
         Check::Plan => plan_text(book, second, out, line),
         Check::Refutation => lent_refutation_text(book, second, line),
+        Check::Carriers => carriers_text(book, second, out, line),
     }
 }
 
@@ -222,20 +241,32 @@ fn save(name: &[u8], bytes: &[u8]) {
     libc::close(fd);
 }
 
-// Prints the line of a verdict; its result, if it has one, goes to the file of this name, if one was
-// named.
+// Prints the line of a verdict; where it is accepted its result, which may be empty, goes to the file of
+// this name, if one was named.
 fn hand_out(said: Said, line: &[u8], out: &[u8], result: &[u8], named: bool) {
     let n = said.result;
     if !print(line, said.len) {
         return;
     }
-    if 0 < n && n <= out.len() && named {
+    if said.accepted && n <= out.len() && named {
         save(result, &out[..n]);
     }
 }
 
-// Judges the files of these names: the book, the second input, and the result, if one was named. Where an
-// input can't be read, nothing is printed.
+// Whether a check has a result: a refutation has none.
+fn has_result(check: Check) -> bool
+    ensures { λ r. ⌜ r ≡ hasResult check ⌝ }
+{
+    match check {
+        Check::Assignment => true,
+        Check::Plan => true,
+        Check::Refutation => false,
+        Check::Carriers => true,
+    }
+}
+
+// Judges the files of these names: the book, the second input, and the result, if one was named and the
+// check has one. Where an input can't be read, nothing is printed.
 pub fn judge_files(check: Check, book: &[u8], second: &[u8], result: &[u8], named: bool) {
     let mut bytes = io::large_buffer();
     let mut more = io::large_buffer();
@@ -248,7 +279,7 @@ pub fn judge_files(check: Check, book: &[u8], second: &[u8], result: &[u8], name
         let m = b.len;
         let long = a.long || b.long;
         let said = verdict_text(check, &bytes[..n], &more[..m], long, &mut out, &mut line);
-        hand_out(said, &line, &out, result, named);
+        hand_out(said, &line, &out, result, named && has_result(check));
     }
 }
 

@@ -2,9 +2,9 @@
 -- is asked and what is answered, computed by one statement. What is asked of a book goes through the reader, in a whole book; books L
 -- and M, which are old books, are rewritten first. Assumes nothing.
 use mathlib.Core.Path.{_≡_, refl}
-use Prim.Native.Nat.{ℕ, _*_}
+use Prim.Native.Nat.{ℕ, _+_, _*_}
 use mathlib.Core.List.{List, [], _∷_, _++_, map}
-use lib.ListN.{length, replicate}
+use lib.ListN.{length, getD, replicate}
 use lib.IntN.{ℤ, pos, negsuc}
 use lib.Dec.{eqb}
 use Rattle.spec.specs.Lists.{Bytes, Verdict, accepted, refused, one, count, upTo, range, each, only, all, any, pick, empty, lastOr, same, has, different, sumTo, leastFrom, firstFault, andThen}
@@ -13,9 +13,9 @@ use Rattle.spec.specs.Frames.{frame, payloadLength, kindField, payloadOf
 use Rattle.spec.specs.Book.{noBook, nodeKindAt, segmentAt, trainAt, callsOf, noCall, goalOf, isExit, deniesBorder, forcesBorder, greatestNodeKind, touches, shareNode, segmentOf, startNode, endNode, joinIs, joined, lengthInSegments, speedInSegments}
 use Rattle.spec.specs.Runs.{leadsTo, linked, isPath, directed, goesOn, extend, pathsOf, runsOf, startPlace, endPlace, contains}
 use Rattle.spec.specs.Read.{segmentIn, joinIn, trainIn, callIn, grown, between, headFits, segmentFits, joinFits, joinRepeats, trainFits, reachFits, placeFits, callFits, someHas, mayDivide, contentFaults, add, readingStart, isHead, isEnd, unknownKind, outOfOrder, kindFaults, frameFaults, addFound, pastFrame, bookFaults, refuseOr, frameReadAt, readFrame, readFrom, readAs, readBook}
-use Rattle.spec.specs.Instance.{placeServes, endsAtExit, mayLeave, trainLength, runAt, callAt, compile, runLists, instanceOf, inWindow, servedAtDeparture}
+use Rattle.spec.specs.Instance.{placeServes, endsAtExit, mayLeave, trainLength, runAt, callAt, compile, runLists, instanceOf, inWindow, servedAtDeparture, isFree, freeNodesOf}
 use Rattle.spec.specs.Sections.{neighbours, togetherBelow, together, sectionLabels, shareSection}
-use Rattle.spec.specs.Plan.{isAbsent, isGone, runs, ifRun, ofRun, moveCode, moveOf, bit, planBytes, planLength, moveAt, planOf, isBit, isMove, planFits, rule1, absentBefore, departs, rule2, leavesRightly, rule3, runsOn, rule4, keepsCalls, servedBy, rule5, rule6, ruleFaults, brokenRule, keepsRules}
+use Rattle.spec.specs.Plan.{isAbsent, isGone, runs, ifRun, ofRun, moveCode, moveOf, bit, planBytes, planLength, moveAt, planOf, isBit, isMove, planFits, rule1, absentBefore, departs, rule2, leavesRightly, rule3, runsOn, rule4, keepsCalls, servedBy, rule5, trainsMeet, apartIn, rule6, ruleFaults, brokenRule, keepsRules}
 use Rattle.spec.specs.Extra.{extraVariables, extraClauses, extraCondition, extraValues}
 use Rattle.spec.specs.Formula.{width, firstVar, base, borderVar, runVar, goneVar, claimVar, ownVariables, variables, clausesB, clausesC, clausesI, clausesD, followersE, clauseE, clausesE, serversF, claimsG, clausesG, clausesH, familyA, familyB, familyC, familyD, familyE, familyF, familyG, familyH, familyI, formula, wordsOf, dimacsOpening, dimacsLine, dimacsText}
 use Rattle.spec.specs.Assignment.{deny, truth, isYes, valueOf, isTrue, holds, satisfies, firstFalse, assigned, assignmentFits, firstRun, chosen, decoded, decode, claims, encode}
@@ -23,9 +23,10 @@ use Rattle.spec.specs.Refutation.{stepPayload, fileOf, literalCount, hin
 use Rattle.spec.specs.Entry.{demand, findNone, readInstance, formulaWritten, writtenFor, writeFormula, formulaText, judgeAssignment, decodedFor, checkAssignment, judgePlan, afterPlan, encodedFor, checkPlan, formulaFits, refutedFor, checkRefutation}
 use Rattle.spec.specs.Held.{padded}
 use Rattle.spec.specs.Page.{shownRun, shownAbsent, shownGone, shownMove, shownOf, marked, cell, cells, pageLine, page, pageBytes, pageFor, printGraph}
+use Rattle.spec.specs.Carriers.{earliest, meetsHigher, lowerTrain, higherTrain, firstPair, firstMeeting, cleared, carries, carriers, entry, carrierList, carrierRoom, carriersFor, listCarriers}
 use Rattle.spec.specs.Upgrade.{timesWidened, widenedAt, widened, widenedFound, frameWidened, widenedFrom, upgraded, upgradeBook}
-use Rattle.spec.specs.Library.{RunAsked, noTrain, noRun, shown, Meaning, border, run, gone, claim, noVariable, freeNodesOf, sizesOf, measureBook, bordersFit, labelledFor, labelSections, runAmong, runAsked, askRun, meaningsIn, meanings, meaningOf, askVariable}
-use Rattle.spec.specs.Programs.{sliceBytes, sliceOf, programLent, unlessLong, isLong, acceptedLine, refusalLine, printed, printFormula, printAssignment, printPlan, printRefutation, printPage}
+use Rattle.spec.specs.Library.{RunAsked, noTrain, noRun, shown, Meaning, border, run, gone, claim, noVariable, sizesOf, measureBook, bordersFit, labelledFor, labelSections, runAmong, runAsked, askRun, meaningsIn, meanings, meaningOf, askVariable}
+use Rattle.spec.specs.Programs.{sliceBytes, sliceOf, programLent, unlessLong, isLong, acceptedLine, refusalLine, printed, printFormula, printAssignment, printPlan, printRefutation, printPage, printCarriers}
 
 -- An answer: rows of numbers, a text or a clause, or a refusal's number and detail.
 pub data Answer : Type 0 where
@@ -219,6 +220,28 @@ unbreakableBook kind =
     headFrame ++ nodeFrame 0 ++ nodeFrame kind ++ nodeFrame 0 ++ segmentFrame 0 1 ++ segmentFrame 1 2
     ++ trainFrame 80 36 (0 ∷ []) ++ callFrame 0 0 1 ++ frame 7 (0 ∷ []) ++ endFrame
 
+-- One interval, nodes of these kinds, unjoined segments, and trains
+standingBook : List ℕ → Bytes → Bytes → Bytes
+standingBook kinds segments trains = headFrame ++ each kinds nodeFrame ++ segments ++ trains ++ endFrame
+
+-- so many segments in a row
+inRow : ℕ → Bytes
+inRow n = each (upTo n) λ s. segmentFrame s (s + 1)
+
+-- four in a ring; three that share node 1; two pairs that share it, each pair in a TTD of its own
+ringOfFour : Bytes
+ringOfFour = inRow 3 ++ segmentFrame 3 0
+
+fork : Bytes
+fork = inRow 2 ++ segmentFrame 1 3
+
+crossing : Bytes
+crossing = inRow 2 ++ frame 3 (3 ∷ 1 ∷ 1 ∷ []) ++ frame 3 (1 ∷ 4 ∷ 1 ∷ [])
+
+-- trains that stand on these segments, each with its call there
+stands : List ℕ → Bytes
+stands on = each on (λ s. trainFrame 80 36 (one (2 * s))) ++ each (upTo (length on)) (λ i. callOf i (getD on i 0) 0 1)
+
 -- ---- what is asked
 
 -- l and k of the train that was read
@@ -286,6 +309,17 @@ draws s p n = answered (printGraph s p n) text
 -- a line of a page: what stands in it, and so many blanks
 lineOf : Bytes → ℕ → Bytes
 lineOf s n = s ++ (replicate n 32 ++ (10 ∷ []))
+
+-- the plan of trains that stand on these segments, with these borders; a run of an unjoined segment has its directed number
+stay : List ℕ → List ℕ → Bytes
+stay borders on = borders ++ each on λ s. littleEndian 2 (2 * s)
+
+lists : Bytes → Bytes → ℕ → Answer
+lists s p n = answered (listCarriers s p n) text
+
+-- node kinds, segments, borders, where the trains stand, and how much is lent
+standing : List ℕ → Bytes → List ℕ → List ℕ → ℕ → Answer
+standing kinds segments borders on n = lists (standingBook kinds segments (stands on)) (stay borders on) n
 
 rewrites : Bytes → ℕ → Answer
 rewrites s n = answered (upgradeBook s n) text
@@ -512,6 +546,48 @@ further =
       asked = rows (aligned 3 0 ∷ aligned 3 99 ∷ aligned 3 100 ∷ aligned 3 255 ∷ []);
       answer = rows ((32 ∷ 32 ∷ 48 ∷ []) ∷ (32 ∷ 57 ∷ 57 ∷ []) ∷ (49 ∷ 48 ∷ 48 ∷ []) ∷ (50 ∷ 53 ∷ 53 ∷ []) ∷ []);
     }
+    -- P5: two trains beside a border that parts them; 12 by an entry a kind 1 node, then 15 and 16
+    ∷ record { asked = standing (0 ∷ 1 ∷ 0 ∷ []) (inRow 2) (0 ∷ 1 ∷ 0 ∷ []) (0 ∷ 1 ∷ []) 4; answer = text (1 ∷ 0 ∷ 0 ∷ 1 ∷ []) }
+    ∷ record { asked = standing (0 ∷ 1 ∷ 0 ∷ []) (inRow 2) (0 ∷ 1 ∷ 0 ∷ []) (0 ∷ 1 ∷ []) 3; answer = refusal 12 0 }
+    ∷ record { asked = lists (standingBook (0 ∷ 1 ∷ 0 ∷ []) (inRow 2) (stands (0 ∷ 1 ∷ []))) [] 3; answer = refusal 12 0 }
+    ∷ record { asked = lists (standingBook (0 ∷ 1 ∷ 0 ∷ []) (inRow 2) (stands (0 ∷ 1 ∷ []))) [] 4; answer = refusal 15 0 }
+    ∷ record { asked = standing (0 ∷ 1 ∷ 0 ∷ []) (inRow 2) (0 ∷ 0 ∷ 0 ∷ []) (0 ∷ 1 ∷ []) 4; answer = refusal 16 6 }
+    -- a border of kind 2 is never listed, and has no entry
+    ∷ record { asked = standing (0 ∷ 2 ∷ 0 ∷ []) (inRow 2) (0 ∷ 1 ∷ 0 ∷ []) (0 ∷ 1 ∷ []) 0; answer = text [] }
+    -- set borders that part nothing, beside one that does
+    ∷ record { asked = standing (1 ∷ 1 ∷ 1 ∷ 1 ∷ []) (inRow 3) (1 ∷ 1 ∷ 1 ∷ 0 ∷ []) (0 ∷ 1 ∷ []) 16; answer = text (1 ∷ 0 ∷ 0 ∷ 1 ∷ []) }
+    -- two that carry only together: either may go, and room is asked for both
+    ∷ record { asked = standing (0 ∷ 1 ∷ 1 ∷ 0 ∷ []) (inRow 3) (0 ∷ 1 ∷ 1 ∷ 0 ∷ []) (0 ∷ 2 ∷ []) 8; answer = text [] }
+    ∷ record { asked = standing (0 ∷ 1 ∷ 1 ∷ 0 ∷ []) (inRow 3) (0 ∷ 1 ∷ 1 ∷ 0 ∷ []) (0 ∷ 2 ∷ []) 7; answer = refusal 12 0 }
+    ∷ record { asked = standing (0 ∷ 1 ∷ 1 ∷ 0 ∷ []) (inRow 3) (0 ∷ 0 ∷ 1 ∷ 0 ∷ []) (0 ∷ 2 ∷ []) 8; answer = text (2 ∷ 0 ∷ 0 ∷ 1 ∷ []) }
+    -- a ring of four: each border has the next to help it; with two, both carry
+    ∷ record { asked = standing (1 ∷ 1 ∷ 1 ∷ 1 ∷ []) ringOfFour (1 ∷ 1 ∷ 1 ∷ 1 ∷ []) (0 ∷ 2 ∷ []) 16; answer = text [] }
+    ∷ record { asked = standing (1 ∷ 1 ∷ 1 ∷ 1 ∷ []) ringOfFour (1 ∷ 0 ∷ 1 ∷ 0 ∷ []) (0 ∷ 2 ∷ []) 16; answer = text (0 ∷ 0 ∷ 0 ∷ 1 ∷ 2 ∷ 0 ∷ 0 ∷ 1 ∷ []) }
+    -- three trains about a node, all of which meet
+    ∷ record { asked = standing (0 ∷ 1 ∷ 0 ∷ 0 ∷ []) fork (0 ∷ 1 ∷ 0 ∷ 0 ∷ []) (2 ∷ 0 ∷ 1 ∷ []) 4; answer = text (1 ∷ 0 ∷ 0 ∷ 1 ∷ []) }
+    -- two TTDs about a node: trains 0 and 3 meet in one, 1 and 2 in the other; the lower train counts first
+    ∷ record { asked = standing (0 ∷ 1 ∷ 0 ∷ 0 ∷ 0 ∷ []) crossing (0 ∷ 1 ∷ 0 ∷ 0 ∷ 0 ∷ []) (2 ∷ 0 ∷ 1 ∷ 3 ∷ []) 4; answer = text (1 ∷ 0 ∷ 0 ∷ 3 ∷ []) }
+    -- a train that meets nobody comes first
+    ∷ record { asked = standing (0 ∷ 1 ∷ 0 ∷ 0 ∷ 0 ∷ []) crossing (0 ∷ 1 ∷ 0 ∷ 0 ∷ 0 ∷ []) (2 ∷ 0 ∷ 1 ∷ []) 4; answer = text (1 ∷ 0 ∷ 1 ∷ 2 ∷ []) }
+    -- the earliest interval of two in which they meet
+    ∷ record {
+      asked = lists
+          (headWith 3 ++ nodeFrame 0 ++ nodeFrame 1 ++ nodeFrame 0 ++ inRow 2 ++ trainFrame 80 36 (0 ∷ []) ++ trainFrom 1 80 36 (2 ∷ [])
+          ++ callOf 0 0 0 3 ++ callOf 1 1 0 3 ++ endFrame)
+          (0 ∷ 1 ∷ 0 ∷ 0 ∷ 0 ∷ 0 ∷ 0 ∷ 0 ∷ 0 ∷ 254 ∷ 255 ∷ 2 ∷ 0 ∷ 2 ∷ 0 ∷ []) 4;
+      answer = text (1 ∷ 1 ∷ 0 ∷ 1 ∷ []);
+    }
+    -- a train that moves up to a border: from the interval in which it reaches it, and the border behind it carries nothing
+    ∷ record {
+      asked = lists
+          (headWith 3 ++ nodeFrame 0 ++ nodeFrame 1 ++ nodeFrame 1 ++ nodeFrame 0 ++ inRow 3 ++ joinFrame
+          ++ trainFrame 80 36 (4 ∷ []) ++ trainFrame 80 36 (0 ∷ []) ++ callOf 0 2 0 3 ++ callOf 1 1 0 3 ++ endFrame)
+          (0 ∷ 1 ∷ 1 ∷ 0 ∷ 4 ∷ 0 ∷ 4 ∷ 0 ∷ 4 ∷ 0 ∷ 0 ∷ 0 ∷ 6 ∷ 0 ∷ 2 ∷ 0 ∷ []) 8;
+      answer = text (2 ∷ 1 ∷ 0 ∷ 1 ∷ []);
+    }
+    -- what the command prints
+    ∷ record { asked = text (printCarriers (standingBook (0 ∷ 1 ∷ 0 ∷ []) (inRow 2) (stands (0 ∷ 1 ∷ []))) (stay (0 ∷ 1 ∷ 0 ∷ []) (0 ∷ 1 ∷ []))); answer = text acceptedLine }
+    ∷ record { asked = text (printCarriers (standingBook (0 ∷ 1 ∷ 0 ∷ []) (inRow 2) (stands (0 ∷ 1 ∷ []))) []); answer = text (49 ∷ 53 ∷ 32 ∷ 48 ∷ 10 ∷ []) }
     -- a window from 3 to 3: only the runs of interval 2
     ∷ record { asked = clauseNumber 152 (passingBook 3 3); answer = clause (pos 24 ∷ pos 25 ∷ pos 26 ∷ []) }
     -- a window that shuts before the departure: no refusal, and a clause that nothing satisfies
@@ -582,16 +658,17 @@ unfolding
     noBook nodeKindAt segmentAt trainAt callsOf noCall goalOf isExit deniesBorder forcesBorder greatestNodeKind touches shareNode segmentOf startNode endNode joinIs joined lengthInSegments speedInSegments
     leadsTo linked isPath directed goesOn extend pathsOf runsOf startPlace endPlace contains
     segmentIn joinIn trainIn callIn grown between headFits segmentFits joinFits joinRepeats trainFits reachFits placeFits callFits someHas mayDivide contentFaults add readingStart isHead isEnd unknownKind outOfOrder kindFaults frameFaults addFound pastFrame bookFaults refuseOr frameReadAt readFrame readFrom readAs readBook
-    placeServes endsAtExit mayLeave trainLength runAt callAt compile runLists instanceOf inWindow servedAtDeparture
+    placeServes endsAtExit mayLeave trainLength runAt callAt compile runLists instanceOf inWindow servedAtDeparture isFree freeNodesOf
     neighbours togetherBelow together sectionLabels shareSection
-    freeNodesOf sizesOf measureBook bordersFit labelledFor labelSections runAmong runAsked askRun meaningsIn meanings meaningOf askVariable
-    isAbsent isGone runs ifRun ofRun moveCode moveOf bit planBytes planLength moveAt planOf isBit isMove planFits rule1 absentBefore departs rule2 leavesRightly rule3 runsOn rule4 keepsCalls servedBy rule5 rule6 ruleFaults brokenRule keepsRules
+    sizesOf measureBook bordersFit labelledFor labelSections runAmong runAsked askRun meaningsIn meanings meaningOf askVariable
+    isAbsent isGone runs ifRun ofRun moveCode moveOf bit planBytes planLength moveAt planOf isBit isMove planFits rule1 absentBefore departs rule2 leavesRightly rule3 runsOn rule4 keepsCalls servedBy rule5 trainsMeet apartIn rule6 ruleFaults brokenRule keepsRules
     extraVariables extraClauses extraCondition extraValues
     width firstVar base borderVar runVar goneVar claimVar ownVariables variables clausesB clausesC clausesI clausesD followersE clauseE clausesE serversF claimsG clausesG clausesH familyA familyB familyC familyD familyE familyF familyG familyH familyI formula wordsOf dimacsOpening dimacsLine dimacsText
     deny truth isYes valueOf isTrue holds satisfies firstFalse assigned assignmentFits firstRun chosen decoded decode claims encode
     stepPayload fileOf literalCount hintCount stepIn variableOf risesFrom literalsFit hintsFit makeTrue makeFalse refuting isNo isOpen clauseAt notFalse hinted goThrough followsRule clausesFit isBad stepFaults stepDetail checkSteps checkFile
     demand findNone readInstance formulaWritten writtenFor writeFormula formulaText judgeAssignment decodedFor checkAssignment judgePlan afterPlan encodedFor checkPlan formulaFits refutedFor checkRefutation
     padded inDigits aligned shownMove shownOf marked cell cells pageLine page pageBytes pageFor printGraph draws lineOf rowBook
+    earliest meetsHigher lowerTrain higherTrain firstPair firstMeeting cleared carries carriers entry carrierList carrierRoom carriersFor listCarriers lists standing standingBook inRow ringOfFour fork crossing stands stay
     timesWidened widenedAt widened widenedFound frameWidened widenedFrom upgraded upgradeBook
-    sliceBytes sliceOf programLent unlessLong isLong acceptedLine refusalLine printed printFormula printAssignment printPlan printRefutation printPage
+    sliceBytes sliceOf programLent unlessLong isLong acceptedLine refusalLine printed printFormula printAssignment printPlan printRefutation printPage printCarriers
 cases = refl

@@ -1,6 +1,6 @@
 -- The entry points, each as ONE definition: what it returns, from the book's bytes, the second input's bytes and the lengths of
 -- the lent slices, and from nothing else; and beside it what each lent slice holds after the call. The rewriter's is in `Upgrade`,
--- the train graph's in `Page`. Assumes nothing.
+-- the train graph's in `Page`, that of the list of carriers in `Carriers`. Assumes nothing.
 use mathlib.Core.Bool.{Bool, true, false, _&&_}
 use Prim.Native.Nat.{ℕ, _+_}
 use mathlib.Core.List.{List, [], _++_}

@@ -1,11 +1,11 @@
 -- What the plan rules and the formula ask of a book, and nothing else: counts, and answers by number. The book's text is
 -- turned into these answers in one place, `instanceOf`, so a rule of the book (whether a place serves a call, who may be gone; which
 -- node kinds deny a border, in `Book`) is changed there and nowhere else. Assumes nothing.
-use mathlib.Core.Bool.{Bool, _&&_}
+use mathlib.Core.Bool.{Bool, not, _&&_}
 use Prim.Native.Nat.{ℕ, _-_}
 use mathlib.Core.List.{List, [], map}
 use lib.ListN.{length, getD}
-use Rattle.spec.specs.Lists.{same, lastOr}
+use Rattle.spec.specs.Lists.{same, lastOr, pick, upTo}
 use Rattle.spec.specs.Book.{Book, Call, nodeKindAt, trainAt, callsOf, noCall, goalOf}
 use Rattle.spec.specs.Book.{isExit, deniesBorder, forcesBorder, shareNode, segmentOf, endNode, lengthInSegments}
 use Rattle.spec.specs.Runs.{runsOf, startPlace, endPlace, contains}
@@ -99,3 +99,11 @@ inWindow I i c time = between (I .first i c) (I .last i c) time
 -- "At time d its place is the given one": the call is served there
 unfoldable pub servedAtDeparture : Instance → ℕ → ℕ → Bool
 servedAtDeparture I i c = inWindow I i c (I .departure i) && I .servedAtStart i c
+
+-- "may be set": a node whose border is neither denied nor forced, which is one of kind 1
+unfoldable pub isFree : Instance → ℕ → Bool
+isFree I n = not (I .denied n) && not (I .forced n)
+
+-- those nodes, rising
+unfoldable pub freeNodesOf : Instance → List ℕ
+freeNodesOf I = pick (isFree I) (upTo (I .nodes))

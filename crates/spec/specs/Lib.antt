@@ -1,4 +1,4 @@
--- The modules in document 01's order; `Upgrade` is for P1 of document 02. `Lists` has the few list words that the others are
+-- The modules in document 01's order; `Upgrade`, `Page` and `Carriers` are for P1, P2 and P5 of document 02. `Lists` has the few list words that the others are
 -- written with.
 pub mod Lists
 pub mod Numbers
@@ -19,5 +19,6 @@ pub mod Refutation
 pub mod Entry
 pub mod Upgrade
 pub mod Page
+pub mod Carriers
 pub mod Library
 pub mod Programs

@@ -1,16 +1,16 @@
 -- What the library answers beside the entry points of document 01, so that no drawing and no tool states a rule of the core a
 -- second time: a book's sizes, the sections under a set of borders, a train's runs, and what a variable stands for. What is not
 -- there is a case of its own, with no number of document 01's. Assumes nothing.
-use mathlib.Core.Bool.{Bool, true, false, not, _&&_}
+use mathlib.Core.Bool.{Bool, true, false, _&&_}
 use Prim.Native.Nat.{ℕ, zero, suc}
 use mathlib.Core.List.{List, [], _∷_, _++_, map}
 use lib.ListN.{length, getD}
 use lib.Dec.{leb, ltb, eqb}
-use Rattle.spec.specs.Lists.{Bytes, all, upTo, each, pick, Verdict, accepted, andThen}
+use Rattle.spec.specs.Lists.{Bytes, all, upTo, each, Verdict, accepted, andThen}
 use Rattle.spec.specs.Book.{Book, trainAt}
 use Rattle.spec.specs.Read.{readBook}
 use Rattle.spec.specs.Runs.{runsOf}
-use Rattle.spec.specs.Instance.{Instance, trainLength}
+use Rattle.spec.specs.Instance.{Instance, trainLength, freeNodesOf}
 use Rattle.spec.specs.Sections.{sectionLabels}
 use Rattle.spec.specs.Plan.{planLength, bordersOf, isBit}
 use Rattle.spec.specs.Formula.{formula, variables, wordsOf}
@@ -28,10 +28,6 @@ pub record Sizes : Type 0 where
   pub clauseCount : ℕ
   pub wordCount : ℕ
   pub planBytes : ℕ
-
--- the nodes whose border is neither denied nor forced: those of kind 1, "may be set"
-unfoldable pub freeNodesOf : Instance → List ℕ
-freeNodesOf I = pick (λ n. not (I .denied n) && not (I .forced n)) (upTo (I .nodes))
 
 unfoldable pub sizesOf : Instance → Sizes
 sizesOf I = record

@@ -161,12 +161,17 @@ module _ (I : Instance) (p : Plan) where
   unfoldable pub rule5 : Bool
   rule5 = all (λ i. keepsCalls i) (upTo (I .trains))
 
+  -- two trains meet in an interval: some section holds segments of both trains' runs
+  unfoldable pub trainsMeet : ℕ → ℕ → ℕ → Bool
+  trainsMeet t i j = shareSection I (p .border) (ofRun (p .move i t) (λ r. I .path i r)) (ofRun (p .move j t) (λ r. I .path j r))
+
+  -- no two trains do
+  unfoldable pub apartIn : ℕ → Bool
+  apartIn t = all (λ i. all (λ j. not (trainsMeet t i j)) (range (i + 1) (I .trains))) (upTo (I .trains))
+
   -- 6. "In each interval no section holds segments of two trains' runs."
   unfoldable pub rule6 : Bool
-  rule6 =
-      all (λ t. all (λ i. all (λ j.
-          not (shareSection I (p .border) (ofRun (p .move i t) (λ r. I .path i r)) (ofRun (p .move j t) (λ r. I .path j r))))
-          (range (i + 1) (I .trains))) (upTo (I .trains))) (upTo (I .intervals))
+  rule6 = all (λ t. apartIn t) (upTo (I .intervals))
 
   -- the plan's rules, in their order
   unfoldable pub ruleFaults : List Fault

@@ -11,6 +11,7 @@ use Rattle.spec.specs.Refutation.{Lent}
 use Rattle.spec.specs.Entry.{formulaText, checkAssignment, checkPlan, checkRefutation}
 use Rattle.spec.specs.Upgrade.{upgradeBook}
 use Rattle.spec.specs.Page.{printGraph}
+use Rattle.spec.specs.Carriers.{listCarriers}
 
 -- "at most 64 KiB a slice", in bytes; how many entries of so many bytes a slice then has
 unfoldable pub sliceBytes : ℕ
@@ -64,3 +65,7 @@ printUpgrade old = printed (λ _. acceptedLine) (unlessLong (isLong old) (upgrad
 -- print_graph, with the book and the plan; either may be too long
 unfoldable pub printPage : Bytes → Bytes → Bytes
 printPage book plan = printed (λ page. page) (unlessLong (isLong book || isLong plan) (printGraph book plan (sliceOf 1)))
+
+-- list_carriers, with the book and the plan; the list goes to a file
+unfoldable pub printCarriers : Bytes → Bytes → Bytes
+printCarriers book plan = printed (λ _. acceptedLine) (unlessLong (isLong book || isLong plan) (listCarriers book plan (sliceOf 1)))

@@ -3,7 +3,7 @@ use borrow.Author.Needs.{needs}
 use native.Mathlib.Omega.{arith}
 use mathlib.Core.Path.{refl}
 use Rattle.tables.proofs.Small.{nodes-is}
-use Rattle.plan_rules.proofs.Ready.{nodes-inside}
+use Rattle.demands.proofs.Moves.{nodes-inside}
 use Rattle.sections.proofs.Same.{plan-labelled}
 use Rattle.checking.proofs.write_plan.Statement.{statement}
 use Rattle.checking.proofs.write_plan.Tie as tie

@@ -19,7 +19,8 @@ use Rattle.network.proofs.Held.{start-at}
 use Rattle.listing.specs.Listed.{successors}
 use Rattle.listing.proofs.Leaves.{sets-next}
 use Rattle.listing.proofs.Lists.{held-segments}
-use Rattle.listing.proofs.Successors.{pick-taken, pick-left, leads-joined, leads-apart}
+use Rattle.listing.proofs.Successors.{leads-joined, leads-apart}
+use Rattle.laws.proofs.Picks.{pick-taken, pick-left}
 use Rattle.listing.proofs.fill_fan.Statement.{statement}
 use Rattle.listing.proofs.fill_fan.Tie as tie
 

@@ -10,9 +10,10 @@ use Rattle.cabinet.proofs.commands.named.Tie as tie
 other : {A : Type 0} {b : Bool} → b ≡ false → (A → b ≡ true) → A → ⊥
 other failed held a = from-false failed (from-true (held a))
 
-returns-7 : tie.Need-returns-7
-returns-7 c =
-    let fifth = c .before .before .before in
+returns-8 : tie.Need-returns-8
+returns-8 c =
+    let sixth = c .before .before .before in
+    let fifth = sixth .before .before .before in
     let fourth = fifth .before .before .before in
     let third = fourth .before .before .before in
     let second = third .before .before .before in
@@ -22,7 +23,8 @@ returns-7 c =
       other (third .if3 .left) (third .before .same3 .ensures .1),
       other (fourth .if4 .left) (fourth .before .same4 .ensures .1),
       other (fifth .if5 .left) (fifth .before .same5 .ensures .1),
-      other (c .if6 .left) (c .before .same6 .ensures .1),
+      other (sixth .if6 .left) (sixth .before .same6 .ensures .1),
+      other (c .if7 .left) (c .before .same7 .ensures .1),
     )
 
 pub named-spec : {M : Type 1} → statement M
@@ -47,4 +49,7 @@ named-spec =
     (λ c. search needs)
     (λ c κs. search needs)
     (λ c. c .before .same6 .ensures .0 (c .if6 .taken))
-    returns-7)
+    (λ c. search needs)
+    (λ c κs. search needs)
+    (λ c. c .before .same7 .ensures .0 (c .if7 .taken))
+    returns-8)

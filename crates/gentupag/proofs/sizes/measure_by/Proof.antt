@@ -23,7 +23,7 @@ returns c =
     let nodes = sym (nodes-counted (p .packed)) in
     let segments = sym (segments-counted (p .packed)) in
     let trains = sym (trains-counted (p .packed)) in
-    let free = f .count-free .ensures in
+    let free = f .count-free .ensures .0 in
     let variables = v .variable-count .ensures in
     let clauses = walk-clauses (s .args .b) p (w .walk-formula .ensures) in
     let words = walk-words (s .args .b) p (w .walk-formula .ensures) in
@@ -53,7 +53,7 @@ measure-by-spec =
     (λ c. search needs)
     (λ c. search needs)
     (λ c κs. search needs)
-    (λ c κs. start c .pre .0 .counted .passed)
+    (λ c κs. start c .pre .0 .counted .passed .packed .counts)
     (λ c κs. start (c .before) .pre .0 .counted)
     (λ c κs. start (c .before .before) .pre .0 .counted .passed)
     returns)

@@ -14,7 +14,7 @@ use Rattle.spec.specs.Plan.{Plan, bit, planOf}
 use Rattle.spec.specs.Held.{held}
 use Rattle.layout.proofs.Places.{nodes-fit}
 use Rattle.tables.proofs.Small.{nodes-is, trains-is}
-use Rattle.plan_rules.proofs.Ready.{plan-long}
+use Rattle.demands.proofs.Moves.{plan-long}
 use Rattle.plan_coding.specs.Encoded.{borderBytes, trainBytes}
 use Rattle.plan_coding.proofs.Blocks.{train-fits}
 use Rattle.plan_coding.proofs.Claims.{train-place, length-parts, assignment-written, borders-of}

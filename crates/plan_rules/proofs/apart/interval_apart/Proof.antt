@@ -1,6 +1,7 @@
 -- `apart::interval_apart` meets its contract. The loop's invariant: the answer for all trains is that for those from i on, and the
 -- labels that the trains before touch are marked. Assumes nothing.
 use native.Mathlib.Omega.{arith}
+use native.Mathlib.Numerals.{add-one}
 use mathlib.Core.Path.{_≡_, sym, ap, _∙_}
 use mathlib.Core.Bool.{Bool, not}
 use Prim.Native.Nat.{ℕ, _-_, _<_}
@@ -8,37 +9,43 @@ use mathlib.Core.List.{map}
 use denote.Ref.{now}
 use lib.ListN.{getD}
 use Rattle.model.specs.declared.Book.{Book as BookStruct}
-use Rattle.spec.specs.Lists.{Bytes, all, any, upTo, range}
+use Rattle.spec.specs.Lists.{Bytes, all, any, upTo, range, count}
 use Rattle.spec.specs.Instance.{instanceOf}
-use Rattle.spec.specs.Plan.{planOf}
+use Rattle.spec.specs.Plan.{planOf, trainsMeet, apartIn}
 use Rattle.spec.specs.Held.{held}
+use Rattle.laws.proofs.Tests.{upTo-mem}
+use Rattle.laws.proofs.Parts.{upTo-suc}
 use Rattle.laws.proofs.Loops.{all-start, all-turn, all-broken, all-done}
 use Rattle.tables.proofs.Small.{trains-is}
 use Rattle.plan_rules.specs.Kept.{Planned}
-use Rattle.plan_rules.specs.Marks.{StretchFits, stretchOf, labelsOf, isMarked, touched, sharesBefore, intervalApart}
+use Rattle.plan_rules.specs.Marks.{StretchFits, stretchOf, labelsOf, isMarked, touched}
 use Rattle.plan_rules.proofs.Ready.{move-asks, few-own}
-use Rattle.plan_rules.proofs.Sharing.{Marked, labels-here, fits-here, marked-none, marked-next, touch-is}
+use Rattle.plan_rules.proofs.Sharing.{apart-iff, Marked, labels-here, fits-here, marked-none, marked-next, touch-is}
 use Rattle.plan_rules.proofs.apart.interval_apart.Statement.{statement}
 use Rattle.plan_rules.proofs.apart.interval_apart.Tie as tie
 
--- whether a train shares no section with an earlier one
+-- whether a train meets an earlier one
+abbrev meets : BookStruct → Bytes → ℕ → ℕ → Bool
+meets b plan t j = any (λ i. trainsMeet (instanceOf (held b)) (planOf (instanceOf (held b)) plan) t i j) (upTo j)
+
 abbrev alone : BookStruct → Bytes → ℕ → ℕ → Bool
-alone b plan t j = not (sharesBefore (instanceOf (held b)) (planOf (instanceOf (held b)) plan) t j)
+alone b plan t j = not (meets b plan t j)
 
 abbrev Inv-loop : tie.InvT-loop
 Inv-loop b interval runs labels plan trains marks₀ i₀ marks i =
-    (intervalApart (instanceOf (held b)) (planOf (instanceOf (held b)) plan) interval ≡ all (alone b plan interval) (range i trains))
-    × Marked (instanceOf (held b)) (planOf (instanceOf (held b)) plan) interval labels i marks
+    (apartIn (instanceOf (held b)) (planOf (instanceOf (held b)) plan) interval ≡ all (alone b plan interval) (range i trains))
+    × Marked (instanceOf (held b)) (planOf (instanceOf (held b)) plan) interval labels (upTo i) marks
 
 abbrev μ-loop : tie.MeasureT-loop
 μ-loop b interval runs labels plan trains marks₀ i₀ marks i = trains - i
 
 loop-holds : tie.Need-loop-holds Inv-loop μ-loop
-unfolding intervalApart
+unfolding upTo count
 loop-holds c =
     let s = c .before .before .before in
     let a = s .args in (
-      ap (λ (n : ℕ). all (alone (a .b) (now (a .plan)) (a .interval)) (upTo n)) (trains-is (a .b) (s .pre .0 .0 .counted .passed))
+      apart-iff _ _ _
+          ∙ ap (λ (n : ℕ). all (alone (a .b) (now (a .plan)) (a .interval)) (upTo n)) (trains-is (a .b) (s .pre .0 .0 .counted .passed))
           ∙ all-start _ _,
       marked-none _ (s .pre .0) (a .interval) (s .pre .1),
     )
@@ -87,13 +94,14 @@ module _ (c : tie.After-stretch-of Inv-loop μ-loop) where
 -- the answer about this train
 shares : (c : tie.After-touches Inv-loop μ-loop) → let r = c .before .before in let a = given r .args in
     c .touches .result
-    ≡ sharesBefore (instanceOf (held (a .b))) (planOf (instanceOf (held (a .b))) (now (a .plan))) (a .interval) (train (loop r))
+    ≡ meets (a .b) (now (a .plan)) (a .interval) (train (loop r))
 shares c =
     let r = c .before .before in
     let k = loop r .before .loop in
     c .touches .ensures
     ∙ ap (any (isMarked (k .marks))) (labels r)
-    ∙ touch-is _ (given r .pre .0) (given r .args .interval) (given r .pre .1) (train (loop r)) (loop r .loop-test .taken) (k .marks) (k .inv .1)
+    ∙ touch-is _ (given r .pre .0) (given r .args .interval) (given r .pre .1) (upTo (train (loop r)))
+    (λ i m. omega (arith, upTo-mem (train (loop r)) i .0 m, loop r .loop-test .taken)) (train (loop r)) (loop r .loop-test .taken) (k .marks) (k .inv .1)
 
 returns : tie.Need-returns Inv-loop μ-loop
 returns c =
@@ -108,8 +116,8 @@ loop-again c =
     let t = loop r in
     let k = t .before .loop in (
       all-turn _ (k .inv .0) (t .loop-test .taken) (ap not (sym (shares (e .before)) ∙ e .if1 .left)),
-      rw (c .mark .ensures, labels r)
-          (marked-next _ (s .pre .0) (s .args .interval) (s .pre .1) (train t) (t .loop-test .taken) (k .marks) (k .inv .1)),
+      rw (c .mark .ensures, labels r, add-one, upTo-suc)
+          (marked-next _ (s .pre .0) (s .args .interval) (s .pre .1) (upTo (train t)) (train t) (t .loop-test .taken) (k .marks) (k .inv .1)),
     )
 
 pub interval-apart-spec : {M : Type 1} → statement M

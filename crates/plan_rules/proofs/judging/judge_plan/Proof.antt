@@ -10,7 +10,7 @@ use Rattle.spec.specs.Plan.{planFits}
 use Rattle.spec.specs.Held.{held}
 use Rattle.laws.proofs.Tests.{from-true}
 use Rattle.tables.proofs.Small.{nodes-is}
-use Rattle.plan_rules.proofs.Ready.{nodes-inside}
+use Rattle.demands.proofs.Moves.{nodes-inside}
 use Rattle.sections.proofs.Same.{plan-labelled}
 use Rattle.plan_rules.proofs.Answers.{answer-unfit, answer-early, answer-sixth, answer-kept}
 use Rattle.plan_rules.proofs.judging.judge_plan.Statement.{statement}

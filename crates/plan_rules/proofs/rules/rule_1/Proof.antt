@@ -16,7 +16,7 @@ use Rattle.spec.specs.Held.{held}
 use Rattle.laws.proofs.Loops.{all-start, all-turn, all-broken, all-done}
 use Rattle.tables.proofs.Answers.{denied-held, forced-held}
 use Rattle.tables.proofs.Small.{nodes-is}
-use Rattle.plan_rules.proofs.Ready.{nodes-inside}
+use Rattle.demands.proofs.Moves.{nodes-inside}
 use Rattle.plan_rules.proofs.rules.rule_1.Statement.{statement}
 use Rattle.plan_rules.proofs.rules.rule_1.Tie as tie
 

@@ -59,6 +59,15 @@ returns-4 c =
     let q = asked book s (length out) (told .before .before .if1 .left) (told .enum-told3 .given .1) in
     (tells-same q (call .lent-refutation-text .ensures), output-same q out (bare-output out (checkRefutation book s programLent)))
 
+returns-5 : tie.Need-returns-5
+unfolding verdictOf
+returns-5 c =
+    let call = c .before .before .before .before in
+    let told = call .before .before .before in
+    let args = told .before .before .before .before .before .before .before .args in
+    let q = asked (now (args .book)) (now (args .second)) (length (now (args .out))) (told .before .before .if1 .left) (told .enum-told4 .given .1) in
+    (tells-same q (call .carriers-text .ensures .0), output-same q _ (call .carriers-text .ensures .1))
+
 pub verdict-text-spec : {M : Type 1} → statement M
 verdict-text-spec =
     tie.close
@@ -73,10 +82,15 @@ verdict-text-spec =
     (λ c. search needs)
     (λ c κs. search needs)
     (λ c. search needs)
+    (λ c κs. search needs)
+    (λ c. search needs)
     (λ c. search needs)
     returns-2
     (λ c. search needs)
     (λ c. search needs)
     returns-3
     (λ c. search needs)
-    returns-4)
+    returns-4
+    (λ c. search needs)
+    (λ c. search needs)
+    returns-5)

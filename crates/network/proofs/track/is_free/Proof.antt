@@ -1,11 +1,11 @@
--- `gentupag::sizes::is_free` meets its contract: the two branches are the two ways of `&&`. Assumes nothing.
+-- `track::is_free` meets its contract: the two branches are the two ways of `&&`. Assumes nothing.
 use borrow.Author.Needs.{needs}
 use borrow.Author.Tests.{not-true, not-false}
 use mathlib.Core.Path.{sym, ap, _∙_}
 use mathlib.Core.Bool.{Bool, not, _&&_}
 use Rattle.spec.specs.Book.{forcesBorder}
-use Rattle.gentupag.proofs.sizes.is_free.Statement.{statement}
-use Rattle.gentupag.proofs.sizes.is_free.Tie as tie
+use Rattle.network.proofs.track.is_free.Statement.{statement}
+use Rattle.network.proofs.track.is_free.Tie as tie
 
 returns : tie.Need-returns
 returns c =
