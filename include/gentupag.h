@@ -127,7 +127,7 @@ gentupag_output gentupag_print_graph(const uint8_t *book, size_t book_length, co
 /* The borders that carry a plan, which is judged first as gentupag_check_plan does: each set node of kind 1 without whose border, and nothing
  * else changed, trains would share a section. Four bytes each, in rising node number: node, the earliest interval in which trains then meet, and
  * of the pairs that meet in it the first by lower and then by higher train. Refuses by 12, an output shorter than 4 times `free_nodes`, set or not,
- * then by 15 and 16. A `length` of 0 says that no border by itself carries the plan. */
+ * then by 15 and 16. A `length` of 0 says that no border by itself carries the plan (docs/FORMATS.md, section 12). */
 gentupag_output gentupag_list_carriers(const uint8_t *book, size_t book_length, const uint8_t *plan, size_t plan_length,
                                        uint8_t *GENTUPAG_APART out, size_t out_length);
 

@@ -1,14 +1,15 @@
 """Prints a book in readable lines, from which `make` gives the same bytes again; or, with --book, a plan, an assignment or a refutation
-for that book. Remarks stand behind #; the first says what the reference's check answers. A plan and an assignment need --book. A refutation
-can be shown without it, but then with no answer and no numbers of clauses, which depend on the book.
+for that book; or, with --as carriers, a list of carriers. Remarks stand behind #; the first says what the reference's check answers. A plan
+and an assignment need --book. A refutation can be shown without it, but then with no answer and no numbers of clauses, which depend on the book.
 
 Directed segments are written 5> for segment 5 from its node a to its node b, and 5< for b to a. Of a plan: each node with a border, and
 for each train and interval its run, by number and by directed segments, rear first. Of an assignment: what each variable stands for that
 is true, and where the first false clause is, that clause. Of a refutation: each step with its clause's number, its literals and its
-hints. What the file is is found from its bytes, and with --book from its length; --as says it where that does not tell.
+hints. Of a list of carriers: each node, and where trains first meet without its border. What the file is is found from its bytes, and with
+--book from its length; --as says it where that does not tell, and always of a list of carriers.
 
 What can't be shown: with a book that is refused nothing but that refusal, since runs and variables have no numbers then. Bytes beyond
-a plan's or an assignment's length, or from the first frame on that is no step, are shown as bytes.
+a plan's or an assignment's length, from the first frame on that is no step, or behind the last whole entry, are shown as bytes.
 
 Exit status: 0 shown, whether accepted or refused; 1 the book is refused, or it can't be told what the file is; 2 wrong usage, or a file
 can't be read.
@@ -17,11 +18,11 @@ import sys
 
 from . import reference
 from .books import kind_words, split
-from .reference import ABSENT, GONE, STEP, two_bytes
+from .reference import ABSENT, ENTRY_BYTES, GONE, STEP, two_bytes
 from .repository import read_bytes
 from .text import book_lines, old_words, row, verdict_words
 
-KINDS = ("book", "plan", "assignment", "refutation")
+KINDS = ("book", "plan", "assignment", "refutation", "carriers")
 
 
 class Unclear(Exception):
@@ -148,6 +149,17 @@ def refutation_lines(data, clauses):
     return lines or ["no steps"]
 
 
+# ------------------------------------------------------------------ carriers
+
+
+def carrier_lines(data):
+    """Each node of a list, and where trains first meet without its border."""
+    whole = len(data) // ENTRY_BYTES * ENTRY_BYTES
+    entries = [data[at:at + ENTRY_BYTES] for at in range(0, whole, ENTRY_BYTES)]
+    lines = [f"node {node}: without its border trains {lower} and {higher} meet, first in interval {interval}" for node, interval, lower, higher in entries]
+    return (lines if data else ["no border by itself carries the plan"]) + length_lines(data, whole, "a list")
+
+
 # ------------------------------------------------------------------ all kinds
 
 
@@ -171,6 +183,8 @@ def lines_for(kind, data, book_data, book):
 
 def shown(data, book_data, kind, runs):
     """The lines of a file; Unclear where there are none."""
+    if kind == "carriers":
+        return carrier_lines(data)
     if book_data is None:
         kind = kind or kind_of(data, None)
         if kind == "refutation":

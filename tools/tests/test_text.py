@@ -111,7 +111,7 @@ class Refused(unittest.TestCase):
 
 
 class Shown(unittest.TestCase):
-    """The lines of plans, assignments and refutations."""
+    """The lines of plans, lists of carriers, assignments and refutations."""
 
     def test_plan(self):
         self.assertEqual(show.shown(known.PLAN_L, known.BOOK_L, None, False),
@@ -125,6 +125,12 @@ class Shown(unittest.TestCase):
         self.assertEqual(lines, ["# refused: 15 0", "no borders", "train 0, interval 0: run 7, which this train has not", "behind it: 05"])
         lines = show.shown(b"\0\0\7", known.BOOK_L, "plan", False)
         self.assertEqual(lines[-1], "ends here: 3 bytes, and a plan of this book has 4")
+
+    def test_carriers(self):
+        self.assertEqual(show.shown(bytes([3, 255, 0, 7, 9, 0, 1, 2, 5]), None, "carriers", False),
+                         ["node 3: without its border trains 0 and 7 meet, first in interval 255",
+                          "node 9: without its border trains 1 and 2 meet, first in interval 0", "behind it: 05"])
+        self.assertEqual(show.shown(b"", known.BOOK_L, "carriers", False), ["no border by itself carries the plan"])
 
     def test_assignment(self):
         lines = show.shown(known.ASSIGNMENT_L, known.BOOK_L, None, False)
