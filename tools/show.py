@@ -18,6 +18,7 @@ import sys
 
 from . import reference
 from .books import kind_words, split
+from .features import entries_of
 from .reference import ABSENT, ENTRY_BYTES, GONE, STEP, two_bytes
 from .repository import read_bytes
 from .text import book_lines, old_words, row, verdict_words
@@ -155,8 +156,8 @@ def refutation_lines(data, clauses):
 def carrier_lines(data):
     """Each node of a list, and where trains first meet without its border."""
     whole = len(data) // ENTRY_BYTES * ENTRY_BYTES
-    entries = [data[at:at + ENTRY_BYTES] for at in range(0, whole, ENTRY_BYTES)]
-    lines = [f"node {node}: without its border trains {lower} and {higher} meet, first in interval {interval}" for node, interval, lower, higher in entries]
+    lines = [f"node {node}: without its border trains {lower} and {higher} meet, first in interval {interval}"
+             for node, interval, lower, higher in entries_of(data[:whole])]
     return (lines if data else ["no border by itself carries the plan"]) + length_lines(data, whole, "a list")
 
 
