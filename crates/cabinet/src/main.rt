@@ -36,8 +36,8 @@ fn print_formula() {
     }
 }
 
-// Judges the files that the arguments behind the command name; where there may be three of them the third
-// is the result's.
+// Judges the files that the arguments behind the command name: the book's, the second input's and, if there
+// is a third, the result's.
 fn judge(check: Check, least: usize, most: usize, usage: &[u8]) {
     let words = os::arg_count();
     if words < least || most < words {

@@ -24,7 +24,7 @@ pub struct Pair {
     pub higher: usize,
 }
 
-// The least train above a lower one that meets it, or a number that no train has.
+// The least train above a lower one that meets it, or how many trains there are.
 fn higher_train(
     b: Book,
     counts: Counts,

@@ -1,13 +1,13 @@
 -- Which borders carry a plan (document 02, P5). The list is what the text asks for (`Listed`): of arbitrary bytes that are accepted, the
--- nodes that carry the plan, rising, and no others, each with its first meeting (`carriers-listed`). The check of the plan's bytes with one
--- byte cleared refuses by 16 with detail 6 where the node is listed, and accepts where it is not (`listed-refused`, `absent-accepted`).
--- Assumes nothing.
+-- nodes that carry the plan, rising, and no others, each with its first meeting (`carriers-listed`); it is empty exactly where no node does
+-- (`none-carries`). The check of the plan's bytes with one byte cleared refuses by 16 with detail 6 where the node is listed, and accepts where
+-- it is not (`clearing-tells`). Assumes nothing.
 use mathlib.Core.Path.{_≡_, refl, sym, ap, _∙_, subst}
 use mathlib.Core.Logic.{_↔_, _⊎_}
 use mathlib.Core.Bool.{Bool, not, _&&_, Bool·not-not}
 use Prim.Native.Nat.{ℕ, zero, suc, _+_, _*_, _≤_, _<_}
 use native.Mathlib.Omega.{arith}
-use mathlib.Core.List.{List, [], _∷_, _++_, map, List·Memᴰ, Memᴰ·map, Memᴰ·of-map}
+use mathlib.Core.List.{List, [], _∷_, _++_, map, List·Memᴰ, List·Memᴰ·head, List·Memᴰ·not-nil, Memᴰ·map, Memᴰ·of-map}
 use lib.ListN.{length, getD, take, set, length-set}
 use lib.Seq.{getD-set-same, getD-set-other, drop-set-lt}
 use lib.Dec.{T, leb, eqb, eqb-refl}
@@ -28,14 +28,14 @@ pub use Rattle.demands.specs.Carriers.{Clears, SetKindOne, Carries, Entr
 use Rattle.demands.specs.Claims.{Holds, nothing}
 use Rattle.demands.specs.Reasons.{Refusal, ofInput, PlanFault, ruleBroken, FirstHolds, Within}
 use Rattle.demands.proofs.Wellformed.{parts}
-use Rattle.demands.proofs.RunLists.{upTo-rises, rising-pick, rising-map}
+use Rattle.demands.proofs.RunLists.{upTo-rises, rising-pick, rising-map, rising-same}
 use Rattle.demands.proofs.Reading.{read-well-formed}
 use Rattle.demands.proofs.Pages.{few-intervals}
 use Rattle.demands.proofs.Moves.{Kept, kept, from-kept, means1, nodes-inside, fitting}
 use Rattle.demands.proofs.Entries.{plan-iff, plan-written, check-plan, read-of}
 use Rattle.demands.proofs.Reasons.{written-number}
 use Rattle.demands.proofs.Refusals.{written-refused, plan-refused}
-use Rattle.demands.proofs.Meetings.{FirstMeeting, first-meeting}
+use Rattle.demands.proofs.Meetings.{Meet, FirstMeeting, first-meeting}
 
 -- ---- a border cleared
 
@@ -58,8 +58,8 @@ module _ (p : Plan) (n : ℕ) where
       borders : (m : ℕ) → q .border m ≡ (p .border m && not (eqb m n))
       borders m = decide (eqb m n)
           (λ h. bool-ext _ _
-              (λ k. absurd (c .node (subst (λ (x : ℕ). T (q .border x)) (eqb-iff m n .0 h) k)))
-              (λ k. absurd (not-iff (eqb m n) .0 (and-iff (p .border m) (not (eqb m n)) .0 k .1) h)))
+          (λ k. absurd (c .node (subst (λ (x : ℕ). T (q .border x)) (eqb-iff m n .0 h) k)))
+          (λ k. absurd (not-iff (eqb m n) .0 (and-iff (p .border m) (not (eqb m n)) .0 k .1) h)))
           (λ h. let other : m ≡ n → ⊥ = λ e. not-iff (eqb m n) .0 h (eqb-iff m n .1 e) in c .others m other ∙ sym (cleared-clears .others m other))
 
 -- ---- its bytes
@@ -93,10 +93,12 @@ module _ (I : Instance) (s : Bytes) (n : ℕ) (known : n < I .nodes) (long : I .
   cleared-fits h =
       let k = simp (and-iff, eqb-iff, leb-iff, all-upTo) at h in
       simp (and-iff, eqb-iff, leb-iff, all-upTo) (
-        (length-set s n 0 ∙ k .0 .0,
+        (
+          length-set s n 0 ∙ k .0 .0,
           λ m l. decide (eqb m n)
               (λ e. let q = eqb-iff m n .0 e in let there = ap (λ (x : ℕ). getD (set s n 0) x 0) q in omega (arith, there, byte-there))
-              (λ e. let q = byte-beside m (λ x. not-iff (eqb m n) .0 e (eqb-iff m n .1 x)) in omega (arith, q, k .0 .1 m l))),
+              (λ e. let q = byte-beside m (λ x. not-iff (eqb m n) .0 e (eqb-iff m n .1 x)) in omega (arith, q, k .0 .1 m l)),
+        ),
         λ i l t j. rw (bytes-clear .moves i t) (k .1 i l t j),
       )
 
@@ -117,7 +119,8 @@ module _ (I : Instance) (p : Plan) (n : ℕ) (free : T (isFree I n)) where
   )
 
   -- rules 1 to 5
-  five-kept : Kept I p → T (rule1 I (cleared p n)) × T (rule2 I (cleared p n)) × T (rule3 I (cleared p n)) × T (rule4 I (cleared p n)) × T (rule5 I (cleared p n))
+  five-kept : Kept I p
+      → T (rule1 I (cleared p n)) × T (rule2 I (cleared p n)) × T (rule3 I (cleared p n)) × T (rule4 I (cleared p n)) × T (rule5 I (cleared p n))
   unfolding cleared rule2 departs absentBefore rule3 leavesRightly rule4 runsOn rule5 keepsCalls servedBy
   five-kept k = (first-kept (k .one), k .two, k .three, k .four, k .five)
 
@@ -159,14 +162,17 @@ module _ (b : Book) (formed : T (wellFormed b)) where
   unfolding isFree instanceOf compile
   free-iff n l = free-kind (nodeKindAt b n) (kind-most n l)
 
-  -- "an entry a kind 1 node": four bytes for each node of the book that is of kind 1
-  pub room-is : carrierRoom (instanceOf b) ≡ length (pick (λ kind. eqb kind 1) (b .nodes)) * 4
+  room-formed : carrierRoom (instanceOf b) ≡ length (pick (λ kind. eqb kind 1) (b .nodes)) * 4
   unfolding carrierRoom freeNodesOf isFree instanceOf compile nodeKindAt
-  room-is = ap (λ (n : ℕ). n * 4) (
-    ap length (pick-same _ (λ n. eqb (nodeKindAt b n) 1) (upTo (length (b .nodes))) (λ n m.
-        let f = free-iff n (upTo-mem (length (b .nodes)) n .0 m) in
-        bool-ext (isFree (instanceOf b) n) (eqb (nodeKindAt b n) 1) (λ h. eqb-iff _ 1 .1 (f .0 h)) (λ h. f .1 (eqb-iff _ 1 .0 h))))
-    ∙ pick-numbers (λ kind. eqb kind 1) 0 (b .nodes))
+  room-formed = ap (λ (n : ℕ). n * 4) (
+      ap length (pick-same _ (λ n. eqb (nodeKindAt b n) 1) (upTo (length (b .nodes))) (λ n m.
+      let f = free-iff n (upTo-mem (length (b .nodes)) n .0 m) in
+      bool-ext (isFree (instanceOf b) n) (eqb (nodeKindAt b n) 1) (λ h. eqb-iff _ 1 .1 (f .0 h)) (λ h. f .1 (eqb-iff _ 1 .0 h))))
+      ∙ pick-numbers (λ kind. eqb kind 1) 0 (b .nodes))
+
+-- "an entry a kind 1 node": four bytes for each node of kind 1 of the book that is read
+pub room-is : (book : Bytes) (b : Book) → readBook book ≡ accepted b → carrierRoom (instanceOf b) ≡ length (pick (λ kind. eqb kind 1) (b .nodes)) * 4
+room-is book b read = room-formed b (read-well-formed book b read)
 
 -- ---- the list
 
@@ -186,7 +192,10 @@ module _ (b : Book) (formed : T (wellFormed b)) (p : Plan) (fits : IsPlan (insta
         }),
     (λ c. mem-pick (carries I p) n (upTo (length (b .nodes))) .1 (
       upTo-mem (length (b .nodes)) n .1 (c .one .known),
-      simp and-iff ((free-iff b formed n (c .one .known) .1 (c .one .kind), c .one .border), not-iff (rule6 I (cleared p n)) .1 (c .breaks (cleared p n) (cleared-clears p n))),
+      simp and-iff (
+        (free-iff b formed n (c .one .known) .1 (c .one .kind), c .one .border),
+        not-iff (rule6 I (cleared p n)) .1 (c .breaks (cleared p n) (cleared-clears p n)),
+      ),
     )),
   )
 
@@ -243,8 +252,8 @@ module _ (b : Book) (formed : T (wellFormed b)) (p : Plan) (fits : IsPlan (insta
         let k = Memᴰ·of-map entry-of (carriers I p) m in
         subst (λ (x : Entry). (q : Plan) → Clears p (x .node) q → FirstMeeting I q (x .interval) (x .lower) (x .higher)) (k .2)
         (λ q c.
-            let x = entry-of (k .0) in
-            subst (λ (r : Plan). FirstMeeting I r (x .interval) (x .lower) (x .higher)) (sym (clears-one p (k .0) q c)) (meeting-of (k .0) (k .1)));
+        let x = entry-of (k .0) in
+        subst (λ (r : Plan). FirstMeeting I r (x .interval) (x .lower) (x .higher)) (sym (clears-one p (k .0) q c)) (meeting-of (k .0) (k .1)));
     bytes = λ e m.
         let k = Memᴰ·of-map entry-of (carriers I p) m in
         subst (λ (x : Entry). (x .node < 256) × (x .interval < 256) × (x .lower < 256) × (x .higher < 256)) (k .2) (bounds (k .0) (k .1));
@@ -260,6 +269,45 @@ unfolding carriers carries carrierRoom freeNodesOf
 list-fits I p =
     let fewer = pick-fewer (carries I p) (isFree I) (upTo (I .nodes)) (λ n h. (simp and-iff at h) .0 .0) in
     omega (arith, list-long I p, fewer)
+
+-- ---- the text determines it
+
+-- there is one first meeting
+meeting-one : (I : Instance) (q : Plan) {t i j u k l : ℕ} → FirstMeeting I q t i j → FirstMeeting I q u k l → (t ≡ u) × (i ≡ k) × (j ≡ l)
+meeting-one I q {t} {i} {j} {u} {k} {l} f g = (interval, lower, higher)
+  where
+    interval : t ≡ u
+    interval = omega (arith, f .earliest u k l (g .lower) (g .higher) (g .meet), g .earliest t i j (f .lower) (f .higher) (f .meet))
+
+    -- the other's pair meets in this interval
+    there : Meet I q t k l
+    there = subst (λ (v : ℕ). Meet I q v k l) (sym interval) (g .meet)
+
+    back : Meet I q u i j
+    back = subst (λ (v : ℕ). Meet I q v i j) interval (f .meet)
+
+    lower : i ≡ k
+    lower = omega (arith, f .least-lower k l (g .lower) (g .higher) there, g .least-lower i j (f .lower) (f .higher) back)
+
+    higher : j ≡ l
+    higher =
+        omega (arith, f .least-higher l (omega (arith, lower, g .lower)) (g .higher) (subst (λ (v : ℕ). Meet I q t v l) (sym lower) there),
+        g .least-higher j (omega (arith, lower, f .lower)) (f .higher) (subst (λ (v : ℕ). Meet I q u v j) lower back))
+
+-- A plan has one list.
+pub listed-one : (b : Book) (p : Plan) (es fs : List Entry) → Listed b p es → Listed b p fs → es ≡ fs
+listed-one b p es fs l m =
+    rising-same (λ x y e h. omega (arith, ap (λ (z : Entry). z .node) e)) (λ x y g h. omega (arith, g, h)) (l .rising) (m .rising)
+    (λ z. (across l m z, across m l z))
+  where
+    across : {es fs : List Entry} → Listed b p es → Listed b p fs → (z : Entry) → List·Memᴰ z es → List·Memᴰ z fs
+    across {es} {fs} l m z k =
+        let other = m .listed (z .node) .1 (l .listed (z .node) .0 (z, k, refl)) in
+        let q = cleared p (z .node) in
+        let c : Clears p (z .node) q = cleared-clears p (z .node) in
+        let one = meeting-one (instanceOf b) q
+        (m .next-to (other .0) (other .1) q (subst (λ (n : ℕ). Clears p n q) (sym (other .2)) c)) (l .next-to z k q c) in
+        subst (λ (x : Entry). List·Memᴰ x fs) (λ i. record { node = other .2 i; interval = one .0 i; lower = one .1 i; higher = one .2 i }) (other .1)
 
 -- ---- the entry point, from arbitrary bytes
 
@@ -349,29 +397,51 @@ carriers-listed book plan out n e =
     let fits = fitting (instanceOf (r .0)) plan (h .1) in
     (r .0, r .1, h .1, h .2, (entries (r .0) formed p fits, sym (h .3) ∙ sym (entries-bytes (r .0) formed p fits), entries-listed (r .0) formed p fits))
 
+-- An empty list is an acceptance, exactly where no node carries the plan.
+pub none-carries : (book plan out : Bytes) (n : ℕ) → listCarriers book plan n ≡ accepted out
+    → (b : Book) × (readBook book ≡ accepted b) × ((out ≡ []) ↔ ((k : ℕ) → Carries b (planOf (instanceOf b) plan) k → ⊥))
+unfolding each entryBytes
+none-carries book plan out n e =
+    let a = carriers-listed book plan out n e in
+    let list = a .4 in (
+      a .0,
+      a .1,
+      (
+        (λ h k c. nothing-in (list .0) (sym (list .1) ∙ h) (list .2 .listed k .1 c .1)),
+        (λ h. list .1 ∙ ap (λ (es : List Entry). each es entryBytes) (empty-of (list .0) (λ x m. h (x .node) (list .2 .listed (x .node) .0 (x, m, refl))))),
+      ),
+    )
+  where
+    nothing-in : (es : List Entry) → each es entryBytes ≡ [] → {x : Entry} → List·Memᴰ x es → ⊥
+    nothing-in [] h m = List·Memᴰ·not-nil m
+    nothing-in (y ∷ ys) h m = omega (arith, ap length h)
+
+    empty-of : (es : List Entry) → ((x : Entry) → List·Memᴰ x es → ⊥) → es ≡ []
+    empty-of [] h = refl
+    empty-of (x ∷ xs) h = absurd (h x (List·Memᴰ·head refl))
+
 -- "A node is on the list for that reason only, and clearing a set kind 1 node that is absent leaves a plan that keeps all six": what check_plan
--- says of the plan whose byte of that node is 0, with as much lent as its assignment is long.
+-- says of the plan whose byte of that node is 0, with as much lent as its assignment is long, by any list of the plan's carriers.
 pub clearing-tells : (book plan out : Bytes) (n : ℕ) → listCarriers book plan n ≡ accepted out
     → (b : Book) × (readBook book ≡ accepted b)
-    × ((es : List Entry) × (out ≡ each es entryBytes)
-    × ((k : ℕ) → SetKindOne b (planOf (instanceOf b) plan) k → (m : ℕ) → variables (instanceOf b) ≤ m
+    × ((es : List Entry) → Listed b (planOf (instanceOf b) plan) es
+    → (k : ℕ) → SetKindOne b (planOf (instanceOf b) plan) k → (m : ℕ) → variables (instanceOf b) ≤ m
     → (((e : Entry) × List·Memᴰ e es × (e .node ≡ k)) → checkPlan book (set plan k 0) m ≡ refused 16 6)
     × ((((e : Entry) × List·Memᴰ e es × (e .node ≡ k)) → ⊥)
     → ((q : Plan) → Clears (planOf (instanceOf b) plan) k q → T (keepsRules (instanceOf b) q))
-    × (checkPlan book (set plan k 0) m ≡ accepted (encode (instanceOf b) (cleared (planOf (instanceOf b) plan) k))))))
+    × (checkPlan book (set plan k 0) m ≡ accepted (encode (instanceOf b) (cleared (planOf (instanceOf b) plan) k)))))
 clearing-tells book plan out n e =
-    let a = carriers-listed book plan out n e in
-    let list = a .4 .2 in (
+    let a = carriers-listed book plan out n e in (
       a .0,
       a .1,
-      (a .4 .0, a .4 .1, λ k one m lent. (
+      λ es list k one m lent. (
         (λ h. carrier-refused book plan (a .0) (a .1) (a .2) (a .3) k one m lent (list .listed k .0 h)),
         (λ h. let idle : Carries (a .0) (planOf (instanceOf (a .0)) plan) k → ⊥ = λ c. h (list .listed k .1 c) in (
           (λ q c. subst (λ (r : Plan). T (keepsRules (instanceOf (a .0)) r)) (sym (clears-one _ k q c))
               (other-keeps book plan (a .0) (a .1) (a .2) (a .3) k one m lent idle)),
           other-accepted book plan (a .0) (a .1) (a .2) (a .3) k one m lent idle,
         )),
-      )),
+      ),
     )
 
 -- "outputs untouched": what the caller's slice holds after the call

@@ -1,5 +1,5 @@
--- Where trains meet (document 02, P5): what is searched for is there exactly where rule 6 is broken, and is the first, by the definitions
--- (`meeting-there`) and as the text has it (`first-meeting`). Assumes nothing.
+-- Where trains meet (document 02, P5): an interval and a pair are found exactly where rule 6 is broken (`earliest-is`), and they are the first, as
+-- the text has it (`first-meeting`); rule 6 as the text has it (`rule-six`). Assumes nothing.
 use mathlib.Core.Path.{_≡_, refl, sym, subst}
 use mathlib.Core.Logic.{_↔_, ⊎-elim}
 use mathlib.Core.Bool.{Bool, not}
@@ -148,8 +148,11 @@ module _ (b : Book) (formed : T (wellFormed b)) (p : Plan) (fits : IsPlan (insta
           together = together-chain I (p .border) (s .0) (u .0) (inside t i _ _ lt li (a .1) (a .2)) (inside t j _ _ lt lj (c .1) (c .2)) .0 (u .2);
         }),
     (λ m.
-        any-iff _ _ .1 (m .segment-i, of-run (p .move i t) _ _ .1 (m .run-i, m .runs-i, m .touches-i),
-        any-iff _ _ .1 (m .segment-j, of-run (p .move j t) _ _ .1 (m .run-j, m .runs-j, m .touches-j), chain-together I (p .border) (m .together)))),
+        any-iff _ _ .1 (
+          m .segment-i,
+          of-run (p .move i t) _ _ .1 (m .run-i, m .runs-i, m .touches-i),
+          any-iff _ _ .1 (m .segment-j, of-run (p .move j t) _ _ .1 (m .run-j, m .runs-j, m .touches-j), chain-together I (p .border) (m .together)),
+        )),
   )
 
   -- rule 6, "In each interval no section holds segments of two trains' runs": no two trains meet

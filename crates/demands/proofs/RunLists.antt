@@ -1,7 +1,7 @@
 -- The run listing against the definition of a path: a list holds exactly the paths of its lengths (`paths-iff`, `runs-iff`), it
 -- stands in the document's order (`runs-rise`), and no run stands in it twice (`runs-once`); how long a train's runs are (`run-moves`).
 -- Assumes nothing.
-use mathlib.Core.Path.{_≡_, refl, sym, ap, _∙_, subst}
+use mathlib.Core.Path.{_≡_, refl, sym, ap, ap₂, _∙_, subst}
 use mathlib.Core.Logic.{_↔_, _≢_, inl, inr}
 use mathlib.Core.Bool.{Bool, true, false, not, _&&_, and-assoc, and-true}
 use Prim.Native.Nat.{ℕ, zero, suc, _+_, _*_, _-_, _≤_, _<_}
@@ -118,6 +118,30 @@ module _ {A : Type 0} {R : A → A → Type 0} where
   rising-map g nothing = nothing
   rising-map g (next {x} {xs} h r) =
       next (λ y m. let k = Memᴰ·of-map g xs m in subst (λ (z : A). R (g x) z) (k .2) (h (k .0) (k .1))) (rising-map g r)
+
+-- two rows that rise and have the same elements are the same
+pub rising-same : {A : Type 0} {R : A → A → Type 0} → ((x y : A) → x ≡ y → R x y → ⊥) → ((x y : A) → R x y → R y x → ⊥) → {xs ys : List A}
+    → Rising R xs → Rising R ys → ((z : A) → List·Memᴰ z xs ↔ List·Memᴰ z ys) → xs ≡ ys
+rising-same irr asym nothing nothing h = refl
+rising-same irr asym nothing (next {x = y} g s) h = absurd (List·Memᴰ·not-nil (h y .1 (List·Memᴰ·head refl)))
+rising-same irr asym (next {x} f r) nothing h = absurd (List·Memᴰ·not-nil (h x .0 (List·Memᴰ·head refl)))
+rising-same {A} {R} irr asym (next {x} {xs} f r) (next {x = y} {xs = ys} g s) h =
+    ap₂ _∷_ first (rising-same irr asym r s (λ z. (
+      (λ m. behind z y g (h z .0 (List·Memᴰ·tail m)) (λ e. irr x z (first ∙ sym e) (f z m))),
+      (λ m. behind z x f (h z .1 (List·Memᴰ·tail m)) (λ e. irr y z (sym first ∙ sym e) (g z m))),
+    )))
+  where
+    first : x ≡ y
+    first = either (h x .0 (List·Memᴰ·head refl)) (h y .1 (List·Memᴰ·head refl))
+      where
+        either : List·Memᴰ x (y ∷ ys) → List·Memᴰ y (x ∷ xs) → x ≡ y
+        either (List·Memᴰ·head e) m = e
+        either (List·Memᴰ·tail k) (List·Memᴰ·head e) = sym e
+        either (List·Memᴰ·tail k) (List·Memᴰ·tail m) = absurd (asym x y (f y m) (g x k))
+
+    behind : (z w : A) {ws : List A} → ((v : A) → List·Memᴰ v ws → R w v) → List·Memᴰ z (w ∷ ws) → (z ≡ w → ⊥) → List·Memᴰ z ws
+    behind z w k (List·Memᴰ·head e) n = absurd (n e)
+    behind z w k (List·Memᴰ·tail m) n = m
 
 -- the numbers from a on rise
 count-rises : (a n : ℕ) → Rising _<_ (count a n)

@@ -4,15 +4,17 @@ use mathlib.Core.Path.{_≡_, refl, ap, ap₂, _∙_}
 use mathlib.Core.Bool.{Bool, true, false, _||_}
 use Prim.Native.Nat.{ℕ}
 use native.Mathlib.Omega.{arith}
+use mathlib.Core.List.{[]}
 use Rattle.spec.specs.Lists.{Bytes, Verdict, accepted, refused, andThen}
-use Rattle.spec.specs.Entry.{checkRefutation}
+use Rattle.spec.specs.Entry.{written, checkRefutation}
 use Rattle.spec.specs.Upgrade.{upgradeBook}
 use Rattle.spec.specs.Page.{printGraph}
 use Rattle.spec.specs.Programs.{sliceBytes, sliceOf, programLent, isLong, unlessLong, acceptedLine, printed, printAssignment, printPlan, printRefutation, printUpgrade, printPage, printCarriers}
+use Rattle.laws.proofs.Tests.{from-false}
 use Rattle.programs.proofs.FormulaProgram.{held, held-whole, unless-same}
 use Rattle.programs.specs.declared.verdicts.Check.{Check}
 use Rattle.programs.specs.declared.verdicts.Check.the-variants.{Assignment, Plan, Refutation, Carriers}
-use Rattle.programs.specs.Verdicts.{bare, verdictOf}
+use Rattle.programs.specs.Verdicts.{bare, verdictOf, hasResult}
 
 -- the output that a program lends
 pub output-lent : 65536 ≡ sliceOf 1
@@ -31,6 +33,11 @@ unfolding line bare andThen unlessLong printed
 bare-line true v = refl
 bare-line false (accepted u) = refl
 bare-line false (refused n d) = refl
+
+bare-written : (v : Verdict (Unit {0})) → written (bare v) ≡ []
+unfolding bare andThen written
+bare-written (accepted u) = refl
+bare-written (refused n d) = refl
 
 module _ (book s : Bytes) where
   abbrev long : Bool
@@ -73,6 +80,14 @@ module _ (book s : Bytes) where
       (held-whole book (neither (isLong book) (isLong s) h .0))
       (held-whole s (neither (isLong book) (isLong s) h .1))
       ∙ ap (printGraph book s) output-lent)
+
+-- a check that has no result writes none, whatever its verdict
+pub no-result : (check : Check) (book s : Bytes) (room : ℕ) → hasResult check ≡ false → written (verdictOf check book s room) ≡ []
+unfolding hasResult verdictOf
+no-result Assignment book s room e = absurd (from-false e tt)
+no-result Plan book s room e = absurd (from-false e tt)
+no-result Carriers book s room e = absurd (from-false e tt)
+no-result Refutation book s room e = bare-written (checkRefutation book s programLent)
 
 -- what upgrade_book prints of an old book
 pub upgrade-printed : (old : Bytes) → printed (λ _. acceptedLine) (unlessLong (isLong old) (upgradeBook (held old) 65536)) ≡ printUpgrade old

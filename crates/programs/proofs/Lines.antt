@@ -43,7 +43,7 @@ tells v {answer} before r e w =
       text = w .0 ∙ ap (sets before 0) same;
       text-length = w .1 ∙ ap length same;
       whole = w .2;
-      answered = w .3 ∙ ap wasAccepted e ∙ accepted-of v;
+      accepts = w .3 ∙ ap wasAccepted e ∙ accepted-of v;
       result-length = w .4 ∙ ap resultLength e ∙ length-of v;
     }
 

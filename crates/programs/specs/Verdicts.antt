@@ -41,5 +41,5 @@ pub record Tells (v : Verdict Bytes) (before after : Bytes) (r : Said) : Type 0 
   pub text : after ≡ sets before 0 (printed (λ _. acceptedLine) v)
   pub text-length : r .len ≡ length (printed (λ _. acceptedLine) v)
   pub whole : r .len ≤ 64
-  pub answered : r .accepted ≡ isAccepted v
+  pub accepts : r .accepted ≡ isAccepted v
   pub result-length : r .result ≡ length (written v)

@@ -1,8 +1,8 @@
-// The programs over the checks, the list of carriers, the train graph and the rewriter: their files, and what they print.
-// `verdict_text` and `upgrade_text` make the line of a verdict, 12 first where an input is too long, and the
-// result where there is one; `graph_text` makes the page or the line of the refusal. Their contracts say that
-// these are the specification's. The other functions only read files by their names, and hand bytes to the
-// output and to a file. A slice has at most 64 KiB.
+// The programs over the checks, the list of carriers, the train graph and the rewriter: their files, and
+// what they print. `verdict_text` and `upgrade_text` make the line of a verdict, 12 first where an input is
+// too long, and the result where there is one; `graph_text` makes the page or the line of the refusal. Their
+// contracts say that these are the specification's. The functions over files promise nothing of them: they
+// read files by their names, and hand bytes to the output and to a file. A slice has at most 64 KiB.
 use crate::dimacs::put_refusal;
 use crate::printing::Loaded;
 use crate::printing::load_from;
@@ -253,7 +253,7 @@ fn hand_out(said: Said, line: &[u8], out: &[u8], result: &[u8], named: bool) {
     }
 }
 
-// Whether a check has a result: a refutation has none.
+// Whether what a check accepts has a result: a refutation has none.
 fn has_result(check: Check) -> bool
     ensures { λ r. ⌜ r ≡ hasResult check ⌝ }
 {

@@ -585,6 +585,14 @@ further =
           (0 ∷ 1 ∷ 1 ∷ 0 ∷ 4 ∷ 0 ∷ 4 ∷ 0 ∷ 4 ∷ 0 ∷ 0 ∷ 0 ∷ 6 ∷ 0 ∷ 2 ∷ 0 ∷ []) 8;
       answer = text (2 ∷ 1 ∷ 0 ∷ 1 ∷ []);
     }
+    -- four entries, in a ring of nodes 5 to 8 with a train on each segment, all of which depart in interval 5
+    ∷ record {
+      asked = lists
+          (headWith 6 ++ each (replicate 5 0 ++ replicate 4 1) nodeFrame ++ each (5 ∷ 6 ∷ 7 ∷ []) (λ n. segmentFrame n (n + 1)) ++ segmentFrame 8 5
+          ++ each (upTo 4) (λ s. trainFrom 5 80 36 (one (2 * s))) ++ each (upTo 4) (λ s. callOf s s 5 6) ++ endFrame)
+          (replicate 5 0 ++ replicate 4 1 ++ each (upTo 4) λ s. each (replicate 5 65534 ++ one (2 * s)) (littleEndian 2)) 16;
+      answer = text (5 ∷ 5 ∷ 0 ∷ 3 ∷ 6 ∷ 5 ∷ 0 ∷ 1 ∷ 7 ∷ 5 ∷ 1 ∷ 2 ∷ 8 ∷ 5 ∷ 2 ∷ 3 ∷ []);
+    }
     -- what the command prints
     ∷ record { asked = text (printCarriers (standingBook (0 ∷ 1 ∷ 0 ∷ []) (inRow 2) (stands (0 ∷ 1 ∷ []))) (stay (0 ∷ 1 ∷ 0 ∷ []) (0 ∷ 1 ∷ []))); answer = text acceptedLine }
     ∷ record { asked = text (printCarriers (standingBook (0 ∷ 1 ∷ 0 ∷ []) (inRow 2) (stands (0 ∷ 1 ∷ []))) []); answer = text (49 ∷ 53 ∷ 32 ∷ 48 ∷ 10 ∷ []) }

@@ -161,11 +161,11 @@ module _ (I : Instance) (p : Plan) where
   unfoldable pub rule5 : Bool
   rule5 = all (λ i. keepsCalls i) (upTo (I .trains))
 
-  -- two trains meet in an interval: some section holds segments of both trains' runs
+  -- of rule 6, and P5's "trains meet": in an interval some section "holds segments of two trains' runs"
   unfoldable pub trainsMeet : ℕ → ℕ → ℕ → Bool
   trainsMeet t i j = shareSection I (p .border) (ofRun (p .move i t) (λ r. I .path i r)) (ofRun (p .move j t) (λ r. I .path j r))
 
-  -- no two trains do
+  -- "no section holds segments of two trains' runs", in an interval
   unfoldable pub apartIn : ℕ → Bool
   apartIn t = all (λ i. all (λ j. not (trainsMeet t i j)) (range (i + 1) (I .trains))) (upTo (I .trains))
 

@@ -113,7 +113,7 @@ put-carriers-spec =
     (λ c. (omega arith, refl, stored-same (stored-none _ 0) (sym (list-none _ _))))
     (λ c κs. let l = c .before .before in let s = start l in (s .pre .0, s .pre .1, fits l, l .loop-test .taken, room l))
     (λ c. let l = c .before .before .before .before .before .before .before in
-        omega (arith, l .loop-test .taken, start l .pre .0 .counted .passed .packed .counts .nodes))
+    omega (arith, l .loop-test .taken, start l .pre .0 .counted .passed .packed .counts .nodes))
     (λ c. let l = c .before .before .before .before .before .before .before in omega (arith, l .loop-test .taken))
     loop-again
     (λ c. ap length (c .before .loop .inv .1))

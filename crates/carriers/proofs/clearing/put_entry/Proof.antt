@@ -100,9 +100,11 @@ returns c =
 
 first-pair-requires : tie.Need-first-pair-requires
 first-pair-requires c κs =
-    let s = start (labelled (c .before)) in
-    ((s .pre .0, s .pre .2, plan-labelled (s .args .b) (s .pre .0 .counted .passed) _ _ refl (labelled (c .before) .before .before .label-sections .ensures)),
-      inside (c .before), meeting (c .before))
+    let s = start (labelled (c .before)) in (
+      (s .pre .0, s .pre .2, plan-labelled (s .args .b) (s .pre .0 .counted .passed) _ _ refl (labelled (c .before) .before .before .label-sections .ensures)),
+      inside (c .before),
+      meeting (c .before),
+    )
 
 -- the pair is known
 module _ (c : tie.After-first-pair) where

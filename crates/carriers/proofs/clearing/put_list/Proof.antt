@@ -69,7 +69,7 @@ put-list-spec =
     (tie.spec
     (λ c. search needs)
     (λ c κs. let s = c .before .before .before .before .before in
-        omega (arith, plan-few (s .args .b) (s .pre .0 .counted .passed) (now (s .args .plan)) (s .pre .2)))
+    omega (arith, plan-few (s .args .b) (s .pre .0 .counted .passed) (now (s .args .plan)) (s .pre .2)))
     (λ c. omega (arith, short (c .before), long (c .before)))
     (λ c. sym (ap length (is-copy (c .before .before))))
     put-carriers-requires

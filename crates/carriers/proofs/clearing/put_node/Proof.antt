@@ -36,7 +36,9 @@ module _ (I : Instance) (p : Plan) (n : ℕ) where
 
   not-set : p .border n ≡ false → entryOf I p n ≡ []
   unfolding entryOf carries only by
-  not-set e = ap (by (isFree I n)) e ∙ ap (λ (f : Bool). only (f && not (rule6 I (cleared p n))) (entry n (firstMeeting I (cleared p n)))) (and-false (isFree I n))
+  not-set e =
+      ap (by (isFree I n)) e
+      ∙ ap (λ (f : Bool). only (f && not (rule6 I (cleared p n))) (entry n (firstMeeting I (cleared p n)))) (and-false (isFree I n))
 
   judged : isFree I n ≡ true → p .border n ≡ true → entryIf I (cleared p n) n ≡ entryOf I p n
   unfolding entryOf entryIf carries by
@@ -115,7 +117,7 @@ put-node-spec =
     returns-2
     (λ c. let s = set-start c in omega (arith, known s, long s))
     (λ c κs. let e = c .before .before in let s = set-start e in
-        (s .pre .0, s .pre .1, cleared-fits (I s) (plan s) (node s) (known s) (long s) (s .pre .2), s .pre .3, s .pre .4 (from-true (free e))))
+    (s .pre .0, s .pre .1, cleared-fits (I s) (plan s) (node s) (known s) (long s) (s .pre .2), s .pre .3, s .pre .4 (from-true (free e))))
     (λ c. let s = set-start (c .before .before .before .before .before) in rw length-set (omega (arith, known s, long s)))
     (λ c. search needs)
     (λ c. search needs)

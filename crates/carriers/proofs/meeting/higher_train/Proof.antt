@@ -77,7 +77,8 @@ loop-holds c =
       rw (c .mark .ensures, labels-here _ (s .pre .0) (s .args .interval) (s .pre .1) (s .args .lower) (s .pre .2) (own-is r))
           (marked-next _ (s .pre .0) (s .args .interval) (s .pre .1) [] (s .args .lower) (s .pre .2) _
           (marked-none _ (s .pre .0) (s .args .interval) (s .pre .1))),
-      ap (λ (n : ℕ). leastFrom (meets (s .args .b) (now (s .args .plan)) (s .args .interval) (s .args .lower)) (s .args .lower + 1) (n - (s .args .lower + 1))) trains,
+      ap (λ (n : ℕ). leastFrom (meets (s .args .b) (now (s .args .plan)) (s .args .interval) (s .args .lower)) (s .args .lower + 1)
+          (n - (s .args .lower + 1))) trains,
     )
 
 -- the higher one's
@@ -133,7 +134,7 @@ higher-train-spec =
     loop-holds
     (λ c κs. let s = start (c .before .before .before .before) in move-asks (planned s _ (c .loop-test .taken)) (s .args .interval) (s .pre .1))
     (λ c κs. let s = start (c .before .before .before .before .before) in
-        stretch-asks s _ (c .before .loop-test .taken) (c .move-at2 .result) (c .move-at2 .ensures))
+    stretch-asks s _ (c .before .loop-test .taken) (c .move-at2 .result) (c .move-at2 .ensures))
     (λ c κs. fits (begun (c .before)) _ (loop (c .before) .loop-test .taken) (other-is (c .before)))
     returns
     (λ c. let r = c .before .before .before in omega (arith, few (begun r) _ (loop r .loop-test .taken)))

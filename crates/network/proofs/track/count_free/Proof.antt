@@ -47,8 +47,9 @@ loop-again c =
     let n = a .loop .node in
     let i = a .loop .inv in
     ⊎-elim
-    (λ w. let e : before b (n + 1) ≡ before b n + 1 = ap length (pick-taken _ n (free-is f ∙ w .0 .taken)) ∙ length-append (pick (isFree (instanceOf (held b))) (upTo n)) (one n) in
-        (omega arith, omega arith, omega (arith, i .2, e)))
+    (λ w. let taken = ap length (pick-taken _ n (free-is f ∙ w .0 .taken)) in
+    let e : before b (n + 1) ≡ before b n + 1 = taken ∙ length-append (pick (isFree (instanceOf (held b))) (upTo n)) (one n) in
+    (omega arith, omega arith, omega (arith, i .2, e)))
     (λ w. let e : before b (n + 1) ≡ before b n = ap length (pick-left _ n (free-is f ∙ w .0 .left)) in (omega arith, omega arith, omega (arith, i .2, e)))
     (c .if1 .came)
 

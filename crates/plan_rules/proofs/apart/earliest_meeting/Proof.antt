@@ -48,7 +48,8 @@ loop-again c =
 
 returns-2 : tie.Need-returns-2 Inv-loop μ-loop
 returns-2 c =
-    let e : c .before .loop .interval ≡ c .before .before .before .before .before .args .b .intervals = omega (arith, c .before .loop .inv .0, c .loop-test .left) in
+    let s = c .before .before .before .before .before in
+    let e : c .before .loop .interval ≡ s .args .b .intervals = omega (arith, c .before .loop .inv .0, c .loop-test .left) in
     sym (c .before .loop .inv .1 ∙ least-end _ _ _ (c .loop-test .left) ∙ e)
 
 pub earliest-meeting-spec : {M : Type 1} → statement M

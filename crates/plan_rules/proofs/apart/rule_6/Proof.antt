@@ -13,4 +13,4 @@ rule-6-spec =
     (tie.spec
     (λ c κs. search needs)
     (λ c. let s = c .before .before .before .before .before in
-        ap₂ eqb (c .before .earliest-meeting .ensures) (sym (intervals-is (s .args .b) (s .pre .0 .counted .passed))) ∙ earliest-is _ _))
+    ap₂ eqb (c .before .earliest-meeting .ensures) (sym (intervals-is (s .args .b) (s .pre .0 .counted .passed))) ∙ earliest-is _ _))
