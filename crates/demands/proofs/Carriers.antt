@@ -291,8 +291,11 @@ meeting-one I q {t} {i} {j} {u} {k} {l} f g = (interval, lower, higher)
 
     higher : j ≡ l
     higher =
-        omega (arith, f .least-higher l (omega (arith, lower, g .lower)) (g .higher) (subst (λ (v : ℕ). Meet I q t v l) (sym lower) there),
-        g .least-higher j (omega (arith, lower, f .lower)) (f .higher) (subst (λ (v : ℕ). Meet I q u v j) lower back))
+        omega (
+          arith,
+          f .least-higher l (omega (arith, lower, g .lower)) (g .higher) (subst (λ (v : ℕ). Meet I q t v l) (sym lower) there),
+          g .least-higher j (omega (arith, lower, f .lower)) (f .higher) (subst (λ (v : ℕ). Meet I q u v j) lower back),
+        )
 
 -- A plan has one list.
 pub listed-one : (b : Book) (p : Plan) (es fs : List Entry) → Listed b p es → Listed b p fs → es ≡ fs
