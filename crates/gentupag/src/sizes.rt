@@ -1,5 +1,6 @@
 // The sizes of a book: what it counts, and how much its outputs need. Nothing is written. Assumes nothing.
 use crate::answers::Sizes;
+use clauses::Walk;
 use formula::walk::walk_formula;
 use layout::moves::plan_length;
 use layout::numbering::variable_count;
@@ -26,7 +27,7 @@ fn measure_by(b: Book, counts: Counts, runs: &[u8], chains: &[usize], meets: &[u
 {
     let none = &runs[0..0];
     let mut nowhere = [0i32; 1];
-    let w = walk_formula(b, counts, runs, chains, meets, none, &mut nowhere[0..0]);
+    let w: Walk = walk_formula(b, counts, runs, chains, meets, none, &mut nowhere[0..0]);
     Sizes {
         number: 0,
         detail: 0,
