@@ -8,8 +8,8 @@
 //   print_graph BOOK PLAN                     prints an accepted plan's train graph
 //   list_carriers BOOK PLAN OUT               lists the borders that carry an accepted plan
 //
-// A check, the list and the rewriter print accepted; every command prints a refusal as its number, a blank and its
-// detail. A slice has at most 64 KiB: longer input is refused by 12 first.
+// A check, the list and the rewriter print accepted; every command prints a refusal as its number, a blank
+// and its detail. A slice has at most 64 KiB: longer input is refused by 12 first.
 mod commands;
 
 use commands::Command;

@@ -24,8 +24,8 @@ ghost use Rattle.spec.specs.Held.{held};
 ghost use Rattle.tables.specs.Ready.{RunsReady, MeetsReady};
 ghost use Rattle.carriers.specs.Entries.{entryIf, entryOf};
 
-// How many bytes an entry has.
-pub const ENTRY_BYTES: usize = 4;
+// How many bytes the entry of a carrier has.
+pub const CARRIER_BYTES: usize = 4;
 
 // The most bytes that a plan has: a border a node, and two bytes for each train and interval.
 const MAX_PLAN: usize = MAX_NODES + MAX_TRAINS * MAX_INTERVALS * 2;

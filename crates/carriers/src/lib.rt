@@ -5,7 +5,7 @@
 mod clearing;
 mod meeting;
 
-use clearing::ENTRY_BYTES;
+use clearing::CARRIER_BYTES;
 use clearing::put_list;
 use listing::TABLE_BYTES;
 use model::Book;
@@ -38,7 +38,7 @@ fn list_by(
     ensures { λ r. ⌜ (r ≡ outputAnswer (carriersFor (instanceOf (held b)) (now (plan .entry)) (length (now (out .entry)))))
         × (now (out .exit) ≡ overwrite (now (out .entry)) (written (carriersFor (instanceOf (held b)) (now (plan .entry)) (length (now (out .entry)))))) ⌝ }
 {
-    let room = count_free(b) * ENTRY_BYTES;
+    let room = count_free(b) * CARRIER_BYTES;
     let admitted = admit_plan(b, counts, runs, meets, plan, room, out.len());
     match admitted {
         Answer::Refused(number, detail) => OutputAnswer::Refused(number, detail),

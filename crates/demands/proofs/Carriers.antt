@@ -62,6 +62,13 @@ module _ (p : Plan) (n : ℕ) where
           (λ k. absurd (not-iff (eqb m n) .0 (and-iff (p .border m) (not (eqb m n)) .0 k .1) h)))
           (λ h. let other : m ≡ n → ⊥ = λ e. not-iff (eqb m n) .0 h (eqb-iff m n .1 e) in c .others m other ∙ sym (cleared-clears .others m other))
 
+-- "clearing alone makes the plan break rule 6", of whatever plan clears the border, and of the one that is computed
+breaks-iff : (I : Instance) (p : Plan) (n : ℕ) → ((q : Plan) → Clears p n q → T (rule6 I q) → ⊥) ↔ T (not (rule6 I (cleared p n)))
+breaks-iff I p n = (
+  (λ h. not-iff (rule6 I (cleared p n)) .1 (h (cleared p n) (cleared-clears p n))),
+  (λ h q c six. not-iff (rule6 I (cleared p n)) .0 h (subst (λ (r : Plan). T (rule6 I r)) (clears-one p n q c) six)),
+)
+
 -- ---- its bytes
 
 module _ (I : Instance) (s : Bytes) (n : ℕ) (known : n < I .nodes) (long : I .nodes ≤ length s) where
@@ -72,16 +79,16 @@ module _ (I : Instance) (s : Bytes) (n : ℕ) (known : n < I .nodes) (long : I .
   byte-beside m e = getD-set-other s n m 0 0 e
 
   -- what stands behind the borders is as it was
-  field-behind : (at : ℕ) → I .nodes ≤ at → field (set s n 0) at 2 ≡ field s at 2
+  field-kept : (at : ℕ) → I .nodes ≤ at → field (set s n 0) at 2 ≡ field s at 2
   unfolding field
-  field-behind at l = ap (λ (u : Bytes). number (take 2 u)) (drop-set-lt at s n 0 (omega arith))
+  field-kept at l = ap (λ (u : Bytes). number (take 2 u)) (drop-set-lt at s n 0 (omega arith))
 
   bytes-clear : Clears (planOf I s) n (planOf I (set s n 0))
   unfolding planOf moveAt
   bytes-clear = record {
     node = λ h. let e = eqb-iff (getD (set s n 0) n 0) 1 .0 h in omega (arith, e, byte-there);
     others = λ m e. ap (λ (x : ℕ). eqb x 1) (byte-beside m e);
-    moves = λ i t. ap moveOf (field-behind (moveAt I i t) (omega arith));
+    moves = λ i t. ap moveOf (field-kept (moveAt I i t) (omega arith));
   }
 
   -- the plan with a border cleared has these bytes with that byte cleared
@@ -124,13 +131,13 @@ module _ (I : Instance) (p : Plan) (n : ℕ) (free : T (isFree I n)) where
   unfolding cleared rule2 departs absentBefore rule3 leavesRightly rule4 runsOn rule5 keepsCalls servedBy
   five-kept k = (first-kept (k .one), k .two, k .three, k .four, k .five)
 
-  pub cleared-keeps : T (keepsRules I p) → T (rule6 I (cleared p n)) → T (keepsRules I (cleared p n))
+  cleared-keeps : T (keepsRules I p) → T (rule6 I (cleared p n)) → T (keepsRules I (cleared p n))
   cleared-keeps h six =
       let k = five-kept (kept I p h) in
       from-kept I (cleared p n) (record { one = k .0; two = k .1; three = k .2; four = k .3; five = k .4; six = six })
 
   -- the least broken rule is then 6
-  pub cleared-breaks : T (keepsRules I p) → T (not (rule6 I (cleared p n))) → FirstHolds 6 (ruleFaults I (cleared p n))
+  cleared-breaks : T (keepsRules I p) → T (not (rule6 I (cleared p n))) → FirstHolds 6 (ruleFaults I (cleared p n))
   unfolding ruleFaults passes all
   cleared-breaks h six =
       let k = five-kept (kept I p h) in
@@ -188,13 +195,13 @@ module _ (b : Book) (formed : T (wellFormed b)) (p : Plan) (fits : IsPlan (insta
         let k = simp and-iff at (h .1) in
         record {
           one = record { known = l; kind = free-iff b formed n l .0 (k .0 .0); border = k .0 .1 };
-          breaks = λ q c six. not-iff (rule6 I (cleared p n)) .0 (k .1) (subst (λ (r : Plan). T (rule6 I r)) (clears-one p n q c) six);
+          breaks = breaks-iff I p n .1 (k .1);
         }),
     (λ c. mem-pick (carries I p) n (upTo (length (b .nodes))) .1 (
       upTo-mem (length (b .nodes)) n .1 (c .one .known),
       simp and-iff (
         (free-iff b formed n (c .one .known) .1 (c .one .kind), c .one .border),
-        not-iff (rule6 I (cleared p n)) .1 (c .breaks (cleared p n) (cleared-clears p n)),
+        breaks-iff I p n .0 (c .breaks),
       ),
     )),
   )
@@ -205,26 +212,22 @@ module _ (b : Book) (formed : T (wellFormed b)) (p : Plan) (fits : IsPlan (insta
       let m = firstMeeting I (cleared p n) in
       record { node = n; interval = m .interval; lower = m .lower; higher = m .higher }
 
-  pub entries : List Entry
+  entries : List Entry
   entries = map entry-of (carriers I p)
 
-  pub entries-bytes : each entries entryBytes ≡ carrierList I p
+  entries-bytes : each entries entryBytes ≡ carrierList I p
   unfolding entries entry-of entryBytes carrierList entry
   entries-bytes = each-map (carriers I p) entry-of entryBytes
 
   -- a plan with a border cleared is a plan
-  pub cleared-plan : (n : ℕ) → IsPlan I (cleared p n)
+  cleared-plan : (n : ℕ) → IsPlan I (cleared p n)
   unfolding cleared
   cleared-plan n = fits
-
-  -- rule 6 is broken where a listed border is cleared
-  breaks : (n : ℕ) → List·Memᴰ n (carriers I p) → T (not (rule6 I (cleared p n)))
-  breaks n m = not-iff (rule6 I (cleared p n)) .1 (carries-iff n .0 m .breaks (cleared p n) (cleared-clears p n))
 
   meeting-of : (n : ℕ) → List·Memᴰ n (carriers I p)
       → FirstMeeting I (cleared p n) (entry-of n .interval) (entry-of n .lower) (entry-of n .higher)
   unfolding entry-of firstMeeting firstPair
-  meeting-of n m = first-meeting b formed (cleared p n) (cleared-plan n) (breaks n m)
+  meeting-of n m = first-meeting b formed (cleared p n) (cleared-plan n) (breaks-iff I p n .0 (carries-iff n .0 m .breaks))
 
   bounds : (n : ℕ) → List·Memᴰ n (carriers I p)
       → (n < 256) × (entry-of n .interval < 256) × (entry-of n .lower < 256) × (entry-of n .higher < 256)
@@ -238,7 +241,7 @@ module _ (b : Book) (formed : T (wellFormed b)) (p : Plan) (fits : IsPlan (insta
         omega (arith, f .higher, w .fewTrains),
       )
 
-  pub entries-listed : Listed b p entries
+  entries-listed : Listed b p entries
   unfolding entries entry-of carriers
   entries-listed = record {
     rising = rising-map entry-of (rising-pick (carries I p) (upTo-rises (I .nodes)));
@@ -336,18 +339,6 @@ pub carriers-number : (book plan : Bytes) (n k d : ℕ) → listCarriers book pl
 unfolding listCarriers carriersFor
 carriers-number = written-number carrierRoom carrierList
 
--- a set kind 1 node carries the plan or not, by rule 6 of the plan with its border cleared
-carries-or-not : (b : Book) (p : Plan) (n : ℕ) → SetKindOne b p n
-    → (T (not (rule6 (instanceOf b) (cleared p n))) → Carries b p n) × (Carries b p n → T (not (rule6 (instanceOf b) (cleared p n))))
-carries-or-not b p n one = (
-  (λ h. record {
-    one = one;
-    breaks = λ q c six.
-        not-iff (rule6 (instanceOf b) (cleared p n)) .0 h (subst (λ (x : Plan). T (rule6 (instanceOf b) x)) (clears-one p n q c) six);
-  }),
-  (λ c. not-iff (rule6 (instanceOf b) (cleared p n)) .1 (c .breaks (cleared p n) (cleared-clears p n))),
-)
-
 -- The check of a plan that keeps the rules, with the byte of a set kind 1 node cleared and as much lent as an assignment is long
 module _ (book plan : Bytes) (b : Book) (read : readBook book ≡ accepted b) (fits : T (planFits (instanceOf b) plan))
     (keeps : T (keepsRules (instanceOf b) (planOf (instanceOf b) plan))) (n : ℕ) (one : SetKindOne b (planOf (instanceOf b) plan) n)
@@ -376,11 +367,13 @@ module _ (book plan : Bytes) (b : Book) (read : readBook book ≡ accepted b) (f
   carrier-refused c =
       plan-refused book (set plan n 0) m 16 6 .1 (ofInput b read (λ short. omega (arith, short, lent))
       (ruleBroken fits-cleared (subst (λ (q : Plan). FirstHolds 6 (ruleFaults K q)) (sym same)
-      (cleared-breaks K s n free keeps (carries-or-not b s n one .1 c)))))
+      (cleared-breaks K s n free keeps (breaks-iff K s n .0 (c .breaks))))))
 
   -- and accepts where it does not: "clearing a set kind 1 node that is absent leaves a plan that keeps all six"
   other-keeps : (Carries b s n → ⊥) → T (keepsRules K (cleared s n))
-  other-keeps idle = cleared-keeps K s n free keeps (decide (rule6 K (cleared s n)) (λ h. h) (λ h. absurd (idle (carries-or-not b s n one .0 h))))
+  other-keeps idle =
+      cleared-keeps K s n free keeps
+      (decide (rule6 K (cleared s n)) (λ h. h) (λ h. absurd (idle (record { one = one; breaks = breaks-iff K s n .1 h }))))
 
   other-accepted : (Carries b s n → ⊥) → checkPlan book (set plan n 0) m ≡ accepted (encode K (cleared s n))
   other-accepted idle =

@@ -1,5 +1,5 @@
--- The modules in document 01's order; `Upgrade`, `Page` and `Carriers` are for P1, P2 and P5 of document 02. `Lists` has the few list words that the others are
--- written with.
+-- The modules in document 01's order; `Upgrade`, `Page` and `Carriers` are for P1, P2 and P5 of document 02. `Lists` has the few list words
+-- that the others are written with.
 pub mod Lists
 pub mod Numbers
 pub mod Frames
