@@ -13,7 +13,7 @@
 //   ./bench scale formula       writing the formula; 3.6 GB for comparing the outputs
 //   ./bench scale plan          checking a plan and writing it as an assignment
 //   ./bench scale carriers      listing the borders that carry a plan
-//   ./bench scale assignment    checking an assignment and decoding it
+//   ./bench scale assignment    checking an assignment, and unpacking its plan
 //   ./bench scale refutation    checking refutations of 100,000 steps, which are made first; 6 GB and some minutes
 
 mod checks;
@@ -105,7 +105,8 @@ fn judgements(name: &str, plan_name: &str, space: &mut Space) {
     let values = same::judgements(name, &book, &plan, space);
     println!("{name} with its plan: {} variables; outputs are equal", values.len());
     compare("check the plan", 20, vec![9; values.len()], workers::plan_checkers(&book, &plan, space));
-    compare("check the assignment", 10, vec![9; plan.len()], workers::assignment_checkers(&book, &values, space));
+    compare("check the assignment", 10, (), workers::assignment_checkers(&book, &values, space));
+    compare("unpack its plan", 10, vec![9; plan.len()], workers::unpackers(&book, &values, space));
     compare("print the train graph", 20, vec![9; 20736], workers::graph_printers(&book, &plan));
     // with all the borders that there may be, so that each is cleared
     let bordered = same::with_borders(&plain::read_book(&book).expect("a good book"), &plan, || true);
@@ -156,16 +157,17 @@ fn call(what: &str, who: &str, name: &str, times: usize, space: &mut Space) {
             let plan = load(&name.replace(".book", ".plan"));
             repeat(who, times, vec![1; 384], workers::carrier_listers(&book, &plan, space));
         }
-        "plan" | "assignment" => {
+        "plan" | "assignment" | "unpacking" => {
             let (plan, mut values) = (load(&name.replace(".book", ".plan")), vec![1; totals.variables]);
             tuned_checks::check_plan(&book, &plan, &mut values, space).expect("a good plan");
             match what {
                 "plan" => repeat(who, times, values, workers::plan_checkers(&book, &plan, space)),
-                _ => repeat(who, times, plan.clone(), workers::assignment_checkers(&book, &values, space)),
+                "assignment" => repeat(who, times, (), workers::assignment_checkers(&book, &values, space)),
+                _ => repeat(who, times, plan.clone(), workers::unpackers(&book, &values, space)),
             }
         }
         _ => {
-            let steps = what.parse().expect("read, write, plan, carriers, assignment or a number of steps");
+            let steps = what.parse().expect("read, write, plan, carriers, assignment, unpacking or a number of steps");
             let (r, _, slices) = small_refutation(&book, steps, space);
             repeat(who, times, slices(), workers::refutation_checkers(&book, &r, space));
         }

@@ -3,7 +3,7 @@
 
 use std::io::Write;
 
-use crate::plain::{holds, may_leave, meets, read_book, refuse_if, tables, two, walk, Book, Count, Sink, Store};
+use crate::plain::{holds, may_leave, meets, read_book, refuse_if, tables, two, walk, Book, Count, Sink, Store, Tables};
 
 type Verdict<T> = Result<T, (usize, usize)>;
 
@@ -38,17 +38,26 @@ fn plan_length(book: &Book) -> usize {
     book.nodes.len() + 2 * book.trains.len() * book.intervals
 }
 
-// Checks an assignment and writes its plan; answers the plan's length.
-pub fn check_assignment(s: &[u8], values: &[u8], out: &mut [u8]) -> Verdict<usize> {
+// 13, then 14.
+fn judge(book: &Book, t: &Tables, values: &[u8]) -> Verdict<()> {
+    plainly(refuse_if(values.len() != t.variables || values.iter().any(|&v| v > 1), 13))?;
+    let mut judge = Judge { values, holds: false, clause: 0, wrong: 0 };
+    walk(book, t, &mut judge);
+    if judge.wrong != 0 { Err((14, judge.wrong)) } else { Ok(()) }
+}
+
+// Judges an assignment.
+pub fn check_assignment(s: &[u8], values: &[u8]) -> Verdict<()> {
+    let book = plainly(read_book(s))?;
+    judge(&book, &tables(&book), values)
+}
+
+// Judges an assignment and writes its plan; answers the plan's length.
+pub fn unpack_plan(s: &[u8], values: &[u8], out: &mut [u8]) -> Verdict<usize> {
     let book = plainly(read_book(s))?;
     let t = tables(&book);
     plainly(refuse_if(out.len() < plan_length(&book), 12))?;
-    plainly(refuse_if(values.len() != t.variables || values.iter().any(|&v| v > 1), 13))?;
-    let mut judge = Judge { values, holds: false, clause: 0, wrong: 0 };
-    walk(&book, &t, &mut judge);
-    if judge.wrong != 0 {
-        return Err((14, judge.wrong));
-    }
+    judge(&book, &t, values)?;
     let mut at = book.nodes.len();
     out[..at].copy_from_slice(&values[..at]);
     for tr in 0..book.trains.len() {

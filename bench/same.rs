@@ -129,13 +129,17 @@ pub fn with_borders(book: &plain::Book, plan: &[u8], mut wanted: impl FnMut() ->
     other
 }
 
-// Checks an assignment; answers the plan.
+// Judges an assignment and unpacks its plan; answers the plan.
 fn assignment(name: &str, book: &[u8], values: &[u8], room: usize, space: &mut Space) -> Option<Vec<u8>> {
     let [mut one, mut two, mut three] = [(); 3].map(|_| vec![9u8; room]);
-    let found = proved::check_assignment(book, values, &mut one);
+    let judged = proved::check_assignment(book, values);
+    tally(&judged);
+    assert_eq!(judged, checks::check_assignment(book, values), "{name}, assignment, plain");
+    assert_eq!(judged, tuned_checks::check_assignment(book, values, space), "{name}, assignment, tuned");
+    let found = proved::unpack_plan(book, values, &mut one);
     tally(&found);
-    assert_eq!(found, checks::check_assignment(book, values, &mut two), "{name}, assignment, plain");
-    assert_eq!(found, tuned_checks::check_assignment(book, values, &mut three, space), "{name}, assignment, tuned");
+    assert_eq!(found, checks::unpack_plan(book, values, &mut two), "{name}, unpacking, plain");
+    assert_eq!(found, tuned_checks::unpack_plan(book, values, &mut three, space), "{name}, unpacking, tuned");
     assert!(one == two && one == three, "{name}: the plans differ");
     found.ok().map(|n| one[..n].to_vec())
 }

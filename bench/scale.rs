@@ -76,7 +76,8 @@ fn carriers(name: &str, book: &[u8], _: Totals, space: &mut Space) {
 fn assignment(name: &str, book: &[u8], _: Totals, space: &mut Space) {
     let plan = load(&format!("{name}.plan"));
     let values = same::judgements(name, book, &plan, space);
-    measure("check the assignment", plan.len(), vec![1; plan.len()], workers::assignment_checkers(book, &values, space));
+    measure("check the assignment", 0, (), workers::assignment_checkers(book, &values, space));
+    measure("unpack its plan", plan.len(), vec![1; plan.len()], workers::unpackers(book, &values, space));
 }
 
 // Parts of a refutation: the borders and, of every train, two intervals; 16 such pairs of intervals from the first to the last.

@@ -232,15 +232,26 @@ fn served(list: &List, moves: &[u16; INTERVALS], departure: usize, c: Call) -> b
     })
 }
 
-// Checks an assignment and writes its plan; answers the plan's length.
-pub fn check_assignment(s: &[u8], values: &[u8], out: &mut [u8], space: &mut Space) -> Verdict<usize> {
-    let sizes = prepare(s, space).map_err(|n| (n, 0))?;
-    let length = plan_length(space);
-    let Some(out) = out.get_mut(..length) else { return Err((12, 0)) };
+// 13, then 14; the moves are in the space afterwards.
+fn judge_values(space: &mut Space, sizes: &Sizes, values: &[u8]) -> Verdict<()> {
     if values.len() != sizes.totals.variables || values.iter().fold(0, |all, v| all | v) > 1 {
         return Err((13, 0));
     }
-    judge(space, &sizes, values).map_err(|clause| (14, clause))?;
+    judge(space, sizes, values).map_err(|clause| (14, clause))
+}
+
+// Judges an assignment.
+pub fn check_assignment(s: &[u8], values: &[u8], space: &mut Space) -> Verdict<()> {
+    let sizes = prepare(s, space).map_err(|n| (n, 0))?;
+    judge_values(space, &sizes, values)
+}
+
+// Judges an assignment and writes its plan; answers the plan's length.
+pub fn unpack_plan(s: &[u8], values: &[u8], out: &mut [u8], space: &mut Space) -> Verdict<usize> {
+    let sizes = prepare(s, space).map_err(|n| (n, 0))?;
+    let length = plan_length(space);
+    let Some(out) = out.get_mut(..length) else { return Err((12, 0)) };
+    judge_values(space, &sizes, values)?;
     let (borders, codes) = out.split_at_mut(space.book.nodes);
     borders.copy_from_slice(&values[..borders.len()]);
     for (row, moves) in codes.chunks_exact_mut(2 * space.book.intervals).zip(&space.moves) {

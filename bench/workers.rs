@@ -57,11 +57,19 @@ pub fn carrier_listers<'a>(book: &'a [u8], plan: &'a [u8], space: &'a mut Space)
     ]
 }
 
-pub fn assignment_checkers<'a>(book: &'a [u8], values: &'a [u8], space: &'a mut Space) -> Vec<Worker<'a, Vec<u8>>> {
+pub fn assignment_checkers<'a>(book: &'a [u8], values: &'a [u8], space: &'a mut Space) -> Vec<Worker<'a, ()>> {
     vec![
-        worker("proved", |out: &mut Vec<u8>| proved::check_assignment(black_box(book), values, out)),
-        worker("plain", |out: &mut Vec<u8>| checks::check_assignment(black_box(book), values, out)),
-        worker("tuned", |out: &mut Vec<u8>| tuned_checks::check_assignment(black_box(book), values, out, space)),
+        worker("proved", |_| proved::check_assignment(black_box(book), values)),
+        worker("plain", |_| checks::check_assignment(black_box(book), values)),
+        worker("tuned", |_| tuned_checks::check_assignment(black_box(book), values, space)),
+    ]
+}
+
+pub fn unpackers<'a>(book: &'a [u8], values: &'a [u8], space: &'a mut Space) -> Vec<Worker<'a, Vec<u8>>> {
+    vec![
+        worker("proved", |out: &mut Vec<u8>| proved::unpack_plan(black_box(book), values, out)),
+        worker("plain", |out: &mut Vec<u8>| checks::unpack_plan(black_box(book), values, out)),
+        worker("tuned", |out: &mut Vec<u8>| tuned_checks::unpack_plan(black_box(book), values, out, space)),
     ]
 }
 

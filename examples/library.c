@@ -86,7 +86,7 @@ static void print_clauses(input book, gentupag_sizes sizes) {
     free(words);
 }
 
-/* The verdict on a plan, and on the assignment that it is written as. */
+/* The verdict on a plan, and on the assignment that it is written as, which is judged alone and then unpacked. */
 static void judge(input book, input plan, gentupag_sizes sizes) {
     uint8_t *assignment = room(sizes.variables, 1), *back = room(sizes.plan_bytes, 1);
     gentupag_output answer =
@@ -94,8 +94,10 @@ static void judge(input book, input plan, gentupag_sizes sizes) {
     if (answer.number) {
         printf("the plan is refused: %zu %zu\n", answer.number, answer.detail);
     } else {
-        answer = gentupag_check_assignment(book.bytes, book.length, assignment, answer.length, back, sizes.plan_bytes);
-        printf("the plan is accepted; its assignment of %zu bytes gives %zu bytes back\n", sizes.variables, answer.length);
+        gentupag_verdict verdict = gentupag_check_assignment(book.bytes, book.length, assignment, answer.length);
+        answer = gentupag_unpack_plan(book.bytes, book.length, assignment, answer.length, back, sizes.plan_bytes);
+        printf("the plan is accepted; its assignment of %zu bytes is %s and gives %zu bytes back\n", sizes.variables,
+               verdict.number ? "refused" : "accepted", answer.length);
     }
     free(assignment);
     free(back);

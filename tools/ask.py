@@ -2,7 +2,7 @@
 built program print, and the result in the last file, where one is named and the input is accepted.
 
   print_formula [BOOK]                      the formula in DIMACS CNF; without a name the book comes from standard input
-  check_assignment BOOK ASSIGNMENT [PLAN]
+  check_assignment BOOK ASSIGNMENT [PLAN]   without a third name no plan is unpacked
   check_plan BOOK PLAN [ASSIGNMENT]
   check_refutation BOOK REFUTATION
   upgrade_book OLD NEW                      an old book, of times of one byte, rewritten
@@ -24,18 +24,20 @@ def arguments(parser):
     parser.set_defaults(complain=parser.error)
 
 
-def answered(command, *inputs):
-    """The verdict's line, and an accepted input's result, which may be empty, or None."""
+def answered(command, *inputs, named=True):
+    """The verdict's line, and an accepted input's result, which may be empty, or None. An assignment's plan is unpacked where a file is named
+    for it, and only there."""
     if command == "list_carriers":
         return reference.list_carriers(*inputs)
-    answer = reference.check_two(command, *inputs) if command in CHECKS else reference.rewrite(*inputs)
+    check = "unpack_plan" if command == "check_assignment" and named else command
+    answer = reference.check_two(check, *inputs) if command in CHECKS else reference.rewrite(*inputs)
     return reference.verdict_line(answer), answer[1] if answer[0] == "accepted" and len(answer) > 1 else None
 
 
 def check(command, names):
     """The verdict's line; an accepted input's result goes to the file behind the inputs."""
     count = COMMANDS[command].inputs
-    line, result = answered(command, *map(read_bytes, names[:count]))
+    line, result = answered(command, *map(read_bytes, names[:count]), named=len(names) > count)
     if len(names) > count and result is not None:
         write_bytes(names[count], result)
     return line

@@ -63,7 +63,10 @@ textOf : Bytes → List ℕ
 textOf s = answered (formulaText s 1000000) λ t. t
 
 decoding : Bytes → Bytes → ℕ → List ℕ
-decoding s a n = answered (checkAssignment s a n) λ p. p
+decoding s a n = answered (unpackPlan s a n) λ p. p
+
+judging : Bytes → Bytes → List ℕ
+judging s a = answered (checkAssignment s a) λ _. []
 
 encoding : Bytes → Bytes → ℕ → List ℕ
 encoding s p n = answered (checkPlan s p n) λ a. a
@@ -116,7 +119,7 @@ failing : ℕ → List Case → List ℕ
 failing n [] = []
 failing n (c ∷ cs) = only (mathlib.Core.Bool.not (same (c .asked) (c .answer))) (n ∷ []) ++ failing (suc n) cs
 """
-HELPERS = """answered code rows lists grouped words textOf decoding encoding refuting′ rewriting drawing lineDrawn listing measuring labelling
+HELPERS = """answered code rows lists grouped words textOf decoding judging encoding refuting′ rewriting drawing lineDrawn listing measuring labelling
     showing running meant meaning′ failing"""
 # the constructors that the tables name, by the module that has them
 MAKERS = {"Lists": ["accepted", "refused"], "Library": ["noTrain", "noRun", "shown", "border", "run", "gone", "claim", "noVariable"]}
@@ -214,7 +217,8 @@ def input_questions(rng, data, book, each):
     plan_length = reference.plan_length(book)
     for s in list(random_assignments(rng, book, each)):
         n = plan_length - (rng.random() < 0.1)
-        yield "assignment", "decoding %s %s %d" % (row(data), row(s), n), answer_of(reference.entry_check_assignment(data, s, n))
+        yield "unpacking", "decoding %s %s %d" % (row(data), row(s), n), answer_of(reference.entry_unpack_plan(data, s, n))
+        yield "assignment", "judging %s %s" % (row(data), row(s)), answer_of(reference.entry_check_assignment(data, s))
     for s in list(random_plans(rng, book, each)):
         n = variables - (rng.random() < 0.1)
         yield "plan", "encoding %s %s %d" % (row(data), row(s), n), answer_of(reference.entry_check_plan(data, s, n))

@@ -165,10 +165,19 @@ class Trial:
         line, result = self.beside(program, "book", "second")
         if line == b"accepted\n":
             self.note_accepted(program, second)
+        if program == "check_assignment":
+            self.judge_alone(line, second)
         if program == "check_plan":
             self.draw(second)
             self.list_carriers("book", "second")
         return line, result
+
+    def judge_alone(self, line, assignment):
+        """With no third name the assignment is judged alone: the same line, and no file."""
+        self.remove("result")
+        alone = self.run("check_assignment", "book", "second")
+        if (alone, self.read("result")) != (line, None):
+            self.differ(f"check_assignment: printed {alone!r} with no third name and {line!r} with one", second=assignment)
 
     def draw(self, plan):
         """The train graph of a plan that is in its file already, beside the reference's."""

@@ -2,8 +2,10 @@
 """A plain reference of document 01: book, plan, formula, verdict; with
 document 02's requests P1: times of two bytes, and old books rewritten; P2: a
 train graph on paper, printed by `print_graph BOOK PLAN`; P3: speeds to the
-nearest segment; P4: a terminating train stays on the track; and P5: which
-border carries the plan, listed by `list_carriers BOOK PLAN OUT`.
+nearest segment; P4: a terminating train stays on the track; P5: which border
+carries the plan, listed by `list_carriers BOOK PLAN OUT`; and P6: judging
+apart from unpacking, so that `check_assignment BOOK ASSIGNMENT` only judges,
+and unpacks too when a third name says where the plan goes.
 
 Every function states sentences of the documents as simply as it can.  Nothing
 here is fast on purpose; the only care taken is that no input can make a
@@ -730,6 +732,17 @@ def plan_length(book):
     return len(book.nodes) + 2 * len(book.trains) * book.T
 
 
+def judge(book, assignment):
+    """What P6's pair shares: "both refuse by 13 and 14 with the same detail".
+    13 is "length or byte wrong", 14 "a clause is false" with "the least false
+    clause", clauses counted from 1."""
+    refuse_if(len(assignment) != Variables(book).count, 13)
+    refuse_if(any(x > 1 for x in assignment), 13)
+    for number, clause in enumerate(each_clause(book), 1):
+        true = any(is_true(assignment, x) for x in clause)
+        refuse_if(not true, 14, number)
+
+
 def decode(book, assignment):
     """Text: "its border bytes, then by train and interval the number of the run
     whose variable is 1, 65535 where gone is 1, 65534 where neither is"."""
@@ -996,16 +1009,22 @@ def entry_write_formula(book_bytes, words_len):
     return verdict(check)
 
 
-def entry_check_assignment(book_bytes, assignment_bytes, plan_len):
+def entry_check_assignment(book_bytes, assignment_bytes):
+    """P6: "one judges an assignment and lends no plan slice"; with no slice
+    lent, 12 has nothing to measure."""
+    def check():
+        judge(read_book(book_bytes), assignment_bytes)
+        return ()
+    return verdict(check)
+
+
+def entry_unpack_plan(book_bytes, assignment_bytes, plan_len):
+    """P6: "the other unpacks the plan from an assignment, judging it first",
+    which is done "Once 12 is passed"."""
     def check():
         book = read_book(book_bytes)
         refuse_if(plan_len < plan_length(book), 12)
-        refuse_if(len(assignment_bytes) != Variables(book).count, 13)
-        refuse_if(any(x > 1 for x in assignment_bytes), 13)
-        # "the least false clause for 14", clauses counted from 1
-        for number, clause in enumerate(each_clause(book), 1):
-            if not any(is_true(assignment_bytes, x) for x in clause):
-                raise Refused(14, number)
+        judge(book, assignment_bytes)
         return (decode(book, assignment_bytes),)
     return verdict(check)
 
@@ -1087,12 +1106,15 @@ def verdict_line(answer):
 
 
 def check_two(name, book_bytes, second):
-    """The verdict of one of the three checking programs."""
+    """The verdict of one of the three checking programs; `unpack_plan` is what
+    check_assignment does when a third name is given."""
     answer = longer_input(book_bytes, second)
     if answer:
         return answer
     if name == "check_assignment":
-        return entry_check_assignment(book_bytes, second, LENT_BYTES)
+        return entry_check_assignment(book_bytes, second)
+    if name == "unpack_plan":
+        return entry_unpack_plan(book_bytes, second, LENT_BYTES)
     if name == "check_plan":
         return entry_check_plan(book_bytes, second, LENT_BYTES)
     return entry_check_refutation(book_bytes, second, LENT_WORDS,
@@ -1147,8 +1169,12 @@ def main(arguments):
                 file.write(out)
         sys.stdout.buffer.write(line)
         return 0
+    has_output = len(arguments) > 1 + inputs
+    if name == "check_assignment" and has_output:
+        # P6: only a call that has somewhere "to put a plan" unpacks
+        name = "unpack_plan"
     answer = rewrite(*given) if inputs == 1 else check_two(name, *given)
-    if len(arguments) > 1 + inputs and answer[0] == "accepted":
+    if has_output and answer[0] == "accepted":
         with open(arguments[1 + inputs], "wb") as file:
             file.write(answer[1])
     sys.stdout.buffer.write(verdict_line(answer))

@@ -384,8 +384,8 @@ def some_of(items, most):
 
 def check_satisfied(data, book, solver):
     assignment = bytes(1 if v > 0 else 0 for v in solver.value[1:])
-    answer = ref.entry_check_assignment(data, assignment, ref.plan_length(book))
-    assert answer[0] == "accepted"
+    answer = ref.entry_unpack_plan(data, assignment, ref.plan_length(book))
+    assert answer[0] == "accepted" and ref.entry_check_assignment(data, assignment) == ("accepted",)
     assert ref.broken_rule(book, *ref.read_plan(book, answer[1])) == 0
     check_kept(data, answer[1])
 
@@ -395,7 +395,7 @@ def check_written(data, book, plan, answer):
     if answer[1] == 15:
         return
     assignment = ref.write_assignment(book, *ref.read_plan(book, plan))
-    again = ref.entry_check_assignment(data, assignment, len(plan))
+    again = ref.entry_check_assignment(data, assignment)
     assert (answer[0] == "accepted") == (again[0] == "accepted")
 
 
@@ -403,7 +403,7 @@ def check_kept(data, plan):
     """A plan that keeps the rules comes back from its assignment."""
     answer = ref.entry_check_plan(data, plan, 10 ** 6)
     assert answer[0] == "accepted"
-    again = ref.entry_check_assignment(data, answer[1], len(plan))
+    again = ref.entry_unpack_plan(data, answer[1], len(plan))
     assert again == ("accepted", plan)
 
 
@@ -449,7 +449,7 @@ def check_second_inputs(rng, count):
         done += 1
         good = solved(book)
         for second in random_assignments(rng, book, 12, good):
-            answer = ref.entry_check_assignment(data, second, 700)
+            answer = ref.entry_check_assignment(data, second)
             tally["assignments"][answer_name(answer)] += 1
         for second in random_plans(rng, book, 20, good):
             answer = ref.entry_check_plan(data, second, 100000)

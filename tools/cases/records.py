@@ -4,10 +4,11 @@ A record is one byte, the question's letter; three four-byte little-endian lengt
 bytes each. For a capital letter the parts are a book, a second input, and four-byte little-endian numbers that say how much is lent;
 where one is missing, it is as much as the programs lend.
 
-  B  read the book: its counts                        A  check an assignment: the verdict, and an accepted one's plan
-  R  its run lists                                    P  check a plan: the verdict, and an accepted one's assignment
-  F  its formula's text                               N  check a refutation: the verdict
-  D  that text's length and checksum                  U  rewrite an old book: the verdict, and an accepted one's new book
+  B  read the book: its counts                        A  unpack an assignment's plan: the verdict, and an accepted one's plan; then judge
+  R  its run lists                                       the assignment alone: the verdict
+  F  its formula's text                               P  check a plan: the verdict, and an accepted one's assignment
+  D  that text's length and checksum                  N  check a refutation: the verdict
+                                                      U  rewrite an old book: the verdict, and an accepted one's new book
                                                       G  draw a plan's train graph: the verdict, and an accepted one's page
                                                       C  list the borders that carry a plan: the verdict, and the list, if it has entries
 
@@ -165,7 +166,10 @@ def verdict_answer(found):
 
 
 def assignment_answer(record, files):
-    return verdict_answer(reference.entry_check_assignment(*record.parts[:2], *lent(record)))
+    """Unpacked, then judged alone."""
+    unpacked = verdict_answer(reference.entry_unpack_plan(*record.parts[:2], *lent(record)))
+    judged = verdict_answer(reference.entry_check_assignment(*record.parts[:2]))
+    return Answer(unpacked.name, unpacked.data + judged.data)
 
 
 def plan_answer(record, files):
@@ -200,7 +204,7 @@ def command_says(question, book, second, result, files):
         return reference.print_formula(*inputs)
     if command == "print_graph":
         return reference.print_graph(*inputs)
-    line, made = answered(command, *inputs)
+    line, made = answered(command, *inputs, named=bool(result))
     if made is not None and result:
         files[result] = made
     return line

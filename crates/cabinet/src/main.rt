@@ -1,7 +1,7 @@
 // cabinet COMMAND ..: the commands over the core, one program for all.
 //
 //   print_formula < BOOK                      prints the book's formula in DIMACS CNF
-//   check_assignment BOOK ASSIGNMENT [PLAN]   an accepted assignment's plan goes to the third file
+//   check_assignment BOOK ASSIGNMENT [PLAN]   with a third name an accepted assignment's plan goes there
 //   check_plan BOOK PLAN [ASSIGNMENT]         an accepted plan is written as an assignment
 //   check_refutation BOOK REFUTATION
 //   upgrade_book OLD NEW                      an old book is rewritten in the format in force
@@ -18,6 +18,7 @@ use libc::STDERR_FILENO;
 use libc::STDIN_FILENO;
 use programs::printing::print_formula_from;
 use programs::verdicts::Check;
+use programs::verdicts::assignment_check;
 use programs::verdicts::graph_files;
 use programs::verdicts::judge_files;
 use programs::verdicts::upgrade_file;
@@ -84,7 +85,7 @@ fn main() {
     match command {
         Command::PrintFormula => print_formula(),
         Command::CheckAssignment => judge(
-            Check::Assignment,
+            assignment_check(os::arg_count() == 5),
             4,
             5,
             b"usage: check_assignment BOOK ASSIGNMENT [PLAN]\n",

@@ -13,7 +13,7 @@ use reader::reading::OutputAnswer;
 ghost use mathlib.Core.Path.{_≡_};
 ghost use lib.ListN.{length};
 
-// The verdict on an assignment or a plan, with as much of the output lent as the numbers say.
+// The verdict of a check, with as much of the output lent as the numbers say.
 fn verdict(
     check: Check,
     book: &[u8],
@@ -42,6 +42,12 @@ pub fn judge(check: Check, book: &[u8], second: &[u8], numbers: &[u8]) {
     let mut line = [0u8; 64];
     let said = verdict(check, book, second, numbers, &mut out, &mut line);
     print_said(said, &line, &out);
+}
+
+// The verdict on an assignment that is unpacked, then on the same one judged alone.
+pub fn judge_assignment(book: &[u8], second: &[u8], numbers: &[u8]) {
+    judge(Check::Unpacking, book, second, numbers);
+    judge(Check::Assignment, book, second, numbers);
 }
 
 // The answer to a plan whose train graph is asked for, with as much of the output lent as the numbers say.

@@ -4,10 +4,11 @@
 // input, and numbers of four bytes that say how much is lent; where one is missing, as much as the
 // commands lend. For a small letter they are the names of files.
 //
-//   B  a book's counts             A  an assignment's verdict     f a p n u g c  what print_formula, the
-//   R  its run lists               P  a plan's                                   three checks, upgrade_book,
-//   F  its formula                 N  a refutation's                             print_graph and
-//   D  a digest of the formula     U  an old book's, rewritten                   list_carriers do with files
+//   B  a book's counts             A  an assignment's verdict,    f a p n u g c  what print_formula, the
+//   R  its run lists                  with its plan and alone                    three checks, upgrade_book,
+//   F  its formula                 P  a plan's                                   print_graph and
+//   D  a digest of the formula     N  a refutation's                             list_carriers do with files
+//                                  U  an old book's, rewritten
 //                                  G  a plan's, with its train graph
 //                                  C  a plan's, with its carriers
 mod books;
@@ -27,14 +28,14 @@ fn answer(question: u8, first: &[u8], second: &[u8], third: &[u8]) {
         b'R' => books::print_runs(first),
         b'F' => formulas::print_formula(first, third),
         b'D' => formulas::print_digest(first, third),
-        b'A' => judging::judge(Check::Assignment, first, second, third),
+        b'A' => judging::judge_assignment(first, second, third),
         b'P' => judging::judge(Check::Plan, first, second, third),
         b'N' => judging::refute(first, second, third),
         b'U' => judging::upgrade(first, third),
         b'G' => judging::draw(first, second, third),
         b'C' => judging::judge(Check::Carriers, first, second, third),
         b'f' => files::print_formula(first, third),
-        b'a' => files::judge(Check::Assignment, first, second, third),
+        b'a' => files::judge_assignment(first, second, third),
         b'p' => files::judge(Check::Plan, first, second, third),
         b'n' => files::judge(Check::Refutation, first, second, third),
         b'u' => files::upgrade(first, third),

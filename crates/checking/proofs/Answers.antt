@@ -12,7 +12,7 @@ use Rattle.spec.specs.Instance.{Instance}
 use Rattle.spec.specs.Plan.{Plan, planFits, planLength, planOf}
 use Rattle.spec.specs.Formula.{variables}
 use Rattle.spec.specs.Assignment.{assigned, decoded, decode, encode}
-use Rattle.spec.specs.Entry.{demand, overwrite, written, judgeAssignment, judgePlan, decodedFor, encodedFor, admitPlan}
+use Rattle.spec.specs.Entry.{demand, overwrite, written, judgeAssignment, judgePlan, unpackedFor, encodedFor, admitPlan}
 use Rattle.demands.proofs.Encoding.{length-plan, length-encode}
 use Rattle.demands.proofs.Entries.{plan-iff}
 use Rattle.demands.proofs.Extra.{extra-length}
@@ -64,7 +64,7 @@ module _ (need : ℕ) (out old : Bytes) where
   left-accepted (accepted u) h e f g = rw (le-leb need (length old) h) (ap {B = OutputAnswer} Wrote f, g)
   left-accepted (refused k c) h e f g = not-both e
 
--- ---- the two checks
+-- ---- unpacking, and the check of a plan
 
 -- a plan that is accepted fits
 pub plan-fits : (I : Instance) (s : Bytes) → judgePlan I s ≡ accepted tt → T (planFits I s)
@@ -79,22 +79,22 @@ pub length-assignment : (I : Instance) (p : Plan) → length (encode I p) ≡ va
 length-assignment I p = length-encode I p (extra-length I p)
 
 module _ (I : Instance) (s old : Bytes) where
-  -- of an assignment
-  abbrev pub Decoded : OutputAnswer → Bytes → Type 0
-  Decoded answer new = Left (decodedFor I s (length old)) old answer new
+  -- of an assignment: the output is the plan that it decodes to
+  abbrev pub Unpacked : OutputAnswer → Bytes → Type 0
+  Unpacked answer new = Left (unpackedFor I s (length old)) old answer new
 
-  pub decoded-short : length old < planLength I → Decoded (Refused 12 0) old
-  unfolding decodedFor
-  decoded-short h = left-short (planLength I) (decode I s) old (judgeAssignment I s) h
+  pub unpacked-short : length old < planLength I → Unpacked (Refused 12 0) old
+  unfolding unpackedFor
+  unpacked-short h = left-short (planLength I) (decode I s) old (judgeAssignment I s) h
 
-  pub decoded-refused : {n d : ℕ} → planLength I ≤ length old → judged.Refused n d ≡ answerOf (judgeAssignment I s) → Decoded (Refused n d) old
-  unfolding decodedFor
-  decoded-refused h e = left-refused (planLength I) (decode I s) old (judgeAssignment I s) h e
+  pub unpacked-refused : {n d : ℕ} → planLength I ≤ length old → judged.Refused n d ≡ answerOf (judgeAssignment I s) → Unpacked (Refused n d) old
+  unfolding unpackedFor
+  unpacked-refused h e = left-refused (planLength I) (decode I s) old (judgeAssignment I s) h e
 
-  pub decoded-accepted : {n : ℕ} {new : Bytes} → planLength I ≤ length old → judged.Accepted ≡ answerOf (judgeAssignment I s)
-      → n ≡ length (decode I s) → new ≡ overwrite old (decode I s) → Decoded (Wrote n) new
-  unfolding decodedFor
-  decoded-accepted h e f g = left-accepted (planLength I) (decode I s) old (judgeAssignment I s) h e f g
+  pub unpacked-accepted : {n : ℕ} {new : Bytes} → planLength I ≤ length old → judged.Accepted ≡ answerOf (judgeAssignment I s)
+      → n ≡ length (decode I s) → new ≡ overwrite old (decode I s) → Unpacked (Wrote n) new
+  unfolding unpackedFor
+  unpacked-accepted h e f g = left-accepted (planLength I) (decode I s) old (judgeAssignment I s) h e f g
 
 -- of a plan: the output is the assignment that it is written as
 module _ (I : Instance) (s old : Bytes) where

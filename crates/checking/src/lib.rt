@@ -1,7 +1,7 @@
 // The checks of what a solver or a planner hands over. `check_assignment` takes any bytes as a book and as
-// an assignment and decodes it; `check_plan` takes any bytes as a book and as a plan and writes it as
-// an assignment. Each answers accepted, with its output written, or one numbered refusal, with the
-// output as it was. Assumes nothing.
+// an assignment and judges it; `unpack_plan` judges it too, and decodes it; `check_plan` takes any bytes as a
+// book and as a plan and writes it as an assignment. Each answers accepted, with its output written, if it
+// has one, or one numbered refusal, with the output as it was. Assumes nothing.
 use formula::judging::judge_assignment;
 use layout::moves::plan_length;
 use layout::numbering::variable_count;
@@ -28,12 +28,32 @@ ghost use Rattle.spec.specs.Plan.{planFits, planOf};
 ghost use Rattle.spec.specs.Formula.{variables};
 ghost use Rattle.spec.specs.Assignment as assignment;
 ghost use Rattle.spec.specs.Held.{held};
-ghost use Rattle.spec.specs.Entry.{overwrite, written, decodedFor, encodedFor, checkAssignment, checkPlan, planOutput, assignmentOutput};
+ghost use Rattle.spec.specs.Entry.{overwrite, written, checkAssignment, unpackedFor, unpackPlan, planOutput, encodedFor, checkPlan, assignmentOutput};
 ghost use Rattle.tables.specs.Ready.{RunsReady, ChainsReady, MeetsReady};
+ghost use Rattle.reader.specs.BookAnswers.{answerOf};
 ghost use Rattle.reader.specs.OutputAnswers.{outputAnswer};
 
+// An entry point: whether an assignment satisfies the formula of a book. It is lent nothing.
+pub fn check_assignment(book: &[u8], values: &[u8]) -> Answer
+    ensures { λ r. ⌜ r ≡ answerOf (checkAssignment (now (book .entry)) (now (values .entry))) ⌝ }
+{
+    let mut runs = [0u8; TABLE_BYTES];
+    let mut chains = [0usize; ALL_CHAINS];
+    let mut meets = [0u8; MEET_BYTES];
+    let p = prepare_chains(book, &mut runs, &mut chains, &mut meets);
+    let end = p.meet_bytes;
+    let read = p.read;
+    let b = read.book;
+    let counts = read.counts;
+    let answer = read.answer;
+    match answer {
+        Answer::Refused(number, detail) => Answer::Refused(number, detail),
+        Answer::Accepted => judge_assignment(b, counts, &runs, &chains, &meets[..end], values),
+    }
+}
+
 // 12, then the verdict on an assignment, then its plan, by the tables of a book.
-fn decode_by(
+fn unpack_by(
     b: Book,
     counts: Counts,
     runs: &[u8],
@@ -43,8 +63,8 @@ fn decode_by(
     out: &mut [u8],
 ) -> OutputAnswer
     requires { ⌜ RunsReady b counts (now runs) × ChainsReady b (now chains) × MeetsReady b (now meets) ⌝ }
-    ensures { λ r. ⌜ (r ≡ outputAnswer (decodedFor (instanceOf (held b)) (now (values .entry)) (length (now (out .entry)))))
-        × (now (out .exit) ≡ overwrite (now (out .entry)) (written (decodedFor (instanceOf (held b)) (now (values .entry)) (length (now (out .entry)))))) ⌝ }
+    ensures { λ r. ⌜ (r ≡ outputAnswer (unpackedFor (instanceOf (held b)) (now (values .entry)) (length (now (out .entry)))))
+        × (now (out .exit) ≡ overwrite (now (out .entry)) (written (unpackedFor (instanceOf (held b)) (now (values .entry)) (length (now (out .entry)))))) ⌝ }
 {
     let length = plan_length(b);
     if out.len() < length {
@@ -60,9 +80,9 @@ fn decode_by(
     }
 }
 
-// An entry point: whether an assignment satisfies the formula of a book, and the plan that it decodes to.
-pub fn check_assignment(book: &[u8], values: &[u8], out: &mut [u8]) -> OutputAnswer
-    ensures { λ r. ⌜ (r ≡ outputAnswer (checkAssignment (now (book .entry)) (now (values .entry)) (length (now (out .entry)))))
+// An entry point: the plan that an assignment decodes to. The assignment is judged first.
+pub fn unpack_plan(book: &[u8], values: &[u8], out: &mut [u8]) -> OutputAnswer
+    ensures { λ r. ⌜ (r ≡ outputAnswer (unpackPlan (now (book .entry)) (now (values .entry)) (length (now (out .entry)))))
         × (now (out .exit) ≡ planOutput (now (book .entry)) (now (values .entry)) (now (out .entry))) ⌝ }
 {
     let mut runs = [0u8; TABLE_BYTES];
@@ -76,7 +96,7 @@ pub fn check_assignment(book: &[u8], values: &[u8], out: &mut [u8]) -> OutputAns
     let answer = read.answer;
     match answer {
         Answer::Refused(number, detail) => OutputAnswer::Refused(number, detail),
-        Answer::Accepted => decode_by(b, counts, &runs, &chains, &meets[..end], values, out),
+        Answer::Accepted => unpack_by(b, counts, &runs, &chains, &meets[..end], values, out),
     }
 }
 

@@ -20,14 +20,14 @@ use Rattle.spec.specs.Plan.{Plan, IsPlan, ofRun, planFits, planOf, planLength, 
 use Rattle.spec.specs.Formula.{formula, variables, claimVar, wordsOf}
 use Rattle.spec.specs.Assignment.{satisfies, assigned, assignmentFits, decode, claims, encode}
 use Rattle.spec.specs.Refutation.{ProofStep, Lent}
-use Rattle.spec.specs.Entry.{overwrite, written, formulaWritten, writeFormula, formulaOutput, decodedFor, encodedFor, afterPlan, planOutput, assignmentOutput, checkAssignment, checkPlan, checkRefutation, refutedFor, wordsAfter}
+use Rattle.spec.specs.Entry.{overwrite, written, formulaWritten, writeFormula, formulaOutput, checkAssignment, unpackedFor, unpackPlan, planOutput, encodedFor, afterPlan, checkPlan, assignmentOutput, checkRefutation, refutedFor, wordsAfter}
 pub use Rattle.demands.specs.Claims.{IsRefutation, LongEnough, Holds}
 use Rattle.demands.proofs.Encoding.{shape, assigned-claim}
 use Rattle.demands.proofs.Extra.{no-condition}
 use Rattle.demands.proofs.Plans.{plan-satisfies, plan-fits, run-inside, decoded-fits, decoded-coded, decoded-keeps, decode-encoded}
 use Rattle.demands.proofs.Coding.{Codes}
 use Rattle.demands.proofs.Sections.{together-chain}
-use Rattle.demands.proofs.Entries.{write-formula, check-assignment, check-plan, check-refutation, assignment-iff, plan-iff, no-broken, read-of}
+use Rattle.demands.proofs.Entries.{write-formula, check-assignment, unpack-plan, check-plan, check-refutation, assignment-iff, plan-iff, no-broken, read-of}
 use Rattle.demands.proofs.Refuting.{refuted}
 use Rattle.demands.proofs.Files.{file-iff}
 
@@ -51,73 +51,80 @@ formula-written book b old read room =
     (e, ap (λ (xs : List ℤ). xs ++ drop (length xs) old) (ap (λ v. written (andThen v λ r. accepted (r .words))) e))
 
 -- "For a book that passes, with lent memory as long as document 01 names, every assignment that satisfies it is accepted and
--- decodes to a plan that keeps the six plan rules": the plan check accepts the bytes.
+-- decodes to a plan that keeps the six plan rules": it is judged good, and what it is unpacked to the plan check accepts.
 pub satisfying-assignment-accepted : (book assignment : Bytes) (b : Book) (planSlice assignmentSlice : ℕ)
     → readBook book ≡ accepted b
     → planLength (instanceOf b) ≤ planSlice → variables (instanceOf b) ≤ assignmentSlice
     → T (assignmentFits (instanceOf b) assignment) → T (satisfies (assigned assignment) (formula (instanceOf b)))
-    → (plan : Bytes) × (checkAssignment book assignment planSlice ≡ accepted plan)
+    → (checkAssignment book assignment ≡ accepted tt)
+    × ((plan : Bytes) × (unpackPlan book assignment planSlice ≡ accepted plan)
     × T (keepsRules (instanceOf b) (planOf (instanceOf b) plan))
-    × ((back : Bytes) × (checkPlan book plan assignmentSlice ≡ accepted back))
+    × ((back : Bytes) × (checkPlan book plan assignmentSlice ≡ accepted back)))
 satisfying-assignment-accepted book s b n m read room roomBack fits sat =
     let I = instanceOf b in
-    let keeps = decoded-keeps book b read s sat in (
-      decode I s,
-      check-assignment book b read s n (decode I s) .1 (room, assignment-iff I s .1 (fits, sat), refl),
-      keeps,
+    let keeps = decoded-keeps book b read s sat in
+    let good = assignment-iff I s .1 (fits, sat) in (
+      check-assignment book b read s ∙ good,
       (
-        encode I (planOf I (decode I s)),
-        check-plan book b read (decode I s) m _ .1 (roomBack, plan-iff I (decode I s) .1 (decoded-fits book b read s sat, keeps), refl),
+        decode I s,
+        unpack-plan book b read s n (decode I s) .1 (room, good, refl),
+        keeps,
+        (
+          encode I (planOf I (decode I s)),
+          check-plan book b read (decode I s) m _ .1 (roomBack, plan-iff I (decode I s) .1 (decoded-fits book b read s sat, keeps), refl),
+        ),
       ),
     )
 
 -- "Every plan that keeps them is accepted, and is written as an assignment that decodes to that same plan": the assignment
--- satisfies the formula, is accepted, and decodes to the plan's very bytes.
+-- satisfies the formula, is accepted, and is unpacked to the plan's very bytes.
 pub keeping-plan-accepted : (book plan : Bytes) (b : Book) (planSlice assignmentSlice : ℕ)
     → readBook book ≡ accepted b
     → planLength (instanceOf b) ≤ planSlice → variables (instanceOf b) ≤ assignmentSlice
     → T (bytes plan) → T (planFits (instanceOf b) plan) → T (keepsRules (instanceOf b) (planOf (instanceOf b) plan))
     → (assignment : Bytes) × (checkPlan book plan assignmentSlice ≡ accepted assignment)
     × T (satisfies (assigned assignment) (formula (instanceOf b)))
-    × (checkAssignment book assignment planSlice ≡ accepted plan)
+    × (checkAssignment book assignment ≡ accepted tt)
+    × (unpackPlan book assignment planSlice ≡ accepted plan)
 keeping-plan-accepted book plan b n m read room roomBack isBytes fits keeps =
     let I = instanceOf b in
     let p = planOf I plan in
-    let sat = plan-satisfies book b read p (shape I plan isBytes fits .2) keeps (no-condition I p) in (
+    let sat = plan-satisfies book b read p (shape I plan isBytes fits .2) keeps (no-condition I p) in
+    let good = assignment-iff I (encode I p) .1 (plan-fits book b read p, sat) in (
       encode I p,
       check-plan book b read plan m _ .1 (roomBack, plan-iff I plan .1 (fits, keeps), refl),
       sat,
-      check-assignment book b read (encode I p) n plan .1
-          (room, assignment-iff I (encode I p) .1 (plan-fits book b read p, sat), decode-encoded book b read plan isBytes fits keeps (no-condition I p)),
+      check-assignment book b read (encode I p) ∙ good,
+      unpack-plan book b read (encode I p) n plan .1 (room, good, decode-encoded book b read plan isBytes fits keeps (no-condition I p)),
     )
 
 -- what was accepted is one result
 result-is : {x y : Bytes} → accepted x ≡ accepted y → x ≡ y
 result-is e = cc
 
--- The two checks agree, whatever bytes they were handed: the plan that an accepted assignment decodes to is accepted,
+-- The checks agree, whatever bytes they were handed: the plan that an accepted assignment is unpacked to is accepted,
 pub decoded-plan-accepted : (book assignment plan : Bytes) (b : Book) (planSlice assignmentSlice : ℕ) → readBook book ≡ accepted b
-    → variables (instanceOf b) ≤ assignmentSlice → checkAssignment book assignment planSlice ≡ accepted plan
+    → variables (instanceOf b) ≤ assignmentSlice → unpackPlan book assignment planSlice ≡ accepted plan
     → (back : Bytes) × (checkPlan book plan assignmentSlice ≡ accepted back)
 decoded-plan-accepted book s plan b n m read roomBack e =
     let I = instanceOf b in
-    let k = check-assignment book b read s n plan .0 e in
+    let k = unpack-plan book b read s n plan .0 e in
     let j = assignment-iff I s .0 (k .1) in
-    let t = satisfying-assignment-accepted book s b n m read (k .0) roomBack (j .0) (j .1) in
+    let t = satisfying-assignment-accepted book s b n m read (k .0) roomBack (j .0) (j .1) .1 in
     let same : t .0 ≡ plan = result-is (sym (t .1) ∙ e) in
     subst (λ (x : Bytes). (back : Bytes) × (checkPlan book x m ≡ accepted back)) same (t .3)
 
--- and the assignment that an accepted plan is written as is accepted, and decodes to the plan's very bytes.
+-- and the assignment that an accepted plan is written as is accepted, and is unpacked to the plan's very bytes.
 pub written-assignment-accepted : (book plan assignment : Bytes) (b : Book) (planSlice assignmentSlice : ℕ) → readBook book ≡ accepted b
     → planLength (instanceOf b) ≤ planSlice → T (bytes plan) → checkPlan book plan assignmentSlice ≡ accepted assignment
-    → checkAssignment book assignment planSlice ≡ accepted plan
+    → (checkAssignment book assignment ≡ accepted tt) × (unpackPlan book assignment planSlice ≡ accepted plan)
 written-assignment-accepted book plan s b n m read room isBytes e =
     let I = instanceOf b in
     let k = check-plan book b read plan m s .0 e in
     let j = plan-iff I plan .0 (k .1) in
     let t = keeping-plan-accepted book plan b n m read room (k .0) isBytes (j .0) (j .1) in
     let same : t .0 ≡ s = result-is (sym (t .1) ∙ e) in
-    subst (λ (x : Bytes). checkAssignment book x n ≡ accepted plan) same (t .3)
+    subst (λ (x : Bytes). (checkAssignment book x ≡ accepted tt) × (unpackPlan book x n ≡ accepted plan)) same (t .3, t .4)
 
 -- "A plan's assignment claims exactly the sections its runs touch": in an interval, the claim of a segment is 1 exactly where a chain
 -- of segments under the plan's borders leads to it from a segment of the train's run.
@@ -146,22 +153,47 @@ claims-exact book plan assignment b n read e i l t h s k =
 
 -- ---- Demand 3
 
--- "an accepted assignment decodes to a plan that keeps the rules": to the plan that the assignment's own variables say (`Codes`)
-pub accepted-assignment-is-plan : (book assignment plan : Bytes) (planSlice : ℕ) → checkAssignment book assignment planSlice ≡ accepted plan
+-- "an accepted assignment decodes to a plan that keeps the rules": to the plan that the assignment's own variables say (`Codes`).
+-- Where the unpacker accepts, that is the plan that it writes,
+pub unpacked-plan-keeps : (book assignment plan : Bytes) (planSlice : ℕ) → unpackPlan book assignment planSlice ≡ accepted plan
     → (b : Book) × (readBook book ≡ accepted b) × T (planFits (instanceOf b) plan)
     × Codes (instanceOf b) (assigned assignment) (planOf (instanceOf b) plan) × T (keepsRules (instanceOf b) (planOf (instanceOf b) plan))
-unfolding checkAssignment decodedFor
-accepted-assignment-is-plan book s plan n e =
+unfolding unpackPlan
+unpacked-plan-keeps book s plan n e =
     let r = read-of book _ plan e in
     let b = r .0 in
     let I = instanceOf b in
-    let k = check-assignment book b (r .1) s n plan .0 e in
+    let k = unpack-plan book b (r .1) s n plan .0 e in
     let sat = assignment-iff I s .0 (k .1) .1 in (
       b,
       r .1,
       subst (λ (x : Bytes). T (planFits I x)) (k .2) (decoded-fits book b (r .1) s sat),
       subst (λ (x : Bytes). Codes I (assigned s) (planOf I x)) (k .2) (decoded-coded book b (r .1) s sat),
       subst (λ (x : Bytes). T (keepsRules I (planOf I x))) (k .2) (decoded-keeps book b (r .1) s sat),
+    )
+
+-- and where the judge accepts, such a plan there is, and the unpacker writes it into any slice that is as long.
+pub accepted-assignment-is-plan : (book assignment : Bytes) → checkAssignment book assignment ≡ accepted tt
+    → (b : Book) × (readBook book ≡ accepted b) × ((plan : Bytes)
+    × ((planSlice : ℕ) → planLength (instanceOf b) ≤ planSlice → unpackPlan book assignment planSlice ≡ accepted plan)
+    × T (planFits (instanceOf b) plan)
+    × Codes (instanceOf b) (assigned assignment) (planOf (instanceOf b) plan) × T (keepsRules (instanceOf b) (planOf (instanceOf b) plan)))
+unfolding checkAssignment
+accepted-assignment-is-plan book s e =
+    let r = read-of book _ tt e in
+    let b = r .0 in
+    let I = instanceOf b in
+    let good = sym (check-assignment book b (r .1) s) ∙ e in
+    let sat = assignment-iff I s .0 good .1 in (
+      b,
+      r .1,
+      (
+        decode I s,
+        (λ n room. unpack-plan book b (r .1) s n (decode I s) .1 (room, good, refl)),
+        decoded-fits book b (r .1) s sat,
+        decoded-coded book b (r .1) s sat,
+        decoded-keeps book b (r .1) s sat,
+      ),
     )
 
 -- "an accepted refutation means that every plan for that book breaks one, over every allowed set of borders and every
@@ -187,24 +219,47 @@ accepted-refutation-no-plan book r lent e =
         go none e = absurd (h (no-broken I p .0 e))
         go (some n) e = (n, e)
 
--- "so no book ever has both accepted, whichever solvers they come from", whatever slices each was lent
-pub never-both : (book assignment plan refutation : Bytes) (planSlice : ℕ) (lent : Lent)
-    → checkAssignment book assignment planSlice ≡ accepted plan → checkRefutation book refutation lent ≡ accepted tt → ⊥
-unfolding checkAssignment decodedFor
-never-both book s plan r n lent e f =
-    let k = read-of book _ plan e in
+-- "so no book ever has both accepted, whichever solvers they come from", whatever slices each was lent: not where the judge accepts,
+pub never-both : (book assignment refutation : Bytes) (lent : Lent)
+    → checkAssignment book assignment ≡ accepted tt → checkRefutation book refutation lent ≡ accepted tt → ⊥
+unfolding checkAssignment
+never-both book s r lent e f =
+    let k = read-of book _ tt e in
     let I = instanceOf (k .0) in
     refuted lent (variables I) (formula I) r (check-refutation book (k .0) (k .1) r lent .0 f .1) (assigned s)
-    (assignment-iff I s .0 (check-assignment book (k .0) (k .1) s n plan .0 e .1) .1)
+    (assignment-iff I s .0 (sym (check-assignment book (k .0) (k .1) s) ∙ e) .1)
 
--- "an assignment is accepted exactly when it satisfies that document's formula"
-pub assignment-exact : (book assignment : Bytes) (b : Book) (planSlice : ℕ) → readBook book ≡ accepted b → planLength (instanceOf b) ≤ planSlice
-    → ((plan : Bytes) × (checkAssignment book assignment planSlice ≡ accepted plan))
+-- and not where the unpacker does, which accepts what the judge accepts.
+pub unpacked-judged : (book assignment plan : Bytes) (planSlice : ℕ) → unpackPlan book assignment planSlice ≡ accepted plan
+    → checkAssignment book assignment ≡ accepted tt
+unfolding unpackPlan
+unpacked-judged book s plan n e =
+    let r = read-of book _ plan e in
+    check-assignment book (r .0) (r .1) s ∙ unpack-plan book (r .0) (r .1) s n plan .0 e .1
+
+pub never-both-unpacked : (book assignment plan refutation : Bytes) (planSlice : ℕ) (lent : Lent)
+    → unpackPlan book assignment planSlice ≡ accepted plan → checkRefutation book refutation lent ≡ accepted tt → ⊥
+never-both-unpacked book s plan r n lent e f = never-both book s r lent (unpacked-judged book s plan n e) f
+
+-- "an assignment is accepted exactly when it satisfies that document's formula": by the judge,
+pub assignment-exact : (book assignment : Bytes) (b : Book) → readBook book ≡ accepted b
+    → (checkAssignment book assignment ≡ accepted tt)
     ↔ (T (assignmentFits (instanceOf b) assignment) × T (satisfies (assigned assignment) (formula (instanceOf b))))
-assignment-exact book s b n read room =
+assignment-exact book s b read =
+    let I = instanceOf b in
+    let same = check-assignment book b read s in (
+      (λ e. assignment-iff I s .0 (sym same ∙ e)),
+      (λ h. same ∙ assignment-iff I s .1 h),
+    )
+
+-- and by the unpacker, "with lent memory as long as document 01 names".
+pub unpacking-exact : (book assignment : Bytes) (b : Book) (planSlice : ℕ) → readBook book ≡ accepted b → planLength (instanceOf b) ≤ planSlice
+    → ((plan : Bytes) × (unpackPlan book assignment planSlice ≡ accepted plan))
+    ↔ (T (assignmentFits (instanceOf b) assignment) × T (satisfies (assigned assignment) (formula (instanceOf b))))
+unpacking-exact book s b n read room =
     let I = instanceOf b in (
-      (λ e. assignment-iff I s .0 (check-assignment book b read s n (e .0) .0 (e .1) .1)),
-      (λ h. (decode I s, check-assignment book b read s n (decode I s) .1 (room, assignment-iff I s .1 h, refl))),
+      (λ e. assignment-iff I s .0 (unpack-plan book b read s n (e .0) .0 (e .1) .1)),
+      (λ h. (decode I s, unpack-plan book b read s n (decode I s) .1 (room, assignment-iff I s .1 h, refl))),
     )
 
 -- "a refutation exactly when it is in document 01's frames, literals and hints as laid down there, each of its steps follows the
@@ -234,14 +289,14 @@ formula-output book old = (
   (λ n d e. ap (λ v. overwrite old (written (andThen v λ w. accepted (w .words)))) e),
 )
 
--- the plan that an assignment decodes to
+-- the plan that an assignment is unpacked to
 pub plan-output : (book assignment old : Bytes)
-    → Holds (checkAssignment book assignment (length old)) (λ plan. plan) old (planOutput book assignment old)
+    → Holds (unpackPlan book assignment (length old)) (λ plan. plan) old (planOutput book assignment old)
 unfolding planOutput overwrite written planFits
 plan-output book s old = (
   (λ plan e.
-      let a = accepted-assignment-is-plan book s plan (length old) e in
-      let k = check-assignment book (a .0) (a .1) s (length old) plan .0 e in
+      let a = unpacked-plan-keeps book s plan (length old) e in
+      let k = unpack-plan book (a .0) (a .1) s (length old) plan .0 e in
       let fits = simp (and-iff, eqb-iff) at (a .2) in
       (omega (arith, fits .0, k .0), ap (λ v. overwrite old (written v)) e)),
   (λ n d e. ap (λ v. overwrite old (written v)) e),

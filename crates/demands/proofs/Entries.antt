@@ -17,7 +17,7 @@ use Rattle.spec.specs.Plan.{Plan, planFits, planOf, planLength, ruleFaults, bro
 use Rattle.spec.specs.Formula.{Clause, formula, variables, wordsOf}
 use Rattle.spec.specs.Assignment.{satisfies, holds, firstFalse, assigned, assignmentFits, decode, encode}
 use Rattle.spec.specs.Refutation.{Lent, checkFile}
-use Rattle.spec.specs.Entry.{demand, findNone, readInstance, Written, formulaWritten, writeFormula, judgeAssignment, judgePlan, decodedFor, checkAssignment, encodedFor, afterPlan, checkPlan, checkRefutation, refutedFor, formulaFits, writtenFor}
+use Rattle.spec.specs.Entry.{demand, findNone, readInstance, Written, formulaWritten, writeFormula, judgeAssignment, checkAssignment, unpackedFor, unpackPlan, judgePlan, encodedFor, afterPlan, checkPlan, checkRefutation, refutedFor, formulaFits, writtenFor}
 use Rattle.demands.proofs.Faults.{first-none, clear-first}
 
 -- ---- the parts of a check
@@ -140,11 +140,16 @@ module _ (book : Bytes) (b : Book) (read : readBook book ≡ accepted b) where
         (λ h. e ∙ k .1 (leb-iff _ n .1 (h .0), refl, h .1)),
       )
 
-  pub check-assignment : (s : Bytes) (n : ℕ) (plan : Bytes) → (checkAssignment book s n ≡ accepted plan)
+  -- judging from the book's bytes is judging for its instance
+  pub check-assignment : (s : Bytes) → checkAssignment book s ≡ judgeAssignment (instanceOf b) s
+  unfolding checkAssignment
+  check-assignment s = then-goes _ read-instance
+
+  pub unpack-plan : (s : Bytes) (n : ℕ) (plan : Bytes) → (unpackPlan book s n ≡ accepted plan)
       ↔ ((planLength (instanceOf b) ≤ n) × (judgeAssignment (instanceOf b) s ≡ accepted tt) × (decode (instanceOf b) s ≡ plan))
-  unfolding checkAssignment decodedFor
-  check-assignment s n plan =
-      let e : checkAssignment book s n ≡ _ = then-goes _ read-instance in
+  unfolding unpackPlan unpackedFor
+  unpack-plan s n plan =
+      let e : unpackPlan book s n ≡ _ = then-goes _ read-instance in
       let k = row-iff (leb (planLength (instanceOf b)) n) (judgeAssignment (instanceOf b) s) (decode (instanceOf b) s) plan in (
         (λ h. let r = k .0 (sym e ∙ h) in (leb-iff _ n .0 (r .0), r .1, r .2)),
         (λ h. e ∙ k .1 (leb-iff _ n .1 (h .0), h .1, h .2)),

@@ -14,11 +14,11 @@ use Rattle.spec.specs.Book.{Book, Call, nodeKindAt, segmentAt, callsOf, noCall,
 use Rattle.spec.specs.Runs.{endPlace, contains}
 use Rattle.spec.specs.Read.{between, readBook, wellFormed, mayDivide}
 use Rattle.spec.specs.Instance.{Instance, instanceOf, compile, runLists, runAt, trainLength, placeServes, endsAtExit, mayLeave}
-use Rattle.spec.specs.Plan.{Plan, Move, run, absent, gone, isGone, runs, isMove, IsPlan, planFits, planOf, ruleFaults, keepsRules, rule1, rule2, rule3, rule4, rule5, rule6}
+use Rattle.spec.specs.Plan.{Plan, Move, run, absent, gone, isGone, runs, isMove, IsPlan, planFits, planLength, planOf, ruleFaults, keepsRules, rule1, rule2, rule3, rule4, rule5, rule6}
 use Rattle.spec.specs.Formula.{not′, borderVar, runVar, goneVar, familyA, familyE, formula, variables}
 use Rattle.spec.specs.Assignment.{satisfies}
 use Rattle.spec.specs.Refutation.{Lent}
-use Rattle.spec.specs.Entry.{encodedFor, afterPlan, checkAssignment, checkPlan, checkRefutation}
+use Rattle.spec.specs.Entry.{checkAssignment, unpackPlan, encodedFor, afterPlan, checkPlan, checkRefutation}
 use Rattle.laws.proofs.Tests.{meaning, not-iff, true-of, and-iff, any-iff, any-upTo, all-upTo, all-at, eqb-iff, ltb-iff, leb-iff, le-or-lt, upTo-mem}
 use Rattle.laws.proofs.Rows.{any-map}
 use Rattle.laws.proofs.Last.{last-append, last-split, last-drop, last-picked, picked-split}
@@ -33,7 +33,7 @@ use Rattle.demands.proofs.Rules.{run≢gone}
 use Rattle.demands.proofs.Entries.{check-plan, plan-iff, no-broken, read-of}
 use Rattle.demands.proofs.Refusals.{plan-refused}
 use Rattle.demands.specs.Reasons.{ofInput, ruleBroken}
-use Rattle.demands.proofs.Demands.{accepted-assignment-is-plan, accepted-refutation-no-plan}
+use Rattle.demands.proofs.Demands.{accepted-assignment-is-plan, unpacked-plan-keeps, accepted-refutation-no-plan}
 
 -- ---- a run that gone may follow
 
@@ -315,11 +315,22 @@ module _ (book : Bytes) (b : Book) (read : readBook book ≡ accepted b) where
 
 -- ---- from arbitrary bytes: "both verdicts of the checker are about this rule"
 
--- of the plan that an accepted assignment decodes to,
-pub assignment-stays : (book assignment plan : Bytes) (planSlice : ℕ) → checkAssignment book assignment planSlice ≡ accepted plan
+-- of the plan that an accepted assignment decodes to, whether it is judged alone
+pub assignment-stays : (book assignment : Bytes) → checkAssignment book assignment ≡ accepted tt
+    → (b : Book) × (readBook book ≡ accepted b) × ((plan : Bytes)
+    × ((planSlice : ℕ) → planLength (instanceOf b) ≤ planSlice → unpackPlan book assignment planSlice ≡ accepted plan)
+    × Stays b (planOf (instanceOf b) plan))
+assignment-stays book s e =
+    let a = accepted-assignment-is-plan book s e in
+    let w = a .2 in
+    let I = instanceOf (a .0) in
+    (a .0, a .1, (w .0, w .1, keeping-stays book (a .0) (a .1) (planOf I (w .0)) (fitting I (w .0) (w .2)) (w .4)))
+
+-- or unpacked,
+pub unpacked-stays : (book assignment plan : Bytes) (planSlice : ℕ) → unpackPlan book assignment planSlice ≡ accepted plan
     → (b : Book) × (readBook book ≡ accepted b) × Stays b (planOf (instanceOf b) plan)
-assignment-stays book s plan n e =
-    let a = accepted-assignment-is-plan book s plan n e in
+unpacked-stays book s plan n e =
+    let a = unpacked-plan-keeps book s plan n e in
     let I = instanceOf (a .0) in
     (a .0, a .1, keeping-stays book (a .0) (a .1) (planOf I plan) (fitting I plan (a .2)) (a .4))
 

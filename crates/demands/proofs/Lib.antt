@@ -36,3 +36,5 @@ pub mod Leaving
 -- which borders carry a plan
 pub mod Meetings
 pub mod Carriers
+-- judging apart from unpacking
+pub mod Unpacking

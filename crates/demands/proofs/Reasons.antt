@@ -20,7 +20,7 @@ use Rattle.spec.specs.Plan.{Plan, planFits, planOf, planLength, brokenRule}
 use Rattle.spec.specs.Formula.{Clause, formula, variables, wordsOf}
 use Rattle.spec.specs.Assignment.{holds, firstFalse, assigned, assignmentFits, encode}
 use Rattle.spec.specs.Refutation.{Lent, clauseAt, stepFaults, checkSteps, checkFile, isBad}
-use Rattle.spec.specs.Entry.{demand, findNone, readInstance, writeFormula, formulaText, judgeAssignment, judgePlan, decodedFor, checkAssignment, encodedFor, checkPlan, checkRefutation, refutedFor, formulaFits, writtenFor}
+use Rattle.spec.specs.Entry.{demand, findNone, readInstance, writeFormula, formulaText, judgeAssignment, checkAssignment, unpackedFor, unpackPlan, judgePlan, encodedFor, checkPlan, checkRefutation, refutedFor, formulaFits, writtenFor}
 pub use Rattle.demands.specs.Reasons.{Refusal, ofBook, ofRoom, ofInput, LeastFalse, AssignmentFault, assignmentUnfit, clauseFalse, PlanFault, planUnfit, ruleBroken, StepsTo, firstStep, nextStep, RefutationFault, stepFault, noEnding, bytesAfter, Within}
 use Rattle.demands.proofs.Faults.{passes, FirstHolds, first-none, first-some, first-passes}
 use Rattle.demands.proofs.Reading.{as-refused, refusal-has-reason}
@@ -87,7 +87,7 @@ module _ (book : Bytes) (Short : Instance → Type 0) (Input : Instance → ℕ 
           ]
 
 -- a judgement, and what is then written
-judged-refused : {A : Type 0} {k d : ℕ} (v : Verdict (Unit {0})) (a : A) → (andThen v λ _. accepted a) ≡ refused k d → v ≡ refused k d
+pub judged-refused : {A : Type 0} {k d : ℕ} (v : Verdict (Unit {0})) (a : A) → (andThen v λ _. accepted a) ≡ refused k d → v ≡ refused k d
 judged-refused v a e = elim (then-refused v (λ _. accepted a) e) [ inl r ↦ r | inr r ↦ accepted≢refused (r .2) ]
 
 -- bytes that do not fit, or something found in them: the two parts of judging an assignment or a plan
@@ -148,17 +148,23 @@ least-false α cs d e =
     record { fromOne = omega arith; upToLast = omega arith; isFalse = rw i (r .3); lowerTrue = λ f a b. r .4 (f - 1) (omega arith) }
 
 -- 13 before 14
-assignment-fault : {k d : ℕ} (I : Instance) (s : Bytes) → judgeAssignment I s ≡ refused k d → AssignmentFault I s k d
+pub assignment-fault : {k d : ℕ} (I : Instance) (s : Bytes) → judgeAssignment I s ≡ refused k d → AssignmentFault I s k d
 unfolding judgeAssignment
 assignment-fault {d = d} I s e =
     elim (judge-refused (assignmentFits I s) (firstFalse (assigned s) 1 (formula I)) 13 14 e)
     [ inl r ↦ rw (r .1, r .2) (assignmentUnfit (r .0)) | inr r ↦ rw (r .2) (clauseFalse (r .0) (least-false (assigned s) (formula I) d (r .1))) ]
 
+-- Refused only by the book, or for what is wrong with the assignment: no slice is lent that could be short.
+pub assignment-refusal : (book assignment : Bytes) (k d : ℕ) → checkAssignment book assignment ≡ refused k d
+    → Refusal book (λ I. ⊥) (λ I. AssignmentFault I assignment) k d
+unfolding checkAssignment demand andThen
+assignment-refusal book s k d e = in-order book _ _ (λ I. true) _ (λ I. (λ h. h, λ h. h)) (λ I r. assignment-fault I s r) e
+
 -- Refused only by the book, by 12 where the plan is longer than the slice, or for what is wrong with the assignment.
-pub assignment-refusal : (book assignment : Bytes) (n k d : ℕ) → checkAssignment book assignment n ≡ refused k d
+pub unpacking-refusal : (book assignment : Bytes) (n k d : ℕ) → unpackPlan book assignment n ≡ refused k d
     → Refusal book (λ I. n < planLength I) (λ I. AssignmentFault I assignment) k d
-unfolding checkAssignment decodedFor
-assignment-refusal book s n k d e =
+unfolding unpackPlan unpackedFor
+unpacking-refusal book s n k d e =
     in-order book _ _ (λ I. leb (planLength I) n) _ (λ I. short-iff (planLength I) n)
     (λ I r. assignment-fault I s (judged-refused (judgeAssignment I s) _ r)) e
 
@@ -275,14 +281,26 @@ number-of (ofInput b read h f) = inr (instanceOf b, f)
 pub formula-number : (book : Bytes) (n k d : ℕ) → writeFormula book n ≡ refused k d → Within 1 12 k
 formula-number book n k d e = elim (number-of (formula-refusal book n k d e)) [ inl w ↦ w | inr f ↦ absurd (f .1) ]
 
--- An assignment is refused by 1 to 14.
-pub assignment-number : (book assignment : Bytes) (n k d : ℕ) → checkAssignment book assignment n ≡ refused k d → Within 1 14 k
-assignment-number book s n k d e =
-    elim (number-of (assignment-refusal book s n k d e)) [ inl w ↦ (omega arith, omega arith) | inr f ↦ own (f .1) ]
-  where
-    own : {I : Instance} {k d : ℕ} → AssignmentFault I s k d → Within 1 14 k
-    own (assignmentUnfit h) = (omega arith, omega arith)
-    own (clauseFalse h f) = (omega arith, omega arith)
+-- what is wrong with an assignment is 13 or 14
+pub fault-number : {I : Instance} {s : Bytes} {k d : ℕ} → AssignmentFault I s k d → Within 13 14 k
+fault-number (assignmentUnfit h) = (omega arith, omega arith)
+fault-number (clauseFalse h f) = (omega arith, omega arith)
+
+-- An assignment that is judged is refused by 1 to 11, 13 or 14: never by 12.
+pub assignment-number : (book assignment : Bytes) (k d : ℕ) → checkAssignment book assignment ≡ refused k d → Within 1 11 k ⊎ Within 13 14 k
+assignment-number book s k d e = elim (assignment-refusal book s k d e) [
+  | ofBook {k} r ↦ inl (read-number book k 0 r)
+  | ofRoom b read h ↦ absurd h
+  | ofInput b read h f ↦ inr (fault-number f)
+]
+
+-- A plan's unpacking is refused by 1 to 14.
+pub unpacking-number : (book assignment : Bytes) (n k d : ℕ) → unpackPlan book assignment n ≡ refused k d → Within 1 14 k
+unpacking-number book s n k d e =
+    elim (number-of (unpacking-refusal book s n k d e)) [
+      | inl w ↦ (omega arith, omega arith)
+      | inr f ↦ (let w = fault-number (f .1) in (omega arith, omega arith))
+    ]
 
 -- What is written of a plan is refused by 1 to 12, 15 or 16.
 pub written-number : (need : Instance → ℕ) (result : Instance → Plan → Bytes) (book plan : Bytes) (n k d : ℕ)

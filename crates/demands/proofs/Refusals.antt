@@ -18,7 +18,7 @@ use Rattle.spec.specs.Plan.{Plan, planFits, planOf, planLength, ruleFaults, bro
 use Rattle.spec.specs.Formula.{Clause, formula, variables, wordsOf}
 use Rattle.spec.specs.Assignment.{holds, satisfies, firstFalse, assigned, assignmentFits, encode}
 use Rattle.spec.specs.Refutation.{Lent, clauseAt, stepFaults, stepDetail, checkSteps, checkFile}
-use Rattle.spec.specs.Entry.{demand, findNone, readInstance, writeFormula, judgeAssignment, judgePlan, decodedFor, checkAssignment, encodedFor, checkPlan, checkRefutation, refutedFor, formulaFits, writtenFor}
+use Rattle.spec.specs.Entry.{demand, findNone, readInstance, writeFormula, judgeAssignment, checkAssignment, unpackedFor, unpackPlan, judgePlan, encodedFor, checkPlan, checkRefutation, refutedFor, formulaFits, writtenFor}
 use Rattle.demands.proofs.Faults.{passes, clear-first, holds-first}
 use Rattle.demands.proofs.Refuting.{stepAt, added}
 use Rattle.demands.proofs.Entries.{demand-iff, then-goes, no-false, read-instance, ofPlan, plan-checked}
@@ -28,7 +28,7 @@ use Rattle.demands.proofs.Reasons.{Refusal, ofBook, ofRoom, ofInput, sh
 -- ---- the parts of a check
 
 -- a row of checks refuses where its first does
-stops : {A B : Type 0} {v : Verdict A} {k d : ℕ} (f : A → Verdict B) → v ≡ refused k d → andThen v f ≡ refused k d
+pub stops : {A B : Type 0} {v : Verdict A} {k d : ℕ} (f : A → Verdict B) → v ≡ refused k d → andThen v f ≡ refused k d
 unfolding andThen
 stops f e = ap (λ w. andThen w f) e
 
@@ -87,18 +87,27 @@ found-false α cs d l = go (firstFalse α 1 cs) refl
         e ∙ ap {B = Option ℕ} some same
 
 -- 13 before 14
-assignment-judged : (I : Instance) (s : Bytes) (k d : ℕ) → AssignmentFault I s k d → judgeAssignment I s ≡ refused k d
+pub assignment-judged : (I : Instance) (s : Bytes) (k d : ℕ) → AssignmentFault I s k d → judgeAssignment I s ≡ refused k d
 unfolding judgeAssignment findNone
 assignment-judged I s k d (assignmentUnfit h) = stops _ (demand-no (assignmentFits I s) 13 h)
 assignment-judged I s k d (clauseFalse h f) =
     then-goes _ (demand-iff (assignmentFits I s) 13 .1 h) ∙ ap (λ o. findNone o 14) (found-false (assigned s) (formula I) d f)
 
+-- Refused exactly by the book, or for what is wrong with the assignment: no slice is lent that could be short.
+pub assignment-refused : (book assignment : Bytes) (k d : ℕ)
+    → (checkAssignment book assignment ≡ refused k d) ↔ Refusal book (λ I. ⊥) (λ I. AssignmentFault I assignment) k d
+unfolding checkAssignment demand andThen
+assignment-refused book s k d = (
+  reasons.assignment-refusal book s k d,
+  (λ r. in-order book _ _ (λ I. true) _ (λ I. (λ h. h, λ h. h)) (λ I. assignment-judged I s) r),
+)
+
 -- Refused exactly by the book, by 12 where the plan is longer than the slice, or for what is wrong with the assignment.
-pub assignment-refused : (book assignment : Bytes) (n k d : ℕ)
-    → (checkAssignment book assignment n ≡ refused k d) ↔ Refusal book (λ I. n < planLength I) (λ I. AssignmentFault I assignment) k d
-unfolding checkAssignment decodedFor
-assignment-refused book s n k d = (
-  reasons.assignment-refusal book s n k d,
+pub unpacking-refused : (book assignment : Bytes) (n k d : ℕ)
+    → (unpackPlan book assignment n ≡ refused k d) ↔ Refusal book (λ I. n < planLength I) (λ I. AssignmentFault I assignment) k d
+unfolding unpackPlan unpackedFor
+unpacking-refused book s n k d = (
+  reasons.unpacking-refusal book s n k d,
   (λ r. in-order book _ _ _ _ (λ I. short-iff (planLength I) n) (λ I k d f. stops _ (assignment-judged I s k d f)) r),
 )
 

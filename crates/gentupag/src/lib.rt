@@ -16,6 +16,7 @@ use answers::Verdict;
 use carriers::list_carriers;
 use checking::check_assignment;
 use checking::check_plan;
+use checking::unpack_plan;
 use graph::print_graph;
 use labels::label_book;
 use reader::reading::Answer;
@@ -32,7 +33,7 @@ ghost use mathlib.Core.Path.{_≡_};
 ghost use lib.ListN.{length};
 ghost use lib.IntN.{pos};
 ghost use Rattle.spec.specs.Read.{readBook};
-ghost use Rattle.spec.specs.Entry.{zeroed, writeFormula, formulaOutput, checkAssignment, planOutput, checkPlan, assignmentOutput, checkRefutation};
+ghost use Rattle.spec.specs.Entry.{zeroed, writeFormula, formulaOutput, checkAssignment, unpackPlan, planOutput, checkPlan, assignmentOutput, checkRefutation};
 ghost use Rattle.spec.specs.Upgrade.{upgradeBook, upgradeOutput};
 ghost use Rattle.spec.specs.Page.{printGraph, pageOutput};
 ghost use Rattle.spec.specs.Carriers.{listCarriers, carriersOutput};
@@ -125,13 +126,22 @@ pub extern "C" fn gentupag_write_formula(book: &[u8], out: &mut [i32]) -> Totals
     totals_from(answer)
 }
 
+// The verdict on an assignment.
+#[no_mangle]
+pub extern "C" fn gentupag_check_assignment(book: &[u8], values: &[u8]) -> Verdict
+    ensures { λ r. ⌜ r ≡ verdictOf (checkAssignment (now (book .entry)) (now (values .entry))) ⌝ }
+{
+    let answer = check_assignment(book, values);
+    verdict_from(answer)
+}
+
 // The verdict on an assignment, its plan in the output.
 #[no_mangle]
-pub extern "C" fn gentupag_check_assignment(book: &[u8], values: &[u8], out: &mut [u8]) -> Output
-    ensures { λ r. ⌜ (r ≡ outputOf (checkAssignment (now (book .entry)) (now (values .entry)) (length (now (out .entry)))))
+pub extern "C" fn gentupag_unpack_plan(book: &[u8], values: &[u8], out: &mut [u8]) -> Output
+    ensures { λ r. ⌜ (r ≡ outputOf (unpackPlan (now (book .entry)) (now (values .entry)) (length (now (out .entry)))))
         × (now (out .exit) ≡ planOutput (now (book .entry)) (now (values .entry)) (now (out .entry))) ⌝ }
 {
-    let answer = check_assignment(book, values, out);
+    let answer = unpack_plan(book, values, out);
     output_from(answer)
 }
 

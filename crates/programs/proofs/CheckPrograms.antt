@@ -6,14 +6,14 @@ use Prim.Native.Nat.{ℕ}
 use native.Mathlib.Omega.{arith}
 use mathlib.Core.List.{[]}
 use Rattle.spec.specs.Lists.{Bytes, Verdict, accepted, refused, andThen}
-use Rattle.spec.specs.Entry.{written, checkRefutation}
+use Rattle.spec.specs.Entry.{written, checkAssignment, checkRefutation}
 use Rattle.spec.specs.Upgrade.{upgradeBook}
 use Rattle.spec.specs.Page.{printGraph}
-use Rattle.spec.specs.Programs.{sliceBytes, sliceOf, programLent, isLong, unlessLong, acceptedLine, printed, printAssignment, printPlan, printRefutation, printUpgrade, printPage, printCarriers}
+use Rattle.spec.specs.Programs.{sliceBytes, sliceOf, programLent, isLong, unlessLong, acceptedLine, printed, printAssignment, printUnpacking, printPlan, printRefutation, printUpgrade, printPage, printCarriers}
 use Rattle.laws.proofs.Tests.{from-false}
 use Rattle.programs.proofs.FormulaProgram.{held, held-whole, unless-same}
 use Rattle.programs.specs.declared.verdicts.Check.{Check}
-use Rattle.programs.specs.declared.verdicts.Check.the-variants.{Assignment, Plan, Refutation, Carriers}
+use Rattle.programs.specs.declared.verdicts.Check.the-variants.{Assignment, Unpacking, Plan, Refutation, Carriers}
 use Rattle.programs.specs.Verdicts.{bare, verdictOf, hasResult}
 
 -- the output that a program lends
@@ -56,7 +56,11 @@ module _ (book s : Bytes) where
 
   pub assignment-printed : printed (λ _. acceptedLine) (verdict Assignment) ≡ printAssignment book s
   unfolding verdictOf printAssignment line
-  assignment-printed = ap line (whole Assignment)
+  assignment-printed = ap line (whole Assignment) ∙ bare-line long (checkAssignment book s)
+
+  pub unpacking-printed : printed (λ _. acceptedLine) (verdict Unpacking) ≡ printUnpacking book s
+  unfolding verdictOf printUnpacking line
+  unpacking-printed = ap line (whole Unpacking)
 
   pub plan-printed : printed (λ _. acceptedLine) (verdict Plan) ≡ printPlan book s
   unfolding verdictOf printPlan line
@@ -84,7 +88,8 @@ module _ (book s : Bytes) where
 -- a check that has no result writes none, whatever its verdict
 pub no-result : (check : Check) (book s : Bytes) (room : ℕ) → hasResult check ≡ false → written (verdictOf check book s room) ≡ []
 unfolding hasResult verdictOf
-no-result Assignment book s room e = absurd (from-false e tt)
+no-result Assignment book s room e = bare-written (checkAssignment book s)
+no-result Unpacking book s room e = absurd (from-false e tt)
 no-result Plan book s room e = absurd (from-false e tt)
 no-result Carriers book s room e = absurd (from-false e tt)
 no-result Refutation book s room e = bare-written (checkRefutation book s programLent)

@@ -12,7 +12,7 @@ use Rattle.reader.specs.declared.reading.Answer.{Answer}
 use Rattle.reader.specs.BookAnswers.{answerOf}
 use Rattle.programs.specs.declared.verdicts.Said.{Said}
 use Rattle.programs.specs.Lines.{answerLine, wasAccepted, resultLength, plainAnswer}
-use Rattle.programs.specs.Verdicts.{bare, isAccepted, Tells}
+use Rattle.programs.specs.Verdicts.{bare, isAccepted, Says, Tells}
 
 line-of : (v : Verdict Bytes) → answerLine (outputAnswer v) ≡ printed (λ _. acceptedLine) v
 unfolding printed
@@ -28,12 +28,6 @@ accepted-of : (v : Verdict Bytes) → wasAccepted (outputAnswer v) ≡ isAccepte
 unfolding isAccepted
 accepted-of (accepted xs) = refl
 accepted-of (refused n d) = refl
-
--- what `say` ensures of an answer
-abbrev pub Says : OutputAnswer → Bytes → Bytes → Said → Type 0
-Says answer before after r =
-    (after ≡ sets before 0 (answerLine answer)) × (r .len ≡ length (answerLine answer)) × (r .len ≤ 64)
-    × (r .accepted ≡ wasAccepted answer) × (r .result ≡ resultLength answer)
 
 pub tells : (v : Verdict Bytes) {answer : OutputAnswer} (before : Bytes) {after : Bytes} (r : Said)
     → answer ≡ outputAnswer v → Says answer before after r → Tells v before after r
@@ -67,9 +61,8 @@ unfolding bare andThen
 plain-of (accepted u) = refl
 plain-of (refused n d) = refl
 
--- the answer to it is the case that it is
-pub plain-answer : (v : Verdict (Unit {0})) {answer case : Answer} → answer ≡ answerOf v → answer ≡ case → plainAnswer case ≡ outputAnswer (bare v)
-plain-answer v e told = ap plainAnswer (sym told ∙ e) ∙ plain-of v
+pub plain-answer : (v : Verdict (Unit {0})) {answer : Answer} → answer ≡ answerOf v → plainAnswer answer ≡ outputAnswer (bare v)
+plain-answer v e = ap plainAnswer e ∙ plain-of v
 
 pub bare-output : (old : Bytes) (v : Verdict (Unit {0})) → old ≡ overwrite old (written (bare v))
 unfolding bare andThen overwrite written

@@ -6,12 +6,14 @@ use mathlib.Core.List.{[]}
 use lib.ListN.{length}
 use lib.Seq.{sets}
 use Rattle.spec.specs.Lists.{Bytes, Verdict, accepted, refused, andThen}
-use Rattle.spec.specs.Entry.{written, checkAssignment, checkPlan, checkRefutation}
+use Rattle.spec.specs.Entry.{written, checkAssignment, unpackPlan, checkPlan, checkRefutation}
 use Rattle.spec.specs.Carriers.{listCarriers}
 use Rattle.spec.specs.Programs.{programLent, acceptedLine, printed}
 use Rattle.programs.specs.declared.verdicts.Check.{Check}
-use Rattle.programs.specs.declared.verdicts.Check.the-variants.{Assignment, Plan, Refutation, Carriers}
+use Rattle.programs.specs.declared.verdicts.Check.the-variants.{Assignment, Unpacking, Plan, Refutation, Carriers}
 use Rattle.programs.specs.declared.verdicts.Said.{Said}
+use Rattle.reader.specs.declared.reading.OutputAnswer.{OutputAnswer}
+use Rattle.programs.specs.Lines.{answerLine, wasAccepted, resultLength}
 
 -- a verdict without a result, as one with an empty result
 unfoldable pub bare : Verdict (Unit {0}) → Verdict Bytes
@@ -19,21 +21,35 @@ bare v = andThen v λ _. accepted []
 
 -- the verdict on a book and a second input, with this much room for a result
 unfoldable pub verdictOf : Check → Bytes → Bytes → ℕ → Verdict Bytes
-verdictOf Assignment book s room = checkAssignment book s room
+verdictOf Assignment book s room = bare (checkAssignment book s)
+verdictOf Unpacking book s room = unpackPlan book s room
 verdictOf Plan book s room = checkPlan book s room
 verdictOf Refutation book s room = bare (checkRefutation book s programLent)
 verdictOf Carriers book s room = listCarriers book s room
 
 -- whether what is accepted has a result
 unfoldable pub hasResult : Check → Bool
-hasResult Assignment = true
+hasResult Assignment = false
+hasResult Unpacking = true
 hasResult Plan = true
 hasResult Refutation = false
 hasResult Carriers = true
 
+-- which check of an assignment it is: its plan is unpacked where a file is named for it, and judged alone where none is
+unfoldable pub assignmentCheck : Bool → Check
+assignmentCheck true = Unpacking
+assignmentCheck false = Assignment
+
 unfoldable pub isAccepted : Verdict Bytes → Bool
 isAccepted (accepted xs) = true
 isAccepted (refused n d) = false
+
+-- an answer's line stands at the front of what was lent for it, whole, and `r` says how long it is, whether the answer accepts, and how
+-- long its result is
+abbrev pub Says : OutputAnswer → Bytes → Bytes → Said → Type 0
+Says answer before after r =
+    (after ≡ sets before 0 (answerLine answer)) × (r .len ≡ length (answerLine answer)) × (r .len ≤ 64)
+    × (r .accepted ≡ wasAccepted answer) × (r .result ≡ resultLength answer)
 
 -- the verdict's line stands at the front of what was lent for it, whole, and `r` says how long it is, whether it is accepted, and how long
 -- the result is

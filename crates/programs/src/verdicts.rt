@@ -10,6 +10,7 @@ use crate::printing::print;
 use carriers::list_carriers;
 use checking::check_assignment;
 use checking::check_plan;
+use checking::unpack_plan;
 use frames::bytes::put_bytes;
 use graph::print_graph;
 use reader::reading::Answer;
@@ -22,18 +23,20 @@ ghost use lib.ListN.{length};
 ghost use lib.Seq.{sets};
 ghost use lib.IntN.{pos};
 ghost use Rattle.io.specs.Counts.{Counts};
-ghost use Rattle.spec.specs.Entry.{overwrite, written, zeroed, checkAssignment, checkPlan, checkRefutation};
+ghost use Rattle.spec.specs.Entry.{overwrite, written, zeroed, checkAssignment, unpackPlan, checkPlan, checkRefutation};
 ghost use Rattle.spec.specs.Upgrade.{upgradeBook};
 ghost use Rattle.spec.specs.Page.{printGraph};
 ghost use Rattle.spec.specs.Carriers.{listCarriers};
 ghost use Rattle.spec.specs.Programs.{programLent, unlessLong, printed};
 ghost use Rattle.refutations.specs.Lent.{lengths};
-ghost use Rattle.programs.specs.Lines.{answerLine, wasAccepted, resultLength};
-ghost use Rattle.programs.specs.Verdicts.{bare, verdictOf, hasResult, Tells};
+ghost use Rattle.programs.specs.Lines.{plainAnswer};
+ghost use Rattle.programs.specs.Verdicts.{bare, verdictOf, hasResult, assignmentCheck, Says, Tells};
 
-// Which check a program makes; the carriers are listed of a plan that is checked.
+// Which check a program makes. An assignment is judged alone, or judged and unpacked; the carriers are
+// listed of a plan that is checked.
 pub enum Check {
     Assignment,
+    Unpacking,
     Plan,
     Refutation,
     Carriers,
@@ -49,8 +52,7 @@ pub struct Said {
 // Stores the line of an answer.
 pub fn say(answer: OutputAnswer, line: &mut [u8]) -> Said
     requires { ⌜ length (now line) ≡ 64 ⌝ }
-    ensures { λ r. ⌜ (now (line .exit) ≡ sets (now (line .entry)) 0 (answerLine answer)) × (r .len ≡ length (answerLine answer))
-        × (r .len ≤ 64) × (r .accepted ≡ wasAccepted answer) × (r .result ≡ resultLength answer) ⌝ }
+    ensures { λ r. ⌜ Says answer (now (line .entry)) (now (line .exit)) r ⌝ }
 {
     match answer {
         OutputAnswer::Wrote(n) => Said {
@@ -66,15 +68,35 @@ pub fn say(answer: OutputAnswer, line: &mut [u8]) -> Said
     }
 }
 
-// The line of the verdict on an assignment, and its plan.
-fn assignment_text(book: &[u8], values: &[u8], plan: &mut [u8], line: &mut [u8]) -> Said
+// Stores the line of an answer that has no result.
+fn say_plain(answer: Answer, line: &mut [u8]) -> Said
     requires { ⌜ length (now line) ≡ 64 ⌝ }
-    ensures { λ r. ⌜ Tells (checkAssignment (now (book .entry)) (now (values .entry)) (length (now (plan .entry))))
+    ensures { λ r. ⌜ Says (plainAnswer answer) (now (line .entry)) (now (line .exit)) r ⌝ }
+{
+    match answer {
+        Answer::Accepted => say(OutputAnswer::Wrote(0), line),
+        Answer::Refused(number, detail) => say(OutputAnswer::Refused(number, detail), line),
+    }
+}
+
+// The line of the verdict on an assignment that is judged alone: nothing is lent for a plan.
+fn assignment_text(book: &[u8], values: &[u8], line: &mut [u8]) -> Said
+    requires { ⌜ length (now line) ≡ 64 ⌝ }
+    ensures { λ r. ⌜ Tells (bare (checkAssignment (now (book .entry)) (now (values .entry)))) (now (line .entry)) (now (line .exit)) r ⌝ }
+{
+    let answer = check_assignment(book, values);
+    say_plain(answer, line)
+}
+
+// The line of the verdict on an assignment, and its plan.
+fn unpacking_text(book: &[u8], values: &[u8], plan: &mut [u8], line: &mut [u8]) -> Said
+    requires { ⌜ length (now line) ≡ 64 ⌝ }
+    ensures { λ r. ⌜ Tells (unpackPlan (now (book .entry)) (now (values .entry)) (length (now (plan .entry))))
         (now (line .entry)) (now (line .exit)) r
         × (now (plan .exit) ≡ overwrite (now (plan .entry))
-        (written (checkAssignment (now (book .entry)) (now (values .entry)) (length (now (plan .entry)))))) ⌝ }
+        (written (unpackPlan (now (book .entry)) (now (values .entry)) (length (now (plan .entry)))))) ⌝ }
 {
-    let answer = check_assignment(book, values, plan);
+    let answer = unpack_plan(book, values, plan);
     say(answer, line)
 }
 
@@ -121,10 +143,7 @@ pub fn refutation_text(
         × (now (trail .exit) ≡ zeroed 0 (length (now (trail .entry)))) ⌝ }
 {
     let answer = check_refutation(book, r, words, starts, values, trail);
-    match answer {
-        Answer::Accepted => say(OutputAnswer::Wrote(0), line),
-        Answer::Refused(number, detail) => say(OutputAnswer::Refused(number, detail), line),
-    }
+    say_plain(answer, line)
 }
 
 // The same, with slices of 64 KiB each.
@@ -168,7 +187,8 @@ pub fn verdict_text(
         return say(OutputAnswer::Refused(12, 0), line);
     }
     match check {
-        Check::Assignment => assignment_text(book, second, out, line),
+        Check::Assignment => assignment_text(book, second, line),
+        Check::Unpacking => unpacking_text(book, second, out, line),
         Check::Plan => plan_text(book, second, out, line),
         Check::Refutation => lent_refutation_text(book, second, line),
         Check::Carriers => carriers_text(book, second, out, line),
@@ -253,12 +273,20 @@ fn hand_out(said: Said, line: &[u8], out: &[u8], result: &[u8], named: bool) {
     }
 }
 
-// Whether what a check accepts has a result: a refutation has none.
+// Which check of an assignment it is: its plan is unpacked where a file is named for it, and only there.
+pub fn assignment_check(named: bool) -> Check
+    ensures { λ r. ⌜ r ≡ assignmentCheck named ⌝ }
+{
+    if named { Check::Unpacking } else { Check::Assignment }
+}
+
+// Whether what a check accepts has a result: an assignment that is judged alone and a refutation have none.
 fn has_result(check: Check) -> bool
     ensures { λ r. ⌜ r ≡ hasResult check ⌝ }
 {
     match check {
-        Check::Assignment => true,
+        Check::Assignment => false,
+        Check::Unpacking => true,
         Check::Plan => true,
         Check::Refutation => false,
         Check::Carriers => true,

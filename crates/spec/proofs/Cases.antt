@@ -20,13 +20,13 @@ use Rattle.spec.specs.Extra.{extraVariables, extraClauses, extraConditio
 use Rattle.spec.specs.Formula.{width, firstVar, base, borderVar, runVar, goneVar, claimVar, ownVariables, variables, clausesB, clausesC, clausesI, clausesD, followersE, clauseE, clausesE, serversF, claimsG, clausesG, clausesH, familyA, familyB, familyC, familyD, familyE, familyF, familyG, familyH, familyI, formula, wordsOf, dimacsOpening, dimacsLine, dimacsText}
 use Rattle.spec.specs.Assignment.{deny, truth, isYes, valueOf, isTrue, holds, satisfies, firstFalse, assigned, assignmentFits, firstRun, chosen, decoded, decode, claims, encode}
 use Rattle.spec.specs.Refutation.{stepPayload, fileOf, literalCount, hintCount, stepIn, variableOf, risesFrom, literalsFit, hintsFit, makeTrue, makeFalse, refuting, isNo, isOpen, clauseAt, notFalse, hinted, goThrough, followsRule, clausesFit, isBad, stepFaults, stepDetail, checkSteps, checkFile}
-use Rattle.spec.specs.Entry.{demand, findNone, readInstance, formulaWritten, writtenFor, writeFormula, formulaText, judgeAssignment, decodedFor, checkAssignment, judgePlan, afterPlan, encodedFor, checkPlan, formulaFits, refutedFor, checkRefutation}
+use Rattle.spec.specs.Entry.{demand, findNone, readInstance, formulaWritten, writtenFor, writeFormula, formulaText, judgeAssignment, checkAssignment, unpackedFor, unpackPlan, judgePlan, afterPlan, encodedFor, checkPlan, formulaFits, refutedFor, checkRefutation}
 use Rattle.spec.specs.Held.{padded}
 use Rattle.spec.specs.Page.{shownRun, shownAbsent, shownGone, shownMove, shownOf, marked, cell, cells, pageLine, page, pageBytes, pageFor, printGraph}
 use Rattle.spec.specs.Carriers.{earliest, meetsHigher, lowerTrain, higherTrain, firstPair, firstMeeting, cleared, carries, carriers, entry, carrierList, carrierRoom, carriersFor, listCarriers}
 use Rattle.spec.specs.Upgrade.{timesWidened, widenedAt, widened, widenedFound, frameWidened, widenedFrom, upgraded, upgradeBook}
 use Rattle.spec.specs.Library.{RunAsked, noTrain, noRun, shown, Meaning, border, run, gone, claim, noVariable, sizesOf, measureBook, bordersFit, labelledFor, labelSections, runAmong, runAsked, askRun, meaningsIn, meanings, meaningOf, askVariable}
-use Rattle.spec.specs.Programs.{sliceBytes, sliceOf, programLent, unlessLong, isLong, acceptedLine, refusalLine, printed, printFormula, printAssignment, printPlan, printRefutation, printPage, printCarriers}
+use Rattle.spec.specs.Programs.{sliceBytes, sliceOf, programLent, unlessLong, isLong, acceptedLine, refusalLine, printed, printFormula, printAssignment, printUnpacking, printPlan, printRefutation, printPage, printCarriers}
 
 -- An answer: rows of numbers, a text or a clause, or a refusal's number and detail.
 pub data Answer : Type 0 where
@@ -283,7 +283,11 @@ totalsOf : Bytes → ℕ → Answer
 totalsOf s n = answered (writeFormula s n) λ w. rows ((w .variableCount ∷ w .clauseCount ∷ w .wordCount ∷ []) ∷ [])
 
 decodes : Bytes → Bytes → ℕ → Answer
-decodes s a n = answered (checkAssignment s a n) text
+decodes s a n = answered (unpackPlan s a n) text
+
+-- whether an assignment is accepted
+assigns : Bytes → Bytes → Answer
+assigns s a = answered (checkAssignment s a) λ _. yes-accepted
 
 encodes : Bytes → Bytes → ℕ → Answer
 encodes s p n = answered (checkPlan s p n) text
@@ -302,6 +306,10 @@ standsAndGoes = 0 ∷ 0 ∷ 0 ∷ 0 ∷ 0 ∷ 255 ∷ 255 ∷ []
 
 goneAssigned : Bytes
 goneAssigned = 0 ∷ 0 ∷ 0 ∷ 1 ∷ 0 ∷ 0 ∷ 0 ∷ 0 ∷ 0 ∷ 0 ∷ 1 ∷ 1 ∷ 0 ∷ 0 ∷ 0 ∷ 0 ∷ 0 ∷ 0 ∷ 1 ∷ 0 ∷ 0 ∷ []
+
+-- the assignment of book L in which its train stands by run 0
+standsInL : Bytes
+standsInL = 0 ∷ 0 ∷ 1 ∷ 0 ∷ 0 ∷ 1 ∷ []
 
 draws : Bytes → Bytes → ℕ → Answer
 draws s p n = answered (printGraph s p n) text
@@ -609,6 +617,26 @@ further =
       asked = decodes dividedBook (1 ∷ 0 ∷ 0 ∷ 1 ∷ 0 ∷ 0 ∷ 0 ∷ 0 ∷ 1 ∷ 1 ∷ []) 5;
       answer = text (1 ∷ 0 ∷ 0 ∷ 0 ∷ 0 ∷ []);
     }
+    -- judged alone and unpacked: one verdict; then 13 by a byte and by the length, and 14 with the same detail
+    ∷ record { asked = assigns bookL standsInL; answer = yes-accepted }
+    ∷ record { asked = decodes bookL standsInL 4; answer = text (0 ∷ 0 ∷ 0 ∷ 0 ∷ []) }
+    ∷ record { asked = assigns bookL (2 ∷ 0 ∷ 1 ∷ 0 ∷ 0 ∷ 1 ∷ []); answer = refusal 13 0 }
+    ∷ record { asked = decodes bookL (2 ∷ 0 ∷ 1 ∷ 0 ∷ 0 ∷ 1 ∷ []) 4; answer = refusal 13 0 }
+    ∷ record { asked = assigns bookL (0 ∷ 0 ∷ 1 ∷ 0 ∷ 0 ∷ []); answer = refusal 13 0 }
+    ∷ record { asked = decodes bookL (0 ∷ 0 ∷ 1 ∷ 0 ∷ 0 ∷ []) 4; answer = refusal 13 0 }
+    ∷ record { asked = assigns bookL (0 ∷ 0 ∷ 1 ∷ 0 ∷ 0 ∷ 0 ∷ []); answer = refusal 14 9 }
+    ∷ record { asked = decodes bookL (0 ∷ 0 ∷ 1 ∷ 0 ∷ 0 ∷ 0 ∷ []) 4; answer = refusal 14 9 }
+    ∷ record { asked = assigns (platform (3 ∷ 0 ∷ 0 ∷ [])) goneAssigned; answer = refusal 14 53 }
+    -- 12 is the unpacker's alone: behind the book, ahead of 13 and 14
+    ∷ record { asked = decodes bookL standsInL 3; answer = refusal 12 0 }
+    ∷ record { asked = decodes bookL [] 3; answer = refusal 12 0 }
+    ∷ record { asked = assigns [] standsInL; answer = refusal 1 0 }
+    ∷ record { asked = decodes [] standsInL 0; answer = refusal 1 0 }
+    -- what the command prints, with no third name and with one
+    ∷ record { asked = text (printAssignment bookL standsInL); answer = text acceptedLine }
+    ∷ record { asked = text (printUnpacking bookL standsInL); answer = text acceptedLine }
+    ∷ record { asked = text (printAssignment bookL (0 ∷ 0 ∷ 1 ∷ 0 ∷ 0 ∷ 0 ∷ [])); answer = text (49 ∷ 52 ∷ 32 ∷ 57 ∷ 10 ∷ []) }
+    ∷ record { asked = text (printUnpacking bookL (0 ∷ 0 ∷ 1 ∷ 0 ∷ 0 ∷ 0 ∷ [])); answer = text (49 ∷ 52 ∷ 32 ∷ 57 ∷ 10 ∷ []) }
     -- T is 1 to 256, and at least 1 in an old book; 9 for a TTD that a node of kind 1 or 2 may divide, and only there
     ∷ record { asked = totalsOf (headWith 257 ++ nodeFrame 0 ++ endFrame) 0; answer = refusal 6 0 }
     ∷ record { asked = totalsOf (headWith 0 ++ nodeFrame 0 ++ endFrame) 0; answer = refusal 6 0 }
@@ -659,7 +687,7 @@ table = starred ++ (further ++ asked)
 
 pub cases : map (λ c. c .asked) table ≡ map (λ c. c .answer) table
 unfolding
-    table starred further asked answered sizes labels runShown runNumber meant variableNumber oldL bookL newL oldM oldHead oldAt oldTwice longBook time headWith headFrame trainFrom callOf passingBook bookN facingBook speedBook leavingBook platform oldPlatform partingBook thirdBook judged bothGo standsAndGoes goneAssigned callingBook unbreakableBook refutedWith dividedBook totalsOf decodes encodes nodeFrame segmentFrame trainFrame callFrame endFrame pairBook joinFrame bookM tripleBook rewrites reach times runList sections oneSection clauseNumber emptyStep refuted
+    table starred further asked answered sizes labels runShown runNumber meant variableNumber oldL bookL newL oldM oldHead oldAt oldTwice longBook time headWith headFrame trainFrom callOf passingBook bookN facingBook speedBook leavingBook platform oldPlatform partingBook thirdBook judged bothGo standsAndGoes goneAssigned standsInL callingBook unbreakableBook refutedWith dividedBook totalsOf decodes assigns encodes nodeFrame segmentFrame trainFrame callFrame endFrame pairBook joinFrame bookM tripleBook rewrites reach times runList sections oneSection clauseNumber emptyStep refuted
     count upTo range each only all any pick empty lastOr same has different sumTo leastFrom firstFault andThen
     littleEndian number field signed unsigned digits decimal decimalZ nearest
     frame payloadLength kindField payloadOf behind cutShort kindNumber isKind stepKind kindOrder findKind rankIn rank lengthFits stepLengthFits
@@ -674,9 +702,9 @@ unfolding
     width firstVar base borderVar runVar goneVar claimVar ownVariables variables clausesB clausesC clausesI clausesD followersE clauseE clausesE serversF claimsG clausesG clausesH familyA familyB familyC familyD familyE familyF familyG familyH familyI formula wordsOf dimacsOpening dimacsLine dimacsText
     deny truth isYes valueOf isTrue holds satisfies firstFalse assigned assignmentFits firstRun chosen decoded decode claims encode
     stepPayload fileOf literalCount hintCount stepIn variableOf risesFrom literalsFit hintsFit makeTrue makeFalse refuting isNo isOpen clauseAt notFalse hinted goThrough followsRule clausesFit isBad stepFaults stepDetail checkSteps checkFile
-    demand findNone readInstance formulaWritten writtenFor writeFormula formulaText judgeAssignment decodedFor checkAssignment judgePlan afterPlan encodedFor checkPlan formulaFits refutedFor checkRefutation
+    demand findNone readInstance formulaWritten writtenFor writeFormula formulaText judgeAssignment checkAssignment unpackedFor unpackPlan judgePlan afterPlan encodedFor checkPlan formulaFits refutedFor checkRefutation
     padded inDigits aligned shownMove shownOf marked cell cells pageLine page pageBytes pageFor printGraph draws lineOf rowBook
     earliest meetsHigher lowerTrain higherTrain firstPair firstMeeting cleared carries carriers entry carrierList carrierRoom carriersFor listCarriers lists standing standingBook inRow ringOfFour fork crossing stands stay
     timesWidened widenedAt widened widenedFound frameWidened widenedFrom upgraded upgradeBook
-    sliceBytes sliceOf programLent unlessLong isLong acceptedLine refusalLine printed printFormula printAssignment printPlan printRefutation printPage printCarriers
+    sliceBytes sliceOf programLent unlessLong isLong acceptedLine refusalLine printed printFormula printAssignment printUnpacking printPlan printRefutation printPage printCarriers
 cases = refl

@@ -82,26 +82,31 @@ formulaText book outLength =
     andThen (readInstance book) λ I.
     accepted (dimacsText (variables I) (formula I))
 
--- ---- checking an assignment and decoding it; lent: an output of the plan's bytes
+-- ---- judging an assignment; lent: nothing. "one judges an assignment and lends no plan slice"
 
--- 13, then 14 with the least false clause; no output
+-- 13, then 14 with the least false clause
 unfoldable pub judgeAssignment : Instance → Bytes → Verdict (Unit {0})
 judgeAssignment I s =
     andThen (demand (assignmentFits I s) 13) λ _. findNone (firstFalse (assigned s) 1 (formula I)) 14
 
--- of an instance: 12, then the judgement, then the plan that it decodes to
-unfoldable pub decodedFor : Instance → Bytes → ℕ → Verdict Bytes
-decodedFor I assignment outLength =
+unfoldable pub checkAssignment : Bytes → Bytes → Verdict (Unit {0})
+checkAssignment book assignment = andThen (readInstance book) λ I. judgeAssignment I assignment
+
+-- ---- unpacking a plan; lent: an output of the plan's bytes. "the other unpacks the plan from an assignment, judging it first"
+
+-- of an instance: 12, then the judgement, then the plan that the assignment decodes to
+unfoldable pub unpackedFor : Instance → Bytes → ℕ → Verdict Bytes
+unpackedFor I assignment outLength =
     andThen (demand (leb (planLength I) outLength) 12) λ _.
     andThen (judgeAssignment I assignment) λ _.
     accepted (decode I assignment)
 
-unfoldable pub checkAssignment : Bytes → Bytes → ℕ → Verdict Bytes
-checkAssignment book assignment outLength = andThen (readInstance book) λ I. decodedFor I assignment outLength
+unfoldable pub unpackPlan : Bytes → Bytes → ℕ → Verdict Bytes
+unpackPlan book assignment outLength = andThen (readInstance book) λ I. unpackedFor I assignment outLength
 
 -- what the output holds after the call
 unfoldable pub planOutput : Bytes → Bytes → Bytes → Bytes
-planOutput book assignment old = overwrite old (written (checkAssignment book assignment (length old)))
+planOutput book assignment old = overwrite old (written (unpackPlan book assignment (length old)))
 
 -- ---- checking a plan and writing it as an assignment; lent: an output of the assignment's bytes
 

@@ -8,7 +8,7 @@ use lib.Dec.{ltb}
 use Rattle.spec.specs.Lists.{Bytes, Verdict, accepted, refused}
 use Rattle.spec.specs.Numbers.{decimal}
 use Rattle.spec.specs.Refutation.{Lent}
-use Rattle.spec.specs.Entry.{formulaText, checkAssignment, checkPlan, checkRefutation}
+use Rattle.spec.specs.Entry.{formulaText, checkAssignment, unpackPlan, checkPlan, checkRefutation}
 use Rattle.spec.specs.Upgrade.{upgradeBook}
 use Rattle.spec.specs.Page.{printGraph}
 use Rattle.spec.specs.Carriers.{listCarriers}
@@ -48,9 +48,14 @@ printed show (refused n d) = refusalLine n d
 unfoldable pub printFormula : Bytes → Bytes
 printFormula book = printed (λ t. t) (unlessLong (isLong book) (formulaText book (sliceOf 4)))
 
--- check_assignment, check_plan and check_refutation, with the book and the second input; either may be too long
+-- check_assignment, check_plan and check_refutation, with the book and the second input; either may be too long. With no third name
+-- check_assignment judges, and lends no plan slice;
 unfoldable pub printAssignment : Bytes → Bytes → Bytes
-printAssignment book s = printed (λ _. acceptedLine) (unlessLong (isLong book || isLong s) (checkAssignment book s (sliceOf 1)))
+printAssignment book s = printed (λ _. acceptedLine) (unlessLong (isLong book || isLong s) (checkAssignment book s))
+
+-- with one it unpacks the plan, which goes to that file
+unfoldable pub printUnpacking : Bytes → Bytes → Bytes
+printUnpacking book s = printed (λ _. acceptedLine) (unlessLong (isLong book || isLong s) (unpackPlan book s (sliceOf 1)))
 
 unfoldable pub printPlan : Bytes → Bytes → Bytes
 printPlan book s = printed (λ _. acceptedLine) (unlessLong (isLong book || isLong s) (checkPlan book s (sliceOf 1)))

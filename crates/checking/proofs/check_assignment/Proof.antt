@@ -1,26 +1,25 @@
--- `checking::check_assignment` meets its contract: the book's refusal, or the check of the book that the bytes hold. Assumes nothing.
+-- `checking::check_assignment` meets its contract: the book's refusal, or the judgement for the book that the bytes hold. Assumes nothing.
 use borrow.Author.Needs.{needs}
 use native.Mathlib.Omega.{arith}
-use mathlib.Core.Path.{sym}
+use mathlib.Core.Path.{sym, ap, _∙_}
 use denote.Ref.{now}
-use lib.ListN.{length}
 use lib.Seq.{length-take-le}
-use Rattle.spec.specs.Lists.{Bytes, Verdict}
+use Rattle.spec.specs.Lists.{Verdict}
 use Rattle.spec.specs.Instance.{Instance}
-use Rattle.spec.specs.Entry.{decodedFor, checkAssignment, planOutput}
+use Rattle.spec.specs.Entry.{judgeAssignment, checkAssignment}
+use Rattle.reader.specs.BookAnswers.{answerOf}
 use Rattle.tables.proofs.Instances.{went-on, stopped, runs-long, chains-long, meets-long, TablesReady}
-use Rattle.reader.proofs.Outputs.{left-stopped, left-same}
 use Rattle.checking.proofs.check_assignment.Statement.{statement}
 use Rattle.checking.proofs.check_assignment.Tie as tie
 
 -- the answer to the book's bytes
 module _ (c : tie.After-prepare-chains) where
   abbrev start : tie.Start
-  start = c .before .before .before .before .before .before .before
+  start = c .before .before .before .before .before .before
 
   -- what the check does with an instance
-  abbrev onward : Instance → Verdict Bytes
-  onward I = decodedFor I (now (start .args .values)) (length (now (start .args .out)))
+  abbrev onward : Instance → Verdict (Unit {0})
+  onward I = judgeAssignment I (now (start .args .values))
 
 -- the book is accepted
 module _ (c : tie.After-enum-told) where
@@ -30,22 +29,21 @@ module _ (c : tie.After-enum-told) where
   ready : TablesReady (prepared .prepare-chains .result) (prepared .prepare-chains .last .1 .0) (prepared .prepare-chains .last .1 .1 .1 .0)
   ready = prepared .prepare-chains .ensures .1 (c .enum-told .given .1)
 
-decode-by-requires : tie.Need-decode-by-requires
-decode-by-requires c κs = let a = c .before .before .before .before in (ready a .0, prepared a .prepare-chains .ensures .2 (a .enum-told .given .1), ready a .2)
+judge-assignment-requires : tie.Need-judge-assignment-requires
+judge-assignment-requires c κs = let a = c .before .before .before in (ready a .0, prepared a .prepare-chains .ensures .2 (a .enum-told .given .1), ready a .2)
 
 returns : tie.Need-returns
-unfolding checkAssignment planOutput
+unfolding checkAssignment
 returns c =
     let r = c .before .before .before .before .before .before .before .before .before in
-    left-stopped _ (stopped _ _ (r .prepare-chains .ensures .0) (onward r) (c .before .answer .given .1))
+    ap answerOf (sym (stopped _ _ (r .prepare-chains .ensures .0) (onward r) (c .before .answer .given .1)))
 
 returns-2 : tie.Need-returns-2
-unfolding checkAssignment planOutput
+unfolding checkAssignment
 returns-2 c =
-    let d = c .before .before in
-    let a = d .before .before .before .before .before in
+    let a = c .before .before .before .before in
     let r = prepared a in
-    left-same _ (went-on _ _ (r .prepare-chains .ensures .0) (a .enum-told .given .1) (onward r)) (d .decode-by .ensures)
+    c .judge-assignment .ensures ∙ ap answerOf (went-on _ _ (r .prepare-chains .ensures .0) (a .enum-told .given .1) (onward r))
 
 pub check-assignment-spec : {M : Type 1} → statement M
 check-assignment-spec =
@@ -61,7 +59,6 @@ check-assignment-spec =
     (λ c. search needs)
     (λ c. omega (arith, ready (c .before .before) .1))
     (λ c. let a = c .before .before .before in sym (length-take-le _ _ (ready a .1)))
-    decode-by-requires
+    judge-assignment-requires
     returns
-    (λ c. search needs)
     returns-2)

@@ -1,20 +1,18 @@
--- `gentupag::gentupag_check_assignment` meets its contract: the entry point's answer as a struct, and what it left in the slices. Assumes nothing.
+-- `gentupag::gentupag_check_assignment` meets its contract: the entry point's answer as a struct. Assumes nothing.
 use borrow.Author.Needs.{needs}
 use mathlib.Core.Path.{ap, _∙_}
 use denote.Ref.{now}
-use lib.ListN.{length}
 use Rattle.spec.specs.Entry.{checkAssignment}
-use Rattle.gentupag.specs.Answers.{outputShown}
-use Rattle.gentupag.proofs.Structs.{output-shown}
+use Rattle.gentupag.specs.Answers.{verdictShown}
+use Rattle.gentupag.proofs.Structs.{verdict-shown}
 use Rattle.gentupag.proofs.gentupag_check_assignment.Statement.{statement}
 use Rattle.gentupag.proofs.gentupag_check_assignment.Tie as tie
 
 returns : tie.Need-returns
 returns c =
-    let a = c .before .before .before in
-    let s = a .before .before .before .before .before .args in
-    let e = a .check-assignment .ensures in
-    (c .output-from .ensures ∙ ap outputShown (e .0) ∙ output-shown (checkAssignment (now (s .book)) (now (s .values)) (length (now (s .out)))), e .1)
+    let a = c .before in
+    let s = a .before .before .before .args in
+    c .verdict-from .ensures ∙ ap verdictShown (a .check-assignment .ensures) ∙ verdict-shown (checkAssignment (now (s .book)) (now (s .values)))
 
 pub gentupag-check-assignment-spec : {M : Type 1} → statement M
 gentupag-check-assignment-spec =
@@ -22,5 +20,4 @@ gentupag-check-assignment-spec =
     (tie.spec
     (λ c κs. search needs)
     (λ c κs. search needs)
-    (λ c. search needs)
     returns)

@@ -26,6 +26,10 @@ returns-4 : tie.Need-returns-4
 unfolding hasResult
 returns-4 c = told (c .enum-told4 .given .1)
 
+returns-5 : tie.Need-returns-5
+unfolding hasResult
+returns-5 c = told (c .enum-told5 .given .1)
+
 pub has-result-spec : {M : Type 1} → statement M
 has-result-spec =
     tie.close
@@ -34,7 +38,9 @@ has-result-spec =
     (λ c. search needs)
     (λ c. search needs)
     (λ c. search needs)
+    (λ c. search needs)
     returns
     returns-2
     returns-3
-    returns-4)
+    returns-4
+    returns-5)

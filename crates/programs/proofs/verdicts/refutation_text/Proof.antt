@@ -6,34 +6,19 @@ use Rattle.programs.proofs.verdicts.refutation_text.Tie as tie
 
 returns : tie.Need-returns
 returns c =
-    let e = c .before .before .before .before .before .before .before .before .before .before .before .before .before .check-refutation .ensures in
-    let told = c .before .before .before .before .enum-told .given .1 in
-    (tells _ _ _ (plain-answer _ (e .0) told) (c .before .before .say .ensures), e .1, e .2, e .3, e .4)
-
-returns-2 : tie.Need-returns-2
-returns-2 c =
-    let e = c .before .before .before .before .before .before .before .before .before .before .before .before .before .before .check-refutation .ensures in
-    let told = c .before .before .before .before .before .answer .given .1 in
-    (tells _ _ _ (plain-answer _ (e .0) told) (c .before .before .say2 .ensures), e .1, e .2, e .3, e .4)
+    let k = c .before .before in
+    let e = k .before .before .before .before .before .before .before .before .before .check-refutation .ensures in
+    (tells _ _ _ (plain-answer _ (e .0)) (k .say-plain .ensures), e .1, e .2, e .3, e .4)
 
 pub refutation-text-spec : {M : Type 1} → statement M
 refutation-text-spec =
     tie.close
     (tie.spec
     (λ c κs. search needs)
-    (λ c. search needs)
-    (λ c κs. search needs)
-    (λ c. search needs)
     (λ c κs. search needs)
     (λ c. search needs)
     (λ c. search needs)
     (λ c. search needs)
     (λ c. search needs)
     (λ c. search needs)
-    returns
-    (λ c. search needs)
-    (λ c. search needs)
-    (λ c. search needs)
-    (λ c. search needs)
-    (λ c. search needs)
-    returns-2)
+    returns)

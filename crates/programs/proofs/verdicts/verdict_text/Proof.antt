@@ -7,7 +7,7 @@ use Prim.Native.Nat.{ℕ}
 use denote.Ref.{now}
 use lib.ListN.{length}
 use Rattle.spec.specs.Lists.{Bytes, refused}
-use Rattle.spec.specs.Entry.{checkRefutation}
+use Rattle.spec.specs.Entry.{checkAssignment, checkRefutation}
 use Rattle.spec.specs.Programs.{programLent, unlessLong}
 use Rattle.programs.proofs.FormulaProgram.{is-long, not-long}
 use Rattle.programs.specs.declared.verdicts.Check.{Check}
@@ -29,14 +29,18 @@ returns c =
     let q = is-long _ (then .if1 .taken) in
     (tells-same q (tells (refused 12 0) _ _ refl (c .before .before .say .ensures)), output-same q out (refused-output out 12 0))
 
+-- a check without a result leaves the output as it was
 returns-2 : tie.Need-returns-2
 unfolding verdictOf
 returns-2 c =
-    let call = c .before .before .before .before in
-    let told = call .before .before .before in
+    let call = c .before .before in
+    let told = call .before .before in
     let args = told .before .before .before .before .before .before .before .args in
-    let q = asked (now (args .book)) (now (args .second)) (length (now (args .out))) (told .before .before .if1 .left) (told .enum-told .given .1) in
-    (tells-same q (call .assignment-text .ensures .0), output-same q _ (call .assignment-text .ensures .1))
+    let book = now (args .book) in
+    let s = now (args .second) in
+    let out = now (args .out) in
+    let q = asked book s (length out) (told .before .before .if1 .left) (told .enum-told .given .1) in
+    (tells-same q (call .assignment-text .ensures), output-same q out (bare-output out (checkAssignment book s)))
 
 returns-3 : tie.Need-returns-3
 unfolding verdictOf
@@ -45,27 +49,36 @@ returns-3 c =
     let told = call .before .before .before in
     let args = told .before .before .before .before .before .before .before .args in
     let q = asked (now (args .book)) (now (args .second)) (length (now (args .out))) (told .before .before .if1 .left) (told .enum-told2 .given .1) in
-    (tells-same q (call .plan-text .ensures .0), output-same q _ (call .plan-text .ensures .1))
+    (tells-same q (call .unpacking-text .ensures .0), output-same q _ (call .unpacking-text .ensures .1))
 
 returns-4 : tie.Need-returns-4
 unfolding verdictOf
 returns-4 c =
+    let call = c .before .before .before .before in
+    let told = call .before .before .before in
+    let args = told .before .before .before .before .before .before .before .args in
+    let q = asked (now (args .book)) (now (args .second)) (length (now (args .out))) (told .before .before .if1 .left) (told .enum-told3 .given .1) in
+    (tells-same q (call .plan-text .ensures .0), output-same q _ (call .plan-text .ensures .1))
+
+returns-5 : tie.Need-returns-5
+unfolding verdictOf
+returns-5 c =
     let call = c .before .before in
     let told = call .before .before in
     let args = told .before .before .before .before .before .before .before .args in
     let book = now (args .book) in
     let s = now (args .second) in
     let out = now (args .out) in
-    let q = asked book s (length out) (told .before .before .if1 .left) (told .enum-told3 .given .1) in
+    let q = asked book s (length out) (told .before .before .if1 .left) (told .enum-told4 .given .1) in
     (tells-same q (call .lent-refutation-text .ensures), output-same q out (bare-output out (checkRefutation book s programLent)))
 
-returns-5 : tie.Need-returns-5
+returns-6 : tie.Need-returns-6
 unfolding verdictOf
-returns-5 c =
+returns-6 c =
     let call = c .before .before .before .before in
     let told = call .before .before .before in
     let args = told .before .before .before .before .before .before .before .args in
-    let q = asked (now (args .book)) (now (args .second)) (length (now (args .out))) (told .before .before .if1 .left) (told .enum-told4 .given .1) in
+    let q = asked (now (args .book)) (now (args .second)) (length (now (args .out))) (told .before .before .if1 .left) (told .enum-told5 .given .1) in
     (tells-same q (call .carriers-text .ensures .0), output-same q _ (call .carriers-text .ensures .1))
 
 pub verdict-text-spec : {M : Type 1} → statement M
@@ -84,13 +97,17 @@ verdict-text-spec =
     (λ c. search needs)
     (λ c κs. search needs)
     (λ c. search needs)
+    (λ c κs. search needs)
     (λ c. search needs)
     returns-2
     (λ c. search needs)
     (λ c. search needs)
     returns-3
     (λ c. search needs)
+    (λ c. search needs)
     returns-4
     (λ c. search needs)
+    returns-5
     (λ c. search needs)
-    returns-5)
+    (λ c. search needs)
+    returns-6)

@@ -1,4 +1,4 @@
--- `checking::decode_by` meets its contract: room, the judgement, then the plan. Assumes nothing.
+-- `checking::unpack_by` meets its contract: room, the judgement, then the plan. Assumes nothing.
 use borrow.Author.Needs.{needs}
 use native.Mathlib.Omega.{arith}
 use mathlib.Core.Path.{_≡_, sym, _∙_}
@@ -8,9 +8,9 @@ use lib.ListN.{length}
 use Rattle.spec.specs.Instance.{instanceOf}
 use Rattle.spec.specs.Plan.{planLength}
 use Rattle.spec.specs.Held.{held}
-use Rattle.checking.proofs.Answers.{length-decode, decoded-short, decoded-refused, decoded-accepted}
-use Rattle.checking.proofs.decode_by.Statement.{statement}
-use Rattle.checking.proofs.decode_by.Tie as tie
+use Rattle.checking.proofs.Answers.{length-decode, unpacked-short, unpacked-refused, unpacked-accepted}
+use Rattle.checking.proofs.unpack_by.Statement.{statement}
+use Rattle.checking.proofs.unpack_by.Tie as tie
 
 -- the length that is compared, and the output's
 module _ (c : tie.After-plan-length) where
@@ -26,21 +26,21 @@ room c = omega (arith, c .if1 .left, need (c .before))
 returns-2 : tie.Need-returns-2
 returns-2 c =
     let j = c .before .before .before in
-    decoded-refused _ _ _ (room (j .before)) (sym (c .before .judged .given .1) ∙ j .judge-assignment .ensures)
+    unpacked-refused _ _ _ (room (j .before)) (sym (c .before .judged .given .1) ∙ j .judge-assignment .ensures)
 
 returns-3 : tie.Need-returns-3
 returns-3 c =
     let d = c .before .before .before in
     let e = d .before .before .before .before in
-    decoded-accepted _ _ _ (room e) (sym (d .before .enum-told .given .1) ∙ d .before .before .before .judge-assignment .ensures)
+    unpacked-accepted _ _ _ (room e) (sym (d .before .enum-told .given .1) ∙ d .before .before .before .judge-assignment .ensures)
     (need (e .before) ∙ sym (length-decode _ _)) (c .before .before .decode .ensures)
 
-pub decode-by-spec : {M : Type 1} → statement M
-decode-by-spec =
+pub unpack-by-spec : {M : Type 1} → statement M
+unpack-by-spec =
     tie.close
     (tie.spec
     (λ c κs. search needs)
-    (λ c. let k = c .before in decoded-short _ _ _ (omega (arith, c .if1 .taken, need k)))
+    (λ c. let k = c .before in unpacked-short _ _ _ (omega (arith, c .if1 .taken, need k)))
     (λ c κs. search needs)
     (λ c. search needs)
     (λ c. search needs)
