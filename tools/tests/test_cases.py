@@ -91,10 +91,12 @@ class Answers(unittest.TestCase):
         self.says(Record("D", BOOK_L), "accepted", b"%d %d\n" % (len(FORMULA_L), checksum(FORMULA_L)))
 
     def test_checks(self):
-        self.says(Record("A", BOOK_L, ASSIGNMENT_L), "accepted", b"accepted\n" + PLAN_L + b"\n")
-        self.says(Record("A", BOOK_L, ASSIGNMENT_L, numbers(4)), "accepted", b"accepted\n" + PLAN_L + b"\n")
-        self.says(Record("A", BOOK_L, ASSIGNMENT_L, numbers(3)), "12", b"12 0\n")
-        self.says(Record("A", BOOK_L, bytes(6)), "14", b"14 3\n")
+        # unpacked, then judged alone, which is lent nothing
+        for room in (b"", numbers(4)):
+            self.says(Record("A", BOOK_L, ASSIGNMENT_L, room), "accepted", b"accepted\n" + PLAN_L + b"\naccepted\n")
+        self.says(Record("A", BOOK_L, ASSIGNMENT_L, numbers(3)), "12", b"12 0\naccepted\n")
+        self.says(Record("A", BOOK_L, bytes(6)), "14", b"14 3\n14 3\n")
+        self.says(Record("A", BOOK_L, bytes(6), numbers(3)), "12", b"12 0\n14 3\n")
         self.says(Record("P", BOOK_L, PLAN_L), "accepted", b"accepted\n" + ASSIGNMENT_L + b"\n")
         self.says(Record("P", BOOK_L, PLAN_L, numbers(5)), "12", b"12 0\n")
         self.says(Record("P", BOOK_L, bytes([0, 0, 1, 0])), "16", b"16 2\n")
@@ -107,6 +109,7 @@ class Answers(unittest.TestCase):
         self.says(Record("f", b"missing"), "nothing", b"no file\n", files)
         self.says(Record("a", b"book", b"assignment", b"new"), "accepted", b"accepted\n" + PLAN_L + b"\n", files)
         self.assertEqual(files["new"], PLAN_L)
+        self.says(Record("a", b"book", b"assignment", b""), "accepted", b"accepted\nno file\n", files)
         self.says(Record("p", b"book", b"new", b""), "accepted", b"accepted\nno file\n", files)
         self.assertNotIn("", files)
         self.says(Record("a", b"book", b"zero_assignment", b"kept"), "14", b"14 3\nkept\n", files)
