@@ -30,7 +30,7 @@ struct Totals {
 unsafe extern "C" {
     fn gentupag_read_book(book: *const u8, len: usize) -> Verdict;
     fn gentupag_write_formula(book: *const u8, len: usize, out: *mut i32, room: usize) -> Totals;
-    fn gentupag_check_assignment(book: *const u8, len: usize, s: *const u8, n: usize) -> Verdict;
+    fn gentupag_judge_assignment(book: *const u8, len: usize, s: *const u8, n: usize) -> Verdict;
     fn gentupag_unpack_plan(book: *const u8, len: usize, s: *const u8, n: usize, out: *mut u8, room: usize) -> Output;
     fn gentupag_check_plan(book: *const u8, len: usize, s: *const u8, n: usize, out: *mut u8, room: usize) -> Output;
     fn gentupag_print_graph(book: *const u8, len: usize, s: *const u8, n: usize, out: *mut u8, room: usize) -> Output;
@@ -55,7 +55,7 @@ pub fn write_formula(book: &[u8], out: &mut [i32]) -> Result<(usize, usize, usiz
 }
 
 pub fn check_assignment(book: &[u8], s: &[u8]) -> Result<(), (usize, usize)> {
-    let r = unsafe { gentupag_check_assignment(book.as_ptr(), book.len(), s.as_ptr(), s.len()) };
+    let r = unsafe { gentupag_judge_assignment(book.as_ptr(), book.len(), s.as_ptr(), s.len()) };
     found(r.number, r.detail, ())
 }
 

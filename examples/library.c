@@ -94,7 +94,7 @@ static void judge(input book, input plan, gentupag_sizes sizes) {
     if (answer.number) {
         printf("the plan is refused: %zu %zu\n", answer.number, answer.detail);
     } else {
-        gentupag_verdict verdict = gentupag_check_assignment(book.bytes, book.length, assignment, answer.length);
+        gentupag_verdict verdict = gentupag_judge_assignment(book.bytes, book.length, assignment, answer.length);
         answer = gentupag_unpack_plan(book.bytes, book.length, assignment, answer.length, back, sizes.plan_bytes);
         printf("the plan is accepted; its assignment of %zu bytes is %s and gives %zu bytes back\n", sizes.variables,
                verdict.number ? "refused" : "accepted", answer.length);

@@ -86,11 +86,11 @@ gentupag_sizes gentupag_measure_book(const uint8_t *book, size_t book_length);
 /* The formula's words, each clause closed by 0. Refuses by 12, too short an output. */
 gentupag_totals gentupag_write_formula(const uint8_t *book, size_t book_length, int32_t *GENTUPAG_APART out, size_t out_length);
 
-/* An assignment's verdict; nothing is lent for a plan. Refuses by 13, 14. */
-gentupag_verdict gentupag_check_assignment(const uint8_t *book, size_t book_length, const uint8_t *assignment, size_t assignment_length);
+/* An assignment's verdict; nothing is lent for a plan, so 12 is never given. Refuses by 13, 14. */
+gentupag_verdict gentupag_judge_assignment(const uint8_t *book, size_t book_length, const uint8_t *assignment, size_t assignment_length);
 
-/* The plan that an assignment decodes to; it is judged first as gentupag_check_assignment does. Refuses by 12, an output shorter than
- * `plan_bytes`, then by 13 and 14 with the same detail. */
+/* The plan that an assignment decodes to. Refuses by 12, an output shorter than `plan_bytes`; then the assignment is judged, by 13 and 14 as
+ * gentupag_judge_assignment has them, and only the plan of an accepted one is written. */
 gentupag_output gentupag_unpack_plan(const uint8_t *book, size_t book_length, const uint8_t *assignment, size_t assignment_length,
                                      uint8_t *GENTUPAG_APART out, size_t out_length);
 

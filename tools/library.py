@@ -36,7 +36,7 @@ FUNCTIONS = {
     "read_book": ("verdict", "B"),
     "measure_book": ("sizes", "B"),
     "write_formula": ("totals", "Bw"),
-    "check_assignment": ("verdict", "BB"),
+    "judge_assignment": ("verdict", "BB"),
     "unpack_plan": ("output", "BBb"),
     "check_plan": ("output", "BBb"),
     "check_refutation": ("verdict", "BBwnbn"),
@@ -227,7 +227,7 @@ def book_questions(rng, data):
         yield "measure_book", (data,), refused("sizes", *refusal), []
         yield "show_run", (data, train, run), refused("run", *refusal), []
         yield "explain_variable", (data, variable), refused("variable", *refusal), []
-        yield "check_assignment", (data, b""), refused("verdict", *refusal), []
+        yield "judge_assignment", (data, b""), refused("verdict", *refusal), []
         for name in ("unpack_plan", "label_sections", "print_graph", "list_carriers"):
             yield name, (data, b"", room), refused("output", *refusal), [[OLD] * room]
         yield "write_formula", (data, room), refused("totals", *refusal), [[OLD] * room]
@@ -275,7 +275,7 @@ def input_questions(rng, data, book):
     variables, clauses = reference.formula(book)
     plan_bytes, words = reference.plan_length(book), reference.word_count(clauses)
     for assignment in random_assignments(rng, book, 4):
-        yield "check_assignment", (data, assignment), said("verdict", reference.entry_check_assignment(data, assignment), lambda: ()), []
+        yield "judge_assignment", (data, assignment), said("verdict", reference.entry_check_assignment(data, assignment), lambda: ()), []
         yield output_question("unpack_plan", reference.entry_unpack_plan, data, assignment, plan_bytes + rng.choice((-1, 0, 0, 2)))
     for plan in random_plans(rng, book, 4):
         yield output_question("check_plan", reference.entry_check_plan, data, plan, variables + rng.choice((-1, 0, 0, 2)))

@@ -128,7 +128,7 @@ pub extern "C" fn gentupag_write_formula(book: &[u8], out: &mut [i32]) -> Totals
 
 // The verdict on an assignment.
 #[no_mangle]
-pub extern "C" fn gentupag_check_assignment(book: &[u8], values: &[u8]) -> Verdict
+pub extern "C" fn gentupag_judge_assignment(book: &[u8], values: &[u8]) -> Verdict
     ensures { λ r. ⌜ r ≡ verdictOf (checkAssignment (now (book .entry)) (now (values .entry))) ⌝ }
 {
     let answer = check_assignment(book, values);
