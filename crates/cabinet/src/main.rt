@@ -18,7 +18,6 @@ use libc::STDERR_FILENO;
 use libc::STDIN_FILENO;
 use programs::printing::print_formula_from;
 use programs::verdicts::Check;
-use programs::verdicts::assignment_check;
 use programs::verdicts::graph_files;
 use programs::verdicts::judge_files;
 use programs::verdicts::upgrade_file;
@@ -85,7 +84,7 @@ fn main() {
     match command {
         Command::PrintFormula => print_formula(),
         Command::CheckAssignment => judge(
-            assignment_check(os::arg_count() == 5),
+            Check::Assignment,
             4,
             5,
             b"usage: check_assignment BOOK ASSIGNMENT [PLAN]\n",

@@ -5,7 +5,6 @@ use programs::printing::load_from;
 use programs::printing::print;
 use programs::printing::print_formula_from;
 use programs::verdicts::Check;
-use programs::verdicts::assignment_check;
 use programs::verdicts::judge_files;
 use programs::verdicts::upgrade_file;
 
@@ -28,11 +27,6 @@ pub fn print_formula(book: &[u8], result: &[u8]) {
     print_formula_from(fd);
     libc::close(fd);
     print_file(result);
-}
-
-// The check of an assignment; its plan is unpacked where the result's name is not empty.
-pub fn judge_assignment(book: &[u8], second: &[u8], result: &[u8]) {
-    judge(assignment_check(0 < result.len()), book, second, result);
 }
 
 // A check; the result is named where its name is not empty.

@@ -35,7 +35,7 @@ fn answer(question: u8, first: &[u8], second: &[u8], third: &[u8]) {
         b'G' => judging::draw(first, second, third),
         b'C' => judging::judge(Check::Carriers, first, second, third),
         b'f' => files::print_formula(first, third),
-        b'a' => files::judge_assignment(first, second, third),
+        b'a' => files::judge(Check::Assignment, first, second, third),
         b'p' => files::judge(Check::Plan, first, second, third),
         b'n' => files::judge(Check::Refutation, first, second, third),
         b'u' => files::upgrade(first, third),

@@ -172,12 +172,13 @@ unpacked-plan-keeps book s plan n e =
       subst (λ (x : Bytes). T (keepsRules I (planOf I x))) (k .2) (decoded-keeps book b (r .1) s sat),
     )
 
--- and where the judge accepts, such a plan there is, and the unpacker writes it into any slice that is as long.
+-- and where the judge accepts, such a plan there is: the unpacker writes it into any slice that is as long, and the plan check accepts it.
 pub accepted-assignment-is-plan : (book assignment : Bytes) → checkAssignment book assignment ≡ accepted tt
     → (b : Book) × (readBook book ≡ accepted b) × ((plan : Bytes)
     × ((planSlice : ℕ) → planLength (instanceOf b) ≤ planSlice → unpackPlan book assignment planSlice ≡ accepted plan)
     × T (planFits (instanceOf b) plan)
-    × Codes (instanceOf b) (assigned assignment) (planOf (instanceOf b) plan) × T (keepsRules (instanceOf b) (planOf (instanceOf b) plan)))
+    × Codes (instanceOf b) (assigned assignment) (planOf (instanceOf b) plan) × T (keepsRules (instanceOf b) (planOf (instanceOf b) plan))
+    × ((assignmentSlice : ℕ) → variables (instanceOf b) ≤ assignmentSlice → (back : Bytes) × (checkPlan book plan assignmentSlice ≡ accepted back)))
 unfolding checkAssignment
 accepted-assignment-is-plan book s e =
     let r = read-of book _ tt e in
@@ -193,6 +194,11 @@ accepted-assignment-is-plan book s e =
         decoded-fits book b (r .1) s sat,
         decoded-coded book b (r .1) s sat,
         decoded-keeps book b (r .1) s sat,
+        (λ m room. (
+          encode I (planOf I (decode I s)),
+          check-plan book b (r .1) (decode I s) m _ .1
+              (room, plan-iff I (decode I s) .1 (decoded-fits book b (r .1) s sat, decoded-keeps book b (r .1) s sat), refl),
+        )),
       ),
     )
 

@@ -27,7 +27,7 @@ use Rattle.demands.proofs.Refusals.{stops, assignment-judged}
 -- ---- the one function that there was before
 
 -- What the one function returned: the book, 12 by the plan's length, the judgement, and the plan.
-abbrev checkedBefore : Bytes → Bytes → ℕ → Verdict Bytes
+abbrev pub checkedBefore : Bytes → Bytes → ℕ → Verdict Bytes
 checkedBefore book assignment planSlice =
     andThen (readInstance book) λ I.
     andThen (demand (leb (planLength I) planSlice) 12) λ _.
@@ -35,30 +35,30 @@ checkedBefore book assignment planSlice =
     accepted (decode I assignment)
 
 -- What it left in the plan slice.
-abbrev planBefore : Bytes → Bytes → Bytes → Bytes
+abbrev pub planBefore : Bytes → Bytes → Bytes → Bytes
 planBefore book assignment old = overwrite old (written (checkedBefore book assignment (length old)))
 
 -- What the program over it printed, with a third name and without one.
-abbrev lineBefore : Bytes → Bytes → Bytes
+abbrev pub lineBefore : Bytes → Bytes → Bytes
 lineBefore book assignment =
     printed (λ _. acceptedLine) (unlessLong (isLong book || isLong assignment) (checkedBefore book assignment (sliceOf 1)))
 
 -- a verdict alone, without what was made
-abbrev verdictOf : {A : Type 0} → Verdict A → Verdict (Unit {0})
-verdictOf v = andThen v λ _. accepted tt
+abbrev pub verdictAlone : {A : Type 0} → Verdict A → Verdict (Unit {0})
+verdictAlone v = andThen v λ _. accepted tt
 
 -- "a plan slice long enough": as long as the plan of the book, where the bytes are one
-abbrev RoomForPlan : Bytes → ℕ → Type 0
+abbrev pub RoomForPlan : Bytes → ℕ → Type 0
 RoomForPlan book planSlice = (b : Book) → readBook book ≡ accepted b → planLength (instanceOf b) ≤ planSlice
 
 -- what was made plays no part in the verdict, nor in its line
-verdict-alone : {A : Type 0} (v : Verdict (Unit {0})) (a : A) → verdictOf (andThen v λ _. accepted a) ≡ v
+alone-same : {A : Type 0} (v : Verdict (Unit {0})) (a : A) → verdictAlone (andThen v λ _. accepted a) ≡ v
 unfolding andThen
-verdict-alone (accepted tt) a = refl
-verdict-alone (refused k d) a = refl
+alone-same (accepted tt) a = refl
+alone-same (refused k d) a = refl
 
 line-alone : {A : Type 0} (long : Bool) (v : Verdict A)
-    → printed (λ _. acceptedLine) (unlessLong long (verdictOf v)) ≡ printed (λ _. acceptedLine) (unlessLong long v)
+    → printed (λ _. acceptedLine) (unlessLong long (verdictAlone v)) ≡ printed (λ _. acceptedLine) (unlessLong long v)
 unfolding andThen unlessLong printed
 line-alone true v = refl
 line-alone false (accepted a) = refl
@@ -67,9 +67,19 @@ line-alone false (refused k d) = refl
 -- ---- both refuse alike
 
 module _ (book assignment : Bytes) where
+  -- "both refuse by 13 and 14": the judge, of a book that passes, exactly for what is wrong with the assignment, with its number and detail
+  pub judge-refuses : (b : Book) → readBook book ≡ accepted b → (k d : ℕ)
+      → (checkAssignment book assignment ≡ refused k d) ↔ AssignmentFault (instanceOf b) assignment k d
+  judge-refuses b read k d =
+      let same = check-assignment book b read assignment in (
+        (λ e. assignment-fault (instanceOf b) assignment (sym same ∙ e)),
+        (λ f. same ∙ assignment-judged (instanceOf b) assignment k d f),
+      )
+
   module _ (b : Book) (read : readBook book ≡ accepted b) (planSlice : ℕ) (room : planLength (instanceOf b) ≤ planSlice) where
-    -- where the book passes and 12 is passed, the unpacker is the judge and then the plan
-    unpacked : unpackPlan book assignment planSlice ≡ (andThen (checkAssignment book assignment) λ _. accepted (decode (instanceOf b) assignment))
+    -- "the other unpacks the plan from an assignment, judging it first": where the book passes and 12 is passed, the unpacker is the judge,
+    -- and then the plan
+    pub unpacked : unpackPlan book assignment planSlice ≡ (andThen (checkAssignment book assignment) λ _. accepted (decode (instanceOf b) assignment))
     unfolding unpackPlan unpackedFor
     unpacked =
         let I = instanceOf b in
@@ -77,39 +87,31 @@ module _ (book assignment : Bytes) where
         ∙ then-goes _ (demand-iff (leb (planLength I) planSlice) 12 .1 (leb-iff (planLength I) planSlice .1 room))
         ∙ ap (λ v. andThen v λ _. accepted (decode I assignment)) (sym (check-assignment book b read assignment))
 
-    -- "Once 12 is passed, both refuse by 13 and 14 with the same detail": each for what is wrong with the assignment, with its number and
-    -- its detail,
-    pub judge-refuses : (k d : ℕ) → (checkAssignment book assignment ≡ refused k d) ↔ AssignmentFault (instanceOf b) assignment k d
-    judge-refuses k d =
-        let same = check-assignment book b read assignment in (
-          (λ e. assignment-fault (instanceOf b) assignment (sym same ∙ e)),
-          (λ f. same ∙ assignment-judged (instanceOf b) assignment k d f),
-        )
-
+    -- "Once 12 is passed, both refuse by 13 and 14 with the same detail": the unpacker so too,
     pub unpacker-refuses : (k d : ℕ) → (unpackPlan book assignment planSlice ≡ refused k d) ↔ AssignmentFault (instanceOf b) assignment k d
     unpacker-refuses k d = (
-      (λ e. judge-refuses k d .0 (judged-refused (checkAssignment book assignment) _ (sym unpacked ∙ e))),
-      (λ f. unpacked ∙ stops _ (judge-refuses k d .1 f)),
+      (λ e. judge-refuses b read k d .0 (judged-refused (checkAssignment book assignment) _ (sym unpacked ∙ e))),
+      (λ f. unpacked ∙ stops _ (judge-refuses b read k d .1 f)),
     )
 
     -- so one refuses with a number and a detail exactly where the other does,
     pub refuse-alike : (k d : ℕ) → (checkAssignment book assignment ≡ refused k d) ↔ (unpackPlan book assignment planSlice ≡ refused k d)
     refuse-alike k d = (
-      (λ e. unpacker-refuses k d .1 (judge-refuses k d .0 e)),
-      (λ e. judge-refuses k d .1 (unpacker-refuses k d .0 e)),
+      (λ e. unpacker-refuses k d .1 (judge-refuses b read k d .0 e)),
+      (λ e. judge-refuses b read k d .1 (unpacker-refuses k d .0 e)),
     )
 
   -- ---- as before
 
   -- "for a plan slice long enough the pair's outcome is what it was before": the judge's verdict is the one function's,
   pub judged-as-before : (planSlice : ℕ) → RoomForPlan book planSlice
-      → checkAssignment book assignment ≡ verdictOf (checkedBefore book assignment planSlice)
+      → checkAssignment book assignment ≡ verdictAlone (checkedBefore book assignment planSlice)
   unfolding checkAssignment unpackPlan unpackedFor readInstance
   judged-as-before n room = go (readBook book) refl
     where
-      go : (v : Verdict Book) → readBook book ≡ v → checkAssignment book assignment ≡ verdictOf (checkedBefore book assignment n)
+      go : (v : Verdict Book) → readBook book ≡ v → checkAssignment book assignment ≡ verdictAlone (checkedBefore book assignment n)
       go (refused k d) e = let r = stops _ e in stops _ r ∙ sym (stops _ (stops _ r))
-      go (accepted b) e = sym (verdict-alone (checkAssignment book assignment) _) ∙ ap verdictOf (sym (unpacked b e n (room b e)))
+      go (accepted b) e = sym (alone-same (checkAssignment book assignment) _) ∙ ap verdictAlone (sym (unpacked b e n (room b e)))
 
   -- and the unpacker's verdict, its plan and what it leaves in the slice are, for a slice of any length.
   pub unpacked-as-before : (planSlice : ℕ) → unpackPlan book assignment planSlice ≡ checkedBefore book assignment planSlice
@@ -123,7 +125,7 @@ module _ (book assignment : Bytes) where
   -- ---- the program
 
   -- what the program lends is long enough for every book's plan
-  program-room : RoomForPlan book (sliceOf 1)
+  pub program-room : RoomForPlan book (sliceOf 1)
   unfolding planLength instanceOf compile headFits between sliceOf sliceBytes
   program-room b read =
       let w = parts b (read-well-formed book b read) in
@@ -141,3 +143,7 @@ module _ (book assignment : Bytes) where
   pub unpacking-prints : printUnpacking book assignment ≡ lineBefore book assignment
   unfolding printUnpacking unpackPlan unpackedFor
   unpacking-prints = refl
+
+  -- so the line is the same, whether a file is named for the plan or not
+  pub same-line : printUnpacking book assignment ≡ printAssignment book assignment
+  same-line = unpacking-prints ∙ sym judging-prints

@@ -6,15 +6,16 @@ use Prim.Native.Nat.{ℕ}
 use native.Mathlib.Omega.{arith}
 use mathlib.Core.List.{[]}
 use Rattle.spec.specs.Lists.{Bytes, Verdict, accepted, refused, andThen}
-use Rattle.spec.specs.Entry.{written, checkAssignment, checkRefutation}
+use Rattle.spec.specs.Entry.{written, checkAssignment, unpackPlan, checkRefutation}
 use Rattle.spec.specs.Upgrade.{upgradeBook}
 use Rattle.spec.specs.Page.{printGraph}
 use Rattle.spec.specs.Programs.{sliceBytes, sliceOf, programLent, isLong, unlessLong, acceptedLine, printed, printAssignment, printUnpacking, printPlan, printRefutation, printUpgrade, printPage, printCarriers}
 use Rattle.laws.proofs.Tests.{from-false}
+use Rattle.demands.proofs.Unpacking.{same-line}
 use Rattle.programs.proofs.FormulaProgram.{held, held-whole, unless-same}
 use Rattle.programs.specs.declared.verdicts.Check.{Check}
 use Rattle.programs.specs.declared.verdicts.Check.the-variants.{Assignment, Unpacking, Plan, Refutation, Carriers}
-use Rattle.programs.specs.Verdicts.{bare, verdictOf, hasResult}
+use Rattle.programs.specs.Verdicts.{bare, verdictOf, hasResult, askedCheck}
 
 -- the output that a program lends
 pub output-lent : 65536 ≡ sliceOf 1
@@ -84,6 +85,23 @@ module _ (book s : Bytes) where
       (held-whole book (neither (isLong book) (isLong s) h .0))
       (held-whole s (neither (isLong book) (isLong s) h .1))
       ∙ ap (printGraph book s) output-lent)
+
+-- What check_assignment asks has a result exactly where a file is named for it, and prints one line, named or not.
+pub asked-result : (named : Bool) → hasResult (askedCheck Assignment named) ≡ named
+unfolding askedCheck hasResult
+asked-result true = refl
+asked-result false = refl
+
+pub asked-printed : (book s : Bytes) (named : Bool) → printed (λ _. acceptedLine) (verdict book s (askedCheck Assignment named)) ≡ printAssignment book s
+unfolding askedCheck
+asked-printed book s true = unpacking-printed book s ∙ same-line book s
+asked-printed book s false = assignment-printed book s
+
+-- The plan that it writes is the unpacker's.
+pub plan-unpacked : (book s : Bytes)
+    → written (verdict book s (askedCheck Assignment true)) ≡ written (unlessLong (isLong book || isLong s) (unpackPlan book s (sliceOf 1)))
+unfolding askedCheck verdictOf
+plan-unpacked book s = ap written (whole book s Unpacking)
 
 -- a check that has no result writes none, whatever its verdict
 pub no-result : (check : Check) (book s : Bytes) (room : ℕ) → hasResult check ≡ false → written (verdictOf check book s room) ≡ []

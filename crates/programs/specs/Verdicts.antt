@@ -1,6 +1,6 @@
 -- The verdict of each program over the checks, and what the program says of it. Assumes nothing.
 use mathlib.Core.Path.{_≡_}
-use mathlib.Core.Bool.{Bool, true, false}
+use mathlib.Core.Bool.{Bool, true, false, cond}
 use Prim.Native.Nat.{ℕ, _≤_}
 use mathlib.Core.List.{[]}
 use lib.ListN.{length}
@@ -35,10 +35,13 @@ hasResult Plan = true
 hasResult Refutation = false
 hasResult Carriers = true
 
--- which check of an assignment it is: its plan is unpacked where a file is named for it, and judged alone where none is
-unfoldable pub assignmentCheck : Bool → Check
-assignmentCheck true = Unpacking
-assignmentCheck false = Assignment
+-- which check is made: an assignment's plan is unpacked where a file is named for it, and only there
+unfoldable pub askedCheck : Check → Bool → Check
+askedCheck Assignment named = cond named Unpacking Assignment
+askedCheck Unpacking named = Unpacking
+askedCheck Plan named = Plan
+askedCheck Refutation named = Refutation
+askedCheck Carriers named = Carriers
 
 unfoldable pub isAccepted : Verdict Bytes → Bool
 isAccepted (accepted xs) = true

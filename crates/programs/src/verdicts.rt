@@ -30,7 +30,7 @@ ghost use Rattle.spec.specs.Carriers.{listCarriers};
 ghost use Rattle.spec.specs.Programs.{programLent, unlessLong, printed};
 ghost use Rattle.refutations.specs.Lent.{lengths};
 ghost use Rattle.programs.specs.Lines.{plainAnswer};
-ghost use Rattle.programs.specs.Verdicts.{bare, verdictOf, hasResult, assignmentCheck, Says, Tells};
+ghost use Rattle.programs.specs.Verdicts.{bare, verdictOf, hasResult, askedCheck, Says, Tells};
 
 // Which check a program makes. An assignment is judged alone, or judged and unpacked; the carriers are
 // listed of a plan that is checked.
@@ -273,11 +273,17 @@ fn hand_out(said: Said, line: &[u8], out: &[u8], result: &[u8], named: bool) {
     }
 }
 
-// Which check of an assignment it is: its plan is unpacked where a file is named for it, and only there.
-pub fn assignment_check(named: bool) -> Check
-    ensures { λ r. ⌜ r ≡ assignmentCheck named ⌝ }
+// Which check is made: an assignment's plan is unpacked where a file is named for it, and only there.
+fn asked(check: Check, named: bool) -> Check
+    ensures { λ r. ⌜ r ≡ askedCheck check named ⌝ }
 {
-    if named { Check::Unpacking } else { Check::Assignment }
+    match check {
+        Check::Assignment => if named { Check::Unpacking } else { Check::Assignment },
+        Check::Unpacking => Check::Unpacking,
+        Check::Plan => Check::Plan,
+        Check::Refutation => Check::Refutation,
+        Check::Carriers => Check::Carriers,
+    }
 }
 
 // Whether what a check accepts has a result: an assignment that is judged alone and a refutation have none.
@@ -306,8 +312,9 @@ pub fn judge_files(check: Check, book: &[u8], second: &[u8], result: &[u8], name
         let n = a.len;
         let m = b.len;
         let long = a.long || b.long;
-        let said = verdict_text(check, &bytes[..n], &more[..m], long, &mut out, &mut line);
-        hand_out(said, &line, &out, result, named && has_result(check));
+        let made = asked(check, named);
+        let said = verdict_text(made, &bytes[..n], &more[..m], long, &mut out, &mut line);
+        hand_out(said, &line, &out, result, named && has_result(made));
     }
 }
 
