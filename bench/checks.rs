@@ -1,9 +1,10 @@
 // Plain Rust of the three checks, of the train graph and of the list of carriers, to time the proved ones against, over plain.rs's reader
-// and walk. Written from documents 01 and 02; nothing in it is tuned by hand. A refusal is its number and its detail.
+// and walk, the checks under a cap on the borders or without one. Written from documents 01 and 02; nothing in it is tuned by hand. A refusal
+// is its number and its detail.
 
 use std::io::Write;
 
-use crate::plain::{holds, may_leave, meets, read_book, refuse_if, tables, two, walk, Book, Count, Sink, Store, Tables};
+use crate::plain::{holds, may_leave, meets, read_book, refuse_if, tables, two, walk, Book, Count, Counter, Sink, Store, Tables};
 
 type Verdict<T> = Result<T, (usize, usize)>;
 
@@ -12,11 +13,17 @@ fn plainly<T>(found: Result<T, usize>) -> Verdict<T> {
 }
 
 // Judges words by an assignment: the number of the first clause that is false, or 0.
-struct Judge<'a> {
+pub struct Judge<'a> {
     values: &'a [u8],
     holds: bool,
     clause: usize,
-    wrong: usize,
+    pub wrong: usize,
+}
+
+impl Judge<'_> {
+    pub fn new(values: &[u8]) -> Judge<'_> {
+        Judge { values, holds: false, clause: 0, wrong: 0 }
+    }
 }
 
 impl Sink for Judge<'_> {
@@ -41,21 +48,21 @@ fn plan_length(book: &Book) -> usize {
 // 13, then 14.
 fn judge(book: &Book, t: &Tables, values: &[u8]) -> Verdict<()> {
     plainly(refuse_if(values.len() != t.variables || values.iter().any(|&v| v > 1), 13))?;
-    let mut judge = Judge { values, holds: false, clause: 0, wrong: 0 };
+    let mut judge = Judge::new(values);
     walk(book, t, &mut judge);
     if judge.wrong != 0 { Err((14, judge.wrong)) } else { Ok(()) }
 }
 
 // Judges an assignment.
-pub fn check_assignment(s: &[u8], values: &[u8]) -> Verdict<()> {
+pub fn check_assignment(cap: Option<usize>, s: &[u8], values: &[u8]) -> Verdict<()> {
     let book = plainly(read_book(s))?;
-    judge(&book, &tables(&book), values)
+    judge(&book, &tables(&book, cap), values)
 }
 
 // Judges an assignment and writes its plan; answers the plan's length.
-pub fn unpack_plan(s: &[u8], values: &[u8], out: &mut [u8]) -> Verdict<usize> {
+pub fn unpack_plan(cap: Option<usize>, s: &[u8], values: &[u8], out: &mut [u8]) -> Verdict<usize> {
     let book = plainly(read_book(s))?;
-    let t = tables(&book);
+    let t = tables(&book, cap);
     plainly(refuse_if(out.len() < plan_length(&book), 12))?;
     judge(&book, &t, values)?;
     let mut at = book.nodes.len();
@@ -162,12 +169,15 @@ fn judged(book: &Book, plan: &[u8]) -> Verdict<(Vec<Vec<usize>>, Vec<usize>)> {
 }
 
 // Checks a plan and writes it as an assignment; answers the assignment's length.
-pub fn check_plan(s: &[u8], plan: &[u8], out: &mut [u8]) -> Verdict<usize> {
+pub fn check_plan(cap: Option<usize>, s: &[u8], plan: &[u8], out: &mut [u8]) -> Verdict<usize> {
     let book = plainly(read_book(s))?;
     let nodes = book.nodes.len();
+    let counter = Counter::new(&book.nodes, cap);
     let width = |runs: &Vec<Vec<u8>>| runs.len() + 1 + book.segments.len();
-    plainly(refuse_if(out.len() < nodes + book.intervals * book.runs.iter().map(width).sum::<usize>(), 12))?;
+    let variables = nodes + book.intervals * book.runs.iter().map(width).sum::<usize>() + counter.variables();
+    plainly(refuse_if(out.len() < variables, 12))?;
     let (moves, section) = judged(&book, plan)?;
+    plainly(refuse_if(counter.is_passed(plan), 22))?;
     out[..nodes].copy_from_slice(&plan[..nodes]);
     let mut at = nodes;
     for tr in 0..moves.len() {
@@ -185,7 +195,8 @@ pub fn check_plan(s: &[u8], plan: &[u8], out: &mut [u8]) -> Verdict<usize> {
             }
         }
     }
-    Ok(at)
+    counter.fill(plan, &mut out[at..variables]);
+    Ok(variables)
 }
 
 // Prints a plan's train graph; answers the page's length.
@@ -254,8 +265,8 @@ fn four(p: &[u8], at: usize) -> u32 {
 }
 
 // Checks a refutation; all slices are zero afterwards.
-pub fn check_refutation(s: &[u8], r: &[u8], lent: &mut Lent) -> Verdict<()> {
-    let found = refute(s, r, lent);
+pub fn check_refutation(cap: Option<usize>, s: &[u8], r: &[u8], lent: &mut Lent) -> Verdict<()> {
+    let found = refute(cap, s, r, lent);
     lent.words.fill(0);
     lent.clauses.fill(0);
     lent.values.fill(0);
@@ -263,9 +274,9 @@ pub fn check_refutation(s: &[u8], r: &[u8], lent: &mut Lent) -> Verdict<()> {
     found
 }
 
-fn refute(s: &[u8], r: &[u8], lent: &mut Lent) -> Verdict<()> {
+fn refute(cap: Option<usize>, s: &[u8], r: &[u8], lent: &mut Lent) -> Verdict<()> {
     let book = plainly(read_book(s))?;
-    let t = tables(&book);
+    let t = tables(&book, cap);
     let mut count = Count::default();
     walk(&book, &t, &mut count);
     let short = lent.words.len() < count.words || lent.clauses.len() < count.clauses;

@@ -3,11 +3,12 @@
 
   make_books.py random SEED DIR  writes random books, refused ones and ones with many intervals among them, for `./bench same`
   make_books.py [DIR]  writes big_star.book, big_ring.book, big_lanes.book, small_l.book, the smaller rings ring_8.book, ring_16.book and
-                       ring_32.book, stand_16.book and stand_64.book with their plans, shut.book and the scale books into DIR, by
-                       default beside itself
+                       ring_32.book, stand_16.book, stand_64.book and many_nodes.book with their plans, shut.book and the scale books
+                       into DIR, by default beside itself
 
 small_l.book is document 01's book L. Each big book has T = 32, 8 trains (l = 1, k = 1, departure 0) and about 250 runs a train; a smaller
-ring has 4 runs a segment. In a stand book the trains stand where their calls are. A shut book has a call whose window shuts before the
+ring has 4 runs a segment. In a stand book the trains stand where their calls are. many_nodes.book has little but 96 nodes of kind 1, every
+second one of which its plan sets: under cap 48 nearly all of its formula is the counter. A shut book has a call whose window shuts before the
 departure, so its formula has an empty clause. A scale book has the most of everything that its shape allows: T = 256, 96 nodes, 64
 segments, 8 trains, some 256 runs a train; scale_ring and scale_tracks have plans, in scale_long eight trains have no room. The plans of
 scale_apart and scale_close, with every border set, are for the list of carriers: no border of the first one's carries it, and two thirds of
@@ -100,6 +101,13 @@ def circling_plan(spec, border):
     n = len(spec.segments)
     codes = [struct.pack("<H", 2 * n + 2 * ((row[0] // 2 + i) % n)) for _, _, _, row in spec.trains for i in range(spec.T)]
     return bytes([border]) * len(spec.nodes) + b"".join(codes)
+
+
+def many_nodes():
+    """One segment, one train that stands there, T = 1, and 96 nodes of kind 1; with the plan that sets every second node."""
+    spec = book_l()
+    spec.nodes = [1] * 96
+    return spec, bytes([1, 0]) * 48 + struct.pack("<H", 0)
 
 
 def shut():
@@ -226,7 +234,7 @@ def all_files():
     for n in (16, 64):
         books["stand_%d" % n] = stand(n)
         plans["stand_%d" % n] = standing_plan(stand(n), 0)
-    for name, (spec, plan) in scale_books().items():
+    for name, (spec, plan) in (scale_books() | {"many_nodes": many_nodes()}).items():
         books[name] = spec
         if plan:
             plans[name] = plan

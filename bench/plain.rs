@@ -1,7 +1,7 @@
-// A plain Rust implementation of document 01's reader, with times of two bytes, speeds to the nearest segment and exits, and formula, to time
-// the proved one against: structs, Vec and iterators, follow lists and meeting triples worked out once a book, one walk over the
-// families that is generic in where its words go (counted, or stored in a slice).  Written from tools/reference.py; nothing in it is
-// tuned by hand.
+// A plain Rust implementation of document 01's reader, with times of two bytes, speeds to the nearest segment and exits, and formula, under a
+// cap on the borders or without one, to time the proved one against: structs, Vec and iterators, follow lists and meeting triples worked out
+// once a book, one walk over the families and the cap's counter that is generic in where its words go (counted, or stored in a slice).
+// Written from tools/reference.py; nothing in it is tuned by hand.
 
 // a node's kind
 const EXIT: u8 = 3;
@@ -259,6 +259,65 @@ impl Sink for Store<'_> {
     }
 }
 
+// A cap's counter over the nodes of kind 1; nothing is counted where `spare` is 0. Its variables stand behind all others: by j below `most`,
+// then k below `spare`, whether more than j of the first j + k + 1 of these nodes are set.
+#[derive(Default)]
+pub struct Counter {
+    nodes: Vec<usize>, // the nodes of kind 1
+    pub most: usize,   // the cap
+    pub spare: usize,  // how many more nodes there are than that
+}
+
+impl Counter {
+    // A cap that is not below the count of kind 1 nodes adds nothing.
+    pub fn new(kinds: &[u8], cap: Option<usize>) -> Counter {
+        let Some(most) = cap else { return Counter::default() };
+        let nodes: Vec<usize> = (0..kinds.len()).filter(|&node| kinds[node] == 1).collect();
+        let spare = nodes.len().saturating_sub(most);
+        if spare == 0 { Counter::default() } else { Counter { nodes, most, spare } }
+    }
+
+    pub fn variables(&self) -> usize {
+        self.most * self.spare
+    }
+
+    // Whether more nodes of kind 1 are set than the cap allows.
+    pub fn is_passed(&self, borders: &[u8]) -> bool {
+        self.nodes.iter().filter(|&&node| borders[node] == 1).count() > self.most
+    }
+
+    // Its clauses; `others` is how many variables stand ahead of its own.
+    pub fn walk<S: Sink>(&self, others: usize, out: &mut S) {
+        let count = |j: usize, k: usize| (others + j * self.spare + k + 1) as i32;
+        for j in 0..=self.most {
+            for k in 0..self.spare {
+                out.word(-(self.nodes[j + k] as i32 + 1));
+                if j > 0 {
+                    out.word(-count(j - 1, k));
+                }
+                if j < self.most {
+                    out.word(count(j, k));
+                }
+                out.close();
+                if j < self.most && k > 0 {
+                    out.clause(&[-count(j, k - 1), count(j, k)]);
+                }
+            }
+        }
+    }
+
+    // The values that borders give to its variables.
+    pub fn fill(&self, borders: &[u8], out: &mut [u8]) {
+        let mut set = 0;
+        let among: Vec<usize> = self.nodes.iter().map(|&node| { set += borders[node] as usize; set }).collect();
+        for j in 0..self.most {
+            for k in 0..self.spare {
+                out[j * self.spare + k] = u8::from(among[j + k] > j);
+            }
+        }
+    }
+}
+
 // What the walk looks up, worked out once a book.
 pub struct Tables {
     pub first: Vec<i32>,          // by train: its first variable, counted from 1
@@ -268,6 +327,7 @@ pub struct Tables {
     elsewhere: Vec<Vec<i32>>,  // by train: the runs that do not start at its place
     serving: Vec<Vec<Vec<i32>>>, // by train and call: the runs whose end serves it
     pub meets: Vec<(i32, i32, i32)>, // node, first segment, second segment
+    counter: Counter,
     pub variables: usize,
 }
 
@@ -296,7 +356,7 @@ pub fn meets(book: &Book) -> Vec<(i32, i32, i32)> {
     found
 }
 
-pub fn tables(book: &Book) -> Tables {
+pub fn tables(book: &Book, cap: Option<usize>) -> Tables {
     let mut t = Tables {
         first: Vec::new(),
         width: Vec::new(),
@@ -305,6 +365,7 @@ pub fn tables(book: &Book) -> Tables {
         elsewhere: Vec::new(),
         serving: Vec::new(),
         meets: meets(book),
+        counter: Counter::new(&book.nodes, cap),
         variables: 0,
     };
     let mut next = book.nodes.len() as i32 + 1;
@@ -326,11 +387,11 @@ pub fn tables(book: &Book) -> Tables {
             train.calls.iter().map(|c| numbers(&|r| holds(&r[end(r)..], c.segment))).collect(),
         );
     }
-    t.variables = next as usize - 1;
+    t.variables = next as usize - 1 + t.counter.variables();
     t
 }
 
-// The whole formula, family by family.
+// The whole formula, family by family, and the cap's clauses.
 pub fn walk<S: Sink>(book: &Book, t: &Tables, out: &mut S) {
     let trains = book.trains.len();
     let intervals = book.intervals;
@@ -430,12 +491,13 @@ pub fn walk<S: Sink>(book: &Book, t: &Tables, out: &mut S) {
             }
         }
     }
+    t.counter.walk(t.variables - t.counter.variables(), out);
 }
 
 // Variables, clauses and words, with the words written, or a refusal's number and the output as it was.
-pub fn write_formula(s: &[u8], out: &mut [i32]) -> Result<(usize, usize, usize), usize> {
+pub fn write_formula(cap: Option<usize>, s: &[u8], out: &mut [i32]) -> Result<(usize, usize, usize), usize> {
     let book = read_book(s)?;
-    let t = tables(&book);
+    let t = tables(&book, cap);
     let mut count = Count::default();
     walk(&book, &t, &mut count);
     refuse_if(out.len() < count.words, 12)?;

@@ -1,5 +1,5 @@
 // The proved entry points, through the static library that `rt staticlib gentupag` writes. Each answers a refusal's number and detail,
-// or what was written.
+// or what was written. What is about the formula takes a cap on the borders, or none.
 
 use crate::checks::Lent;
 
@@ -29,15 +29,22 @@ struct Totals {
 #[link(name = "gentupag", kind = "static")]
 unsafe extern "C" {
     fn gentupag_read_book(book: *const u8, len: usize) -> Verdict;
-    fn gentupag_write_formula(book: *const u8, len: usize, out: *mut i32, room: usize) -> Totals;
-    fn gentupag_judge_assignment(book: *const u8, len: usize, s: *const u8, n: usize) -> Verdict;
-    fn gentupag_unpack_plan(book: *const u8, len: usize, s: *const u8, n: usize, out: *mut u8, room: usize) -> Output;
-    fn gentupag_check_plan(book: *const u8, len: usize, s: *const u8, n: usize, out: *mut u8, room: usize) -> Output;
+    fn gentupag_write_formula_under(capped: usize, cap: usize, book: *const u8, len: usize, out: *mut i32, room: usize) -> Totals;
+    fn gentupag_judge_assignment_under(capped: usize, cap: usize, book: *const u8, len: usize, s: *const u8, n: usize) -> Verdict;
+    fn gentupag_unpack_plan_under(
+        capped: usize, cap: usize, book: *const u8, len: usize, s: *const u8, n: usize, out: *mut u8, room: usize) -> Output;
+    fn gentupag_check_plan_under(
+        capped: usize, cap: usize, book: *const u8, len: usize, s: *const u8, n: usize, out: *mut u8, room: usize) -> Output;
     fn gentupag_print_graph(book: *const u8, len: usize, s: *const u8, n: usize, out: *mut u8, room: usize) -> Output;
     fn gentupag_list_carriers(book: *const u8, len: usize, s: *const u8, n: usize, out: *mut u8, room: usize) -> Output;
-    fn gentupag_check_refutation(
-        book: *const u8, len: usize, r: *const u8, n: usize, words: *mut i32, w: usize, clauses: *mut usize, c: usize,
-        values: *mut u8, v: usize, trail: *mut usize, t: usize) -> Verdict;
+    fn gentupag_check_refutation_under(
+        capped: usize, cap: usize, book: *const u8, len: usize, r: *const u8, n: usize, words: *mut i32, w: usize, clauses: *mut usize,
+        c: usize, values: *mut u8, v: usize, trail: *mut usize, t: usize) -> Verdict;
+}
+
+// The two numbers of a cap; without one the second is not looked at.
+fn numbers(cap: Option<usize>) -> (usize, usize) {
+    cap.map_or((0, 0), |cap| (1, cap))
 }
 
 fn found<T>(number: usize, detail: usize, result: T) -> Result<T, (usize, usize)> {
@@ -49,18 +56,23 @@ pub fn read_book(book: &[u8]) -> Result<(), (usize, usize)> {
     found(r.number, r.detail, ())
 }
 
-pub fn write_formula(book: &[u8], out: &mut [i32]) -> Result<(usize, usize, usize), (usize, usize)> {
-    let r = unsafe { gentupag_write_formula(book.as_ptr(), book.len(), out.as_mut_ptr(), out.len()) };
+pub fn write_formula(cap: Option<usize>, book: &[u8], out: &mut [i32]) -> Result<(usize, usize, usize), (usize, usize)> {
+    let (capped, cap) = numbers(cap);
+    let r = unsafe { gentupag_write_formula_under(capped, cap, book.as_ptr(), book.len(), out.as_mut_ptr(), out.len()) };
     found(r.number, r.detail, (r.variables, r.clauses, r.words))
 }
 
-pub fn check_assignment(book: &[u8], s: &[u8]) -> Result<(), (usize, usize)> {
-    let r = unsafe { gentupag_judge_assignment(book.as_ptr(), book.len(), s.as_ptr(), s.len()) };
+pub fn check_assignment(cap: Option<usize>, book: &[u8], s: &[u8]) -> Result<(), (usize, usize)> {
+    let (capped, cap) = numbers(cap);
+    let r = unsafe { gentupag_judge_assignment_under(capped, cap, book.as_ptr(), book.len(), s.as_ptr(), s.len()) };
     found(r.number, r.detail, ())
 }
 
-pub fn unpack_plan(book: &[u8], s: &[u8], out: &mut [u8]) -> Result<usize, (usize, usize)> {
-    let r = unsafe { gentupag_unpack_plan(book.as_ptr(), book.len(), s.as_ptr(), s.len(), out.as_mut_ptr(), out.len()) };
+pub fn unpack_plan(cap: Option<usize>, book: &[u8], s: &[u8], out: &mut [u8]) -> Result<usize, (usize, usize)> {
+    let (capped, cap) = numbers(cap);
+    let r = unsafe {
+        gentupag_unpack_plan_under(capped, cap, book.as_ptr(), book.len(), s.as_ptr(), s.len(), out.as_mut_ptr(), out.len())
+    };
     found(r.number, r.detail, r.length)
 }
 
@@ -74,15 +86,19 @@ pub fn list_carriers(book: &[u8], s: &[u8], out: &mut [u8]) -> Result<usize, (us
     found(r.number, r.detail, r.length)
 }
 
-pub fn check_plan(book: &[u8], s: &[u8], out: &mut [u8]) -> Result<usize, (usize, usize)> {
-    let r = unsafe { gentupag_check_plan(book.as_ptr(), book.len(), s.as_ptr(), s.len(), out.as_mut_ptr(), out.len()) };
+pub fn check_plan(cap: Option<usize>, book: &[u8], s: &[u8], out: &mut [u8]) -> Result<usize, (usize, usize)> {
+    let (capped, cap) = numbers(cap);
+    let r = unsafe {
+        gentupag_check_plan_under(capped, cap, book.as_ptr(), book.len(), s.as_ptr(), s.len(), out.as_mut_ptr(), out.len())
+    };
     found(r.number, r.detail, r.length)
 }
 
-pub fn check_refutation(book: &[u8], r: &[u8], lent: &mut Lent) -> Result<(), (usize, usize)> {
+pub fn check_refutation(cap: Option<usize>, book: &[u8], r: &[u8], lent: &mut Lent) -> Result<(), (usize, usize)> {
+    let (capped, cap) = numbers(cap);
     let r = unsafe {
-        gentupag_check_refutation(
-            book.as_ptr(), book.len(), r.as_ptr(), r.len(), lent.words.as_mut_ptr(), lent.words.len(),
+        gentupag_check_refutation_under(
+            capped, cap, book.as_ptr(), book.len(), r.as_ptr(), r.len(), lent.words.as_mut_ptr(), lent.words.len(),
             lent.clauses.as_mut_ptr(), lent.clauses.len(), lent.values.as_mut_ptr(), lent.values.len(),
             lent.trail.as_mut_ptr(), lent.trail.len())
     };

@@ -1,5 +1,5 @@
-// Holds the proved functions, the plain ones and the tuned ones together: answers and outputs, on an input, on damaged ones, and with
-// outputs that are too short. The first difference ends the program.
+// Holds the proved functions, the plain ones and the tuned ones together: answers and outputs, on an input, on damaged ones, with outputs that
+// are too short, and under caps on the borders. The first difference ends the program.
 
 use std::sync::atomic::{AtomicUsize, Ordering};
 
@@ -46,7 +46,7 @@ fn damaged(bytes: &[u8], random: &mut Random) -> Vec<u8> {
 }
 
 // How many answers had each refusal's number; 0 is accepted.
-static ANSWERS: [AtomicUsize; 22] = [const { AtomicUsize::new(0) }; 22];
+static ANSWERS: [AtomicUsize; 23] = [const { AtomicUsize::new(0) }; 23];
 
 fn tally<T>(found: &Result<T, (usize, usize)>) {
     ANSWERS[found.as_ref().map_or_else(|refusal| refusal.0, |_| 0)].fetch_add(1, Ordering::Relaxed);
@@ -62,41 +62,71 @@ fn with_detail<T>(found: Result<T, usize>) -> Result<T, (usize, usize)> {
     found.map_err(|number| (number, 0))
 }
 
+// Caps to try: none, and around the number of nodes of kind 1.
+fn caps(kinds: &[u8]) -> Vec<Option<usize>> {
+    let count = kinds.iter().filter(|&&kind| kind == 1).count();
+    let numbers = [0, 1, count / 2, count.saturating_sub(1), count, count + 1, usize::MAX];
+    std::iter::once(None).chain(numbers.map(Some)).collect()
+}
+
+fn one_of<T: Copy>(all: &[T], random: &mut Random) -> T {
+    all[random.below(all.len())]
+}
+
+// How many variables the formula has under a cap.
+fn variables(cap: Option<usize>, book: &[u8], space: &mut Space) -> usize {
+    tuned_formula::prepare(cap, book, space).expect("a good book").totals.variables
+}
+
+// Values without a cap, with the counter's behind them as their borders have it.
+fn counted(cap: Option<usize>, kinds: &[u8], values: &[u8]) -> Vec<u8> {
+    let counter = plain::Counter::new(kinds, cap);
+    let mut all = values.to_vec();
+    all.resize(values.len() + counter.variables(), 0);
+    counter.fill(values, &mut all[values.len()..]);
+    all
+}
+
 // Reading, and writing the formula with all the room and with a word too little.
-fn formula(name: &str, book: &[u8], space: &mut Space) {
+fn formula(name: &str, cap: Option<usize>, book: &[u8], space: &mut Space) {
     let read = proved::read_book(book);
     tally(&read);
     assert_eq!(read, with_detail(plain::read_book(book).map(|_| ())), "{name}, read, plain");
     assert_eq!(read, with_detail(tuned::read_book::<false>(book, space)), "{name}, read, tuned");
-    let Ok(sizes) = tuned_formula::prepare(book, space) else { return assert!(read.is_err(), "{name}, read, tuned") };
+    let Ok(sizes) = tuned_formula::prepare(cap, book, space) else { return assert!(read.is_err(), "{name}, read, tuned") };
     assert!(read.is_ok(), "{name}, read, tuned");
     let words = sizes.totals.words;
     for room in [words + 1, words, words - 1] {
         let [mut one, mut two, mut three] = [(); 3].map(|_| vec![7i32; room]);
-        let found = proved::write_formula(book, &mut one);
+        let found = proved::write_formula(cap, book, &mut one);
         tally(&found);
-        assert_eq!(found, with_detail(plain::write_formula(book, &mut two)), "{name}, write, plain");
-        let totals = tuned_formula::write_formula(book, &mut three, space).map(|t| (t.variables, t.clauses, t.words));
+        assert_eq!(found, with_detail(plain::write_formula(cap, book, &mut two)), "{name}, write, plain");
+        let totals = tuned_formula::write_formula(cap, book, &mut three, space).map(|t| (t.variables, t.clauses, t.words));
         assert_eq!(found, with_detail(totals), "{name}, write, tuned");
         assert!(one == two && one == three, "{name}: the outputs differ");
     }
 }
 
+// The formula under each cap, and damaged books under one of them.
 pub fn formulas(name: &str, book: &[u8], space: &mut Space) {
-    formula(name, book, space);
+    let caps = plain::read_book(book).map_or(vec![None], |read| caps(&read.nodes));
+    let words = tuned_formula::prepare(None, book, space).map_or(1, |s| s.totals.words);
+    for &cap in caps.iter().take(1 + 1_000_000_000 / words) {
+        formula(name, cap, book, space);
+    }
     let mut random = Random(88172645463325252);
-    for _ in 0..damages().min(200_000_000 / tuned_formula::prepare(book, space).map_or(1, |s| s.totals.words)) {
-        formula(name, &damaged(book, &mut random), space);
+    for _ in 0..damages().min(200_000_000 / words) {
+        formula(name, one_of(&caps, &mut random), &damaged(book, &mut random), space);
     }
 }
 
 // Checks a plan; answers the assignment.
-fn plan(name: &str, book: &[u8], plan: &[u8], room: usize, space: &mut Space) -> Option<Vec<u8>> {
+fn plan(name: &str, cap: Option<usize>, book: &[u8], plan: &[u8], room: usize, space: &mut Space) -> Option<Vec<u8>> {
     let [mut one, mut two, mut three] = [(); 3].map(|_| vec![9u8; room]);
-    let found = proved::check_plan(book, plan, &mut one);
+    let found = proved::check_plan(cap, book, plan, &mut one);
     tally(&found);
-    assert_eq!(found, checks::check_plan(book, plan, &mut two), "{name}, plan, plain");
-    assert_eq!(found, tuned_checks::check_plan(book, plan, &mut three, space), "{name}, plan, tuned");
+    assert_eq!(found, checks::check_plan(cap, book, plan, &mut two), "{name}, plan, plain");
+    assert_eq!(found, tuned_checks::check_plan(cap, book, plan, &mut three, space), "{name}, plan, tuned");
     assert!(one == two && one == three, "{name}: the assignments differ");
     found.ok().map(|n| one[..n].to_vec())
 }
@@ -130,40 +160,52 @@ pub fn with_borders(book: &plain::Book, plan: &[u8], mut wanted: impl FnMut() ->
 }
 
 // Judges an assignment and unpacks its plan; answers the plan.
-fn assignment(name: &str, book: &[u8], values: &[u8], room: usize, space: &mut Space) -> Option<Vec<u8>> {
+fn assignment(name: &str, cap: Option<usize>, book: &[u8], values: &[u8], room: usize, space: &mut Space) -> Option<Vec<u8>> {
     let [mut one, mut two, mut three] = [(); 3].map(|_| vec![9u8; room]);
-    let judged = proved::check_assignment(book, values);
+    let judged = proved::check_assignment(cap, book, values);
     tally(&judged);
-    assert_eq!(judged, checks::check_assignment(book, values), "{name}, assignment, plain");
-    assert_eq!(judged, tuned_checks::check_assignment(book, values, space), "{name}, assignment, tuned");
-    let found = proved::unpack_plan(book, values, &mut one);
+    assert_eq!(judged, checks::check_assignment(cap, book, values), "{name}, assignment, plain");
+    assert_eq!(judged, tuned_checks::check_assignment(cap, book, values, space), "{name}, assignment, tuned");
+    let found = proved::unpack_plan(cap, book, values, &mut one);
     tally(&found);
-    assert_eq!(found, checks::unpack_plan(book, values, &mut two), "{name}, unpacking, plain");
-    assert_eq!(found, tuned_checks::unpack_plan(book, values, &mut three, space), "{name}, unpacking, tuned");
+    assert_eq!(found, checks::unpack_plan(cap, book, values, &mut two), "{name}, unpacking, plain");
+    assert_eq!(found, tuned_checks::unpack_plan(cap, book, values, &mut three, space), "{name}, unpacking, tuned");
     assert!(one == two && one == three, "{name}: the plans differ");
     found.ok().map(|n| one[..n].to_vec())
 }
 
-// A plan and its assignment, both also damaged. Answers the assignment.
-pub fn judgements(name: &str, book: &[u8], good: &[u8], space: &mut Space) -> Vec<u8> {
-    let variables = tuned_formula::prepare(book, space).expect("a good book").totals.variables;
-    let values = plan(name, book, good, variables, space).expect("a good plan");
-    assert_eq!(assignment(name, book, &values, good.len(), space).as_deref(), Some(good));
+// A plan that is within a cap and its assignment, both also damaged, under this cap and others. Answers the assignment.
+pub fn judgements(name: &str, cap: Option<usize>, book: &[u8], good: &[u8], space: &mut Space) -> Vec<u8> {
+    let [values, capped] = [None, cap].map(|cap| {
+        let room = variables(cap, book, space);
+        let values = plan(name, cap, book, good, room, space).expect("a good plan");
+        assert_eq!(assignment(name, cap, book, &values, good.len(), space).as_deref(), Some(good));
+        values
+    });
     trials(name, book, good, &values, damages(), space);
-    values
+    capped
 }
 
+// A plan, and values of the formula without a cap that say the same.
 fn trials(name: &str, book: &[u8], good: &[u8], values: &[u8], times: usize, space: &mut Space) {
     let mut random = Random(88172645463325252);
     let read = plain::read_book(book).expect("a good book");
     let (page, list) = (81 * read.intervals, 4 * read.nodes.iter().filter(|&&kind| kind == 1).count());
     for k in 0..times {
         let near = damaged(good, &mut random);
-        plan(name, book, &near, values.len() + k % 3 - 1, space);
         graph(name, book, if k % 8 == 0 { good } else { &near }, page + k % 3 - 1);
         let bordered = with_borders(&read, good, || random.below(4) <= k % 4);
         carriers(name, book, if k % 2 == 0 { &bordered } else { &near }, (list + k % 3).saturating_sub(1), space);
-        assignment(name, book, &damaged(values, &mut random), good.len() + k % 3 - 1, space);
+        let cap = one_of(&caps(&read.nodes), &mut random);
+        let others = [&bordered[..read.nodes.len()], &values[read.nodes.len()..]].concat();
+        let all = counted(cap, &read.nodes, &others);
+        let room = all.len() + k % 3 - 1;
+        plan(name, cap, book, &near, room, space);
+        plan(name, cap, book, &bordered, room, space);
+        let (ahead, counter) = all.split_at(others.len());
+        let counter = if k % 2 == 0 || counter.is_empty() { counter.to_vec() } else { damaged(counter, &mut random) };
+        let ahead = if k % 2 == 0 { damaged(ahead, &mut random) } else { ahead.to_vec() };
+        assignment(name, cap, book, &[ahead, counter].concat(), good.len() + k % 3 - 1, space);
     }
 }
 
@@ -205,45 +247,50 @@ impl Slices {
     }
 }
 
-fn refutation(name: &str, book: &[u8], r: &[u8], less: [usize; 4], all: &mut [Slices; 3], space: &mut Space) -> bool {
+fn refutation(name: &str, cap: Option<usize>, book: &[u8], r: &[u8], less: [usize; 4], all: &mut [Slices; 3], space: &mut Space) -> bool {
     let [one, two, three] = all;
-    let found = proved::check_refutation(book, r, &mut one.shorter(less));
+    let found = proved::check_refutation(cap, book, r, &mut one.shorter(less));
     tally(&found);
-    assert_eq!(found, checks::check_refutation(book, r, &mut two.shorter(less)), "{name}, refutation, plain");
-    assert_eq!(found, tuned_checks::check_refutation(book, r, &mut three.shorter(less), space), "{name}, refutation, tuned");
+    assert_eq!(found, checks::check_refutation(cap, book, r, &mut two.shorter(less)), "{name}, refutation, plain");
+    assert_eq!(found, tuned_checks::check_refutation(cap, book, r, &mut three.shorter(less), space), "{name}, refutation, tuned");
     assert!(all.iter().all(|slices| slices.is_clear(less)), "{name}: the slices are not zero");
     found.is_ok()
 }
 
-// A refutation, also damaged, and with slices that are too short by one.
-pub fn refutations(name: &str, book: &[u8], r: &[u8], all: &mut [Slices; 3], space: &mut Space) {
-    assert!(refutation(name, book, r, [0; 4], all, space), "{name}: a good refutation");
+// A refutation under a cap, also damaged, some of it under other caps, and with slices that are too short by one.
+pub fn refutations(name: &str, cap: Option<usize>, book: &[u8], r: &[u8], all: &mut [Slices; 3], space: &mut Space) {
+    assert!(refutation(name, cap, book, r, [0; 4], all, space), "{name}: a good refutation");
     let mut random = Random(88172645463325252);
+    let caps = caps(&plain::read_book(book).expect("a good book").nodes);
     // and the first bytes of a long one, which is seldom damaged in its first steps
     let head = &r[..r.len().min(20_000)];
-    for _ in 0..damages().min(2 + 1_000_000_000 / (r.len() + 50 * all[0].words.len())) {
-        refutation(name, book, &damaged(r, &mut random), [0; 4], all, space);
-        refutation(name, book, &damaged(head, &mut random), [0; 4], all, space);
+    for k in 0..damages().min(2 + 1_000_000_000 / (r.len() + 50 * all[0].words.len())) {
+        let cap = if k % 4 == 3 { one_of(&caps, &mut random) } else { cap };
+        refutation(name, cap, book, &damaged(r, &mut random), [0; 4], all, space);
+        refutation(name, cap, book, &damaged(head, &mut random), [0; 4], all, space);
     }
     for less in [[1, 0, 0, 0], [0, 1, 0, 0], [0, 0, 1, 0], [0, 0, 0, 1]] {
-        assert!(!refutation(name, book, r, less, all, space), "{name}: short slices");
+        assert!(!refutation(name, cap, book, r, less, all, space), "{name}: short slices");
     }
 }
 
 // Another book: its formula, damaged too; random plans; and random assignments that keep most clauses.
 pub fn all(name: &str, book: &[u8], space: &mut Space) {
     formulas(name, book, space);
-    let Ok(sizes) = tuned_formula::prepare(book, space) else { return };
+    let Ok(sizes) = tuned_formula::prepare(None, book, space) else { return };
     let (variables, length) = (sizes.totals.variables, space.book.nodes + 2 * space.book.trains * space.book.intervals);
+    let kinds = space.book.kinds[..space.book.nodes].to_vec();
     let mut random = Random(88172645463325252);
     for _ in 0..damages() {
         let (good, values) = likely(space, variables, length, &mut random);
-        if let Some(values) = plan(name, book, &good, variables, space) {
-            assignment(name, book, &values, length, space);
-            trials(name, book, &good, &values, 10, space);
+        let cap = one_of(&caps(&kinds), &mut random);
+        let values = counted(cap, &kinds, &values);
+        if let Some(written) = plan(name, cap, book, &good, values.len(), space) {
+            assignment(name, cap, book, &written, length, space);
+            trials(name, book, &good, &written[..variables], 10, space);
         }
-        assignment(name, book, &values, length, space);
-        tuned_formula::prepare(book, space).expect("it was read before");
+        assignment(name, cap, book, &values, length, space);
+        tuned_formula::prepare(None, book, space).expect("it was read before");
     }
 }
 

@@ -1,7 +1,7 @@
-// Figures at the largest sizes that a book may have, on the scale books of make_books.py. Answers and outputs are compared first, as
-// elsewhere. Of each worker the median time is kept, with the shortest and the longest, and the most memory that the process had while
-// it worked: the lent slices, the inputs, and what the function allocates. That is VmHWM of /proc/self/status, set back before each turn
-// (Linux, glibc).
+// Figures at the largest sizes that a book may have, without a cap, on the scale books of make_books.py. Answers and outputs are compared
+// first, as elsewhere. Of each worker the median time is kept, with the shortest and the longest, and the most memory that the process had
+// while it worked: the lent slices, the inputs, and what the function allocates. That is VmHWM of /proc/self/status, set back before each
+// turn (Linux, glibc).
 
 use crate::refutation::Part;
 use crate::same::{self, Slices};
@@ -54,20 +54,20 @@ fn measure<L>(what: &str, bytes: usize, mut lent: L, mut workers: Vec<Worker<L>>
 
 fn formula(name: &str, book: &[u8], totals: Totals, space: &mut Space) {
     same::formulas(name, book, space);
-    measure("write the formula", 4 * totals.words, vec![1; totals.words], workers::writers(book, space));
+    measure("write the formula", 4 * totals.words, vec![1; totals.words], workers::writers(None, book, space));
 }
 
 fn plan(name: &str, book: &[u8], totals: Totals, space: &mut Space) {
     let plan = load(&format!("{name}.plan"));
-    same::judgements(name, book, &plan, space);
-    measure("check the plan", totals.variables, vec![1; totals.variables], workers::plan_checkers(book, &plan, space));
+    same::judgements(name, None, book, &plan, space);
+    measure("check the plan", totals.variables, vec![1; totals.variables], workers::plan_checkers(None, book, &plan, space));
     measure("print the train graph", 20736, vec![1; 20736], workers::graph_printers(book, &plan));
 }
 
 // Listing the carriers; the plans have every border set.
 fn carriers(name: &str, book: &[u8], _: Totals, space: &mut Space) {
     let plan = load(&format!("{name}.plan"));
-    same::judgements(name, book, &plan, space);
+    same::judgements(name, None, book, &plan, space);
     let (mut list, set) = (vec![1; 384], plan[..space.book.nodes].iter().filter(|&&border| border == 1).count());
     let entries = checks::list_carriers(book, &plan, &mut list).expect("a good plan") / 4;
     measure(&format!("list the carriers, {entries} of {set}"), list.len(), list, workers::carrier_listers(book, &plan, space));
@@ -75,9 +75,9 @@ fn carriers(name: &str, book: &[u8], _: Totals, space: &mut Space) {
 
 fn assignment(name: &str, book: &[u8], _: Totals, space: &mut Space) {
     let plan = load(&format!("{name}.plan"));
-    let values = same::judgements(name, book, &plan, space);
-    measure("check the assignment", 0, (), workers::assignment_checkers(book, &values, space));
-    measure("unpack its plan", plan.len(), vec![1; plan.len()], workers::unpackers(book, &values, space));
+    let values = same::judgements(name, None, book, &plan, space);
+    measure("check the assignment", 0, (), workers::assignment_checkers(None, book, &values, space));
+    measure("unpack its plan", plan.len(), vec![1; plan.len()], workers::unpackers(None, book, &values, space));
 }
 
 // Parts of a refutation: the borders and, of every train, two intervals; 16 such pairs of intervals from the first to the last.
@@ -98,12 +98,12 @@ fn parts(space: &Space) -> Vec<Part> {
 
 fn refutation(name: &str, book: &[u8], totals: Totals, space: &mut Space) {
     let steps = 100_000;
-    let (r, hints, added) = refutation_of(book, totals, steps, &parts(space), space);
+    let (r, hints, added) = refutation_of(None, book, totals, steps, &parts(space), space);
     println!("  a refutation of {steps} steps, {hints} hints, {}", amount(r.len()));
     let slices = || Slices::new(totals, added, steps);
-    same::refutations(name, book, &r, &mut [slices(), slices(), slices()], space);
+    same::refutations(name, None, book, &r, &mut [slices(), slices(), slices()], space);
     let lent = slices();
-    measure("check the refutation", lent.bytes(), lent, workers::refutation_checkers(book, &r, space));
+    measure("check the refutation", lent.bytes(), lent, workers::refutation_checkers(None, book, &r, space));
 }
 
 type Figure = fn(&str, &[u8], Totals, &mut Space);
@@ -124,7 +124,7 @@ pub fn figures(only: Option<&str>, space: &mut Space) {
     for (_, figure, names) in chosen {
         for name in names.iter().filter(|name| wanted(name)) {
             let book = load(&format!("{name}.book"));
-            let totals = sizes(&book, space);
+            let totals = sizes(None, &book, space);
             println!("{name}: {} variables, {} clauses, {} words", totals.variables, totals.clauses, totals.words);
             figure(name, &book, totals, space);
         }

@@ -7,10 +7,12 @@
 //   up by section and interval, sixteen intervals at a time.
 // - In a refutation a step allocates and clears nothing; hints are read where they are, and without tests of an index; the clause of a
 //   hint eight hints on is fetched ahead; hints are tested, and the beginnings of clauses found, without a branch a number or a word.
+//
+// A cap's counter is plain.rs's, clause by clause, as in tuned_formula.rs.
 
 use std::arch::x86_64::{_mm_prefetch, _MM_HINT_T0};
 
-use crate::checks::Lent;
+use crate::checks::{Judge, Lent};
 use crate::tuned::{bits, index_runs, read_book, Book, Call, List, Space, Table, Train, INTERVALS, SEGMENTS, TRAINS};
 use crate::tuned_formula::{met_at_departure, prepare, width, write, Sizes};
 
@@ -196,7 +198,9 @@ fn judge(space: &mut Space, sizes: &Sizes, values: &[u8]) -> Result<(), usize> {
         }
         before += sizes.clauses[8] / t;
     }
-    Ok(())
+    let mut counted = Judge::new(values);
+    sizes.counter.walk(first[m], &mut counted);
+    if counted.wrong != 0 { Err(before + counted.wrong) } else { Ok(()) }
 }
 
 // The number, among an interval's clauses of I, of the first false one.
@@ -241,14 +245,14 @@ fn judge_values(space: &mut Space, sizes: &Sizes, values: &[u8]) -> Verdict<()> 
 }
 
 // Judges an assignment.
-pub fn check_assignment(s: &[u8], values: &[u8], space: &mut Space) -> Verdict<()> {
-    let sizes = prepare(s, space).map_err(|n| (n, 0))?;
+pub fn check_assignment(cap: Option<usize>, s: &[u8], values: &[u8], space: &mut Space) -> Verdict<()> {
+    let sizes = prepare(cap, s, space).map_err(|n| (n, 0))?;
     judge_values(space, &sizes, values)
 }
 
 // Judges an assignment and writes its plan; answers the plan's length.
-pub fn unpack_plan(s: &[u8], values: &[u8], out: &mut [u8], space: &mut Space) -> Verdict<usize> {
-    let sizes = prepare(s, space).map_err(|n| (n, 0))?;
+pub fn unpack_plan(cap: Option<usize>, s: &[u8], values: &[u8], out: &mut [u8], space: &mut Space) -> Verdict<usize> {
+    let sizes = prepare(cap, s, space).map_err(|n| (n, 0))?;
     let length = plan_length(space);
     let Some(out) = out.get_mut(..length) else { return Err((12, 0)) };
     judge_values(space, &sizes, values)?;
@@ -331,11 +335,14 @@ fn keep_rules(space: &mut Space, plan: &[u8]) -> Verdict<[u64; SEGMENTS]> {
 }
 
 // Checks a plan and writes it as an assignment; answers the assignment's length.
-pub fn check_plan(s: &[u8], plan: &[u8], out: &mut [u8], space: &mut Space) -> Verdict<usize> {
-    let sizes = prepare(s, space).map_err(|n| (n, 0))?;
+pub fn check_plan(cap: Option<usize>, s: &[u8], plan: &[u8], out: &mut [u8], space: &mut Space) -> Verdict<usize> {
+    let sizes = prepare(cap, s, space).map_err(|n| (n, 0))?;
     let variables = sizes.totals.variables;
     let Some(out) = out.get_mut(..variables) else { return Err((12, 0)) };
     keep_rules(space, plan)?;
+    if sizes.counter.is_passed(plan) {
+        return Err((22, 0));
+    }
     let Space { book, lists, moves, claims, .. } = space;
     let (borders, mut rest) = out.split_at_mut(book.nodes);
     borders.copy_from_slice(&plan[..book.nodes]);
@@ -352,6 +359,7 @@ pub fn check_plan(s: &[u8], plan: &[u8], out: &mut [u8], space: &mut Space) -> V
             rest = behind;
         }
     }
+    sizes.counter.fill(plan, rest);
     Ok(variables)
 }
 
@@ -404,8 +412,8 @@ fn first_meeting(group: u64, section: &[u64; SEGMENTS], there: &[[u8; INTERVALS]
 }
 
 // Checks a refutation; all slices are zero afterwards.
-pub fn check_refutation(s: &[u8], r: &[u8], lent: &mut Lent, space: &mut Space) -> Verdict<()> {
-    let found = refute(s, r, lent, space);
+pub fn check_refutation(cap: Option<usize>, s: &[u8], r: &[u8], lent: &mut Lent, space: &mut Space) -> Verdict<()> {
+    let found = refute(cap, s, r, lent, space);
     lent.words.fill(0);
     lent.clauses.fill(0);
     lent.values.fill(0);
@@ -425,14 +433,15 @@ fn index_clauses(words: &[i32], starts: &mut [usize]) {
     }
 }
 
-fn refute(s: &[u8], r: &[u8], lent: &mut Lent, space: &mut Space) -> Verdict<()> {
-    let totals = prepare(s, space).map_err(|n| (n, 0))?.totals;
+fn refute(cap: Option<usize>, s: &[u8], r: &[u8], lent: &mut Lent, space: &mut Space) -> Verdict<()> {
+    let sizes = prepare(cap, s, space).map_err(|n| (n, 0))?;
+    let totals = sizes.totals;
     let short = lent.words.len() < totals.words || lent.clauses.len() < totals.clauses;
     if short || lent.values.len() < totals.variables || lent.trail.len() < totals.variables {
         return Err((12, 0));
     }
     let formula = &mut lent.words[..totals.words];
-    write(space, formula);
+    write(space, &sizes, formula);
     index_clauses(formula, lent.clauses);
     lent.values[..totals.variables].fill(0);
     let mut kept = Kept { words: totals.words, clauses: totals.clauses, variables: totals.variables };

@@ -6,9 +6,12 @@
 // - E and G are written for a train's first interval; the next ones are that block again with the variables moved on by the interval's
 //   width, which is a loop over words without branches. H is a table of four words a clause that two numbers are added to.
 // - The runs that follow a run are a stretch of the runs by where they start.
+//
+// A cap's counter is plain.rs's, but for its sizes: it is a small part of a formula, and nothing was done about it.
 
 use std::arch::x86_64::{__m128i, _mm_add_epi32, _mm_setr_epi32, _mm_storeu_si128};
 
+use crate::plain::{Counter, Store};
 use crate::tuned::{bits, index_runs, read_book, Book, Call, List, Space, Train, EXIT};
 
 #[derive(Clone, Copy, Default, PartialEq, Debug)]
@@ -49,13 +52,20 @@ fn list_meets(space: &mut Space) {
     space.meet_count = n;
 }
 
-// Clauses of each family, by the book's counts; and all words. `clauses` has those of A, B, .. I.
+// Clauses of each family, by the book's counts; and all words. `clauses` has those of A, B, .. I; the totals have the cap's too.
 pub struct Sizes {
     pub clauses: [usize; 9],
     pub totals: Totals,
+    pub counter: Counter,
 }
 
-fn measure(space: &Space) -> Sizes {
+// What a cap adds to the totals.
+fn added(counter: &Counter) -> Totals {
+    let (c, w) = (counter.most, counter.spare);
+    if w == 0 { Totals::default() } else { Totals { variables: c * w, clauses: 2 * c * w + w - c, words: 7 * c * w + 2 * w - 3 * c } }
+}
+
+fn measure(space: &Space, cap: Option<usize>) -> Sizes {
     let book = &space.book;
     let (t, m, s) = (book.intervals, book.trains, book.segments);
     let (mut clauses, mut words) = ([0; 9], 0);
@@ -86,15 +96,19 @@ fn measure(space: &Space) -> Sizes {
     clauses[7] = m * t * space.meet_count;
     clauses[8] = t * s * (m * (m - 1) / 2);
     words += 2 * (clauses[0] + clauses[1] + clauses[3]) + 3 * (clauses[6] + clauses[8]) + 4 * clauses[7];
-    Sizes { clauses, totals: Totals { variables, clauses: clauses.iter().sum(), words } }
+    let counter = Counter::new(&book.kinds[..book.nodes], cap);
+    let more = added(&counter);
+    let totals =
+        Totals { variables: variables + more.variables, clauses: clauses.iter().sum::<usize>() + more.clauses, words: words + more.words };
+    Sizes { clauses, totals, counter }
 }
 
 // Everything that formula and checks look up, from the bytes of a book.
-pub fn prepare(s: &[u8], space: &mut Space) -> Result<Sizes, usize> {
+pub fn prepare(cap: Option<usize>, s: &[u8], space: &mut Space) -> Result<Sizes, usize> {
     read_book::<true>(s, space)?;
     index_runs(&space.book, &mut space.lists[..space.list_count]);
     list_meets(space);
-    Ok(measure(space))
+    Ok(measure(space, cap))
 }
 
 // Where the next word goes, and the end of the output.
@@ -172,7 +186,9 @@ impl Pen {
 }
 
 // Writes the formula by a space that is prepared; its words fit.
-pub fn write(space: &Space, out: &mut [i32]) {
+pub fn write(space: &Space, sizes: &Sizes, out: &mut [i32]) {
+    let (out, behind) = out.split_at_mut(sizes.totals.words - added(&sizes.counter).words);
+    sizes.counter.walk(sizes.totals.variables - sizes.counter.variables(), &mut Store { out: behind, at: 0 });
     let book = &space.book;
     let (t, segments) = (book.intervals, book.segments);
     let trains = &book.train[..book.trains];
@@ -297,9 +313,9 @@ pub fn write(space: &Space, out: &mut [i32]) {
 }
 
 // Variables, clauses and words, with the words written, or a refusal's number and the output as it was.
-pub fn write_formula(s: &[u8], out: &mut [i32], space: &mut Space) -> Result<Totals, usize> {
-    let totals = prepare(s, space)?.totals;
-    let Some(out) = out.get_mut(..totals.words) else { return Err(12) };
-    write(space, out);
-    Ok(totals)
+pub fn write_formula(cap: Option<usize>, s: &[u8], out: &mut [i32], space: &mut Space) -> Result<Totals, usize> {
+    let sizes = prepare(cap, s, space)?;
+    let Some(out) = out.get_mut(..sizes.totals.words) else { return Err(12) };
+    write(space, &sizes, out);
+    Ok(sizes.totals)
 }

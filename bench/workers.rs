@@ -1,4 +1,5 @@
 // Who does each job that is timed: the proved function first, then plain Rust and tuned Rust. They work in the same lent slices, in turns.
+// What is about the formula takes a cap on the borders, or none.
 
 use std::fmt::Debug;
 use std::hint::black_box;
@@ -25,19 +26,19 @@ pub fn readers<'a>(book: &'a [u8], space: &'a mut Space, other: &'a mut Space) -
     ]
 }
 
-pub fn writers<'a>(book: &'a [u8], space: &'a mut Space) -> Vec<Worker<'a, Vec<i32>>> {
+pub fn writers<'a>(cap: Option<usize>, book: &'a [u8], space: &'a mut Space) -> Vec<Worker<'a, Vec<i32>>> {
     vec![
-        worker("proved", |out: &mut Vec<i32>| proved::write_formula(black_box(book), out)),
-        worker("plain", |out: &mut Vec<i32>| plain::write_formula(black_box(book), out)),
-        worker("tuned", |out: &mut Vec<i32>| tuned_formula::write_formula(black_box(book), out, space)),
+        worker("proved", move |out: &mut Vec<i32>| proved::write_formula(cap, black_box(book), out)),
+        worker("plain", move |out: &mut Vec<i32>| plain::write_formula(cap, black_box(book), out)),
+        worker("tuned", move |out: &mut Vec<i32>| tuned_formula::write_formula(cap, black_box(book), out, space)),
     ]
 }
 
-pub fn plan_checkers<'a>(book: &'a [u8], plan: &'a [u8], space: &'a mut Space) -> Vec<Worker<'a, Vec<u8>>> {
+pub fn plan_checkers<'a>(cap: Option<usize>, book: &'a [u8], plan: &'a [u8], space: &'a mut Space) -> Vec<Worker<'a, Vec<u8>>> {
     vec![
-        worker("proved", |out: &mut Vec<u8>| proved::check_plan(black_box(book), plan, out)),
-        worker("plain", |out: &mut Vec<u8>| checks::check_plan(black_box(book), plan, out)),
-        worker("tuned", |out: &mut Vec<u8>| tuned_checks::check_plan(black_box(book), plan, out, space)),
+        worker("proved", move |out: &mut Vec<u8>| proved::check_plan(cap, black_box(book), plan, out)),
+        worker("plain", move |out: &mut Vec<u8>| checks::check_plan(cap, black_box(book), plan, out)),
+        worker("tuned", move |out: &mut Vec<u8>| tuned_checks::check_plan(cap, black_box(book), plan, out, space)),
     ]
 }
 
@@ -57,26 +58,26 @@ pub fn carrier_listers<'a>(book: &'a [u8], plan: &'a [u8], space: &'a mut Space)
     ]
 }
 
-pub fn assignment_checkers<'a>(book: &'a [u8], values: &'a [u8], space: &'a mut Space) -> Vec<Worker<'a, ()>> {
+pub fn assignment_checkers<'a>(cap: Option<usize>, book: &'a [u8], values: &'a [u8], space: &'a mut Space) -> Vec<Worker<'a, ()>> {
     vec![
-        worker("proved", |_| proved::check_assignment(black_box(book), values)),
-        worker("plain", |_| checks::check_assignment(black_box(book), values)),
-        worker("tuned", |_| tuned_checks::check_assignment(black_box(book), values, space)),
+        worker("proved", move |_| proved::check_assignment(cap, black_box(book), values)),
+        worker("plain", move |_| checks::check_assignment(cap, black_box(book), values)),
+        worker("tuned", move |_| tuned_checks::check_assignment(cap, black_box(book), values, space)),
     ]
 }
 
-pub fn unpackers<'a>(book: &'a [u8], values: &'a [u8], space: &'a mut Space) -> Vec<Worker<'a, Vec<u8>>> {
+pub fn unpackers<'a>(cap: Option<usize>, book: &'a [u8], values: &'a [u8], space: &'a mut Space) -> Vec<Worker<'a, Vec<u8>>> {
     vec![
-        worker("proved", |out: &mut Vec<u8>| proved::unpack_plan(black_box(book), values, out)),
-        worker("plain", |out: &mut Vec<u8>| checks::unpack_plan(black_box(book), values, out)),
-        worker("tuned", |out: &mut Vec<u8>| tuned_checks::unpack_plan(black_box(book), values, out, space)),
+        worker("proved", move |out: &mut Vec<u8>| proved::unpack_plan(cap, black_box(book), values, out)),
+        worker("plain", move |out: &mut Vec<u8>| checks::unpack_plan(cap, black_box(book), values, out)),
+        worker("tuned", move |out: &mut Vec<u8>| tuned_checks::unpack_plan(cap, black_box(book), values, out, space)),
     ]
 }
 
-pub fn refutation_checkers<'a>(book: &'a [u8], r: &'a [u8], space: &'a mut Space) -> Vec<Worker<'a, Slices>> {
+pub fn refutation_checkers<'a>(cap: Option<usize>, book: &'a [u8], r: &'a [u8], space: &'a mut Space) -> Vec<Worker<'a, Slices>> {
     vec![
-        worker("proved", |slices: &mut Slices| proved::check_refutation(black_box(book), r, &mut slices.lent())),
-        worker("plain", |slices: &mut Slices| checks::check_refutation(black_box(book), r, &mut slices.lent())),
-        worker("tuned", |slices: &mut Slices| tuned_checks::check_refutation(black_box(book), r, &mut slices.lent(), space)),
+        worker("proved", move |slices: &mut Slices| proved::check_refutation(cap, black_box(book), r, &mut slices.lent())),
+        worker("plain", move |slices: &mut Slices| checks::check_refutation(cap, black_box(book), r, &mut slices.lent())),
+        worker("tuned", move |slices: &mut Slices| tuned_checks::check_refutation(cap, black_box(book), r, &mut slices.lent(), space)),
     ]
 }

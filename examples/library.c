@@ -1,5 +1,6 @@
 /* Asks the library about a book: its sizes, its sections without a border, each train's first runs, and what the literals of the
- * formula's first clauses stand for; and judges a plan and prints its train graph, where one is given.
+ * formula's first clauses stand for; and judges a plan and prints its train graph, where one is given. All of it without a cap on the
+ * borders: where a function takes one, the two numbers 0, 0 ahead of the book say that there is none.
  *
  *   cc -Iinclude examples/library.c -Ltarget/staticlib -lgentupag -o library && ./library examples/following.book [PLAN]
  */
@@ -61,7 +62,7 @@ static void print_runs(input book, size_t train) {
 }
 
 static void print_literal(input book, int32_t literal) {
-    gentupag_variable v = gentupag_explain_variable(book.bytes, book.length, (size_t)(literal < 0 ? -literal : literal));
+    gentupag_variable v = gentupag_explain_variable_under(0, 0, book.bytes, book.length, (size_t)(literal < 0 ? -literal : literal));
     printf("  %s", literal < 0 ? "not " : "");
     if (v.kind == GENTUPAG_IS_BORDER)
         printf("border at node %zu\n", v.item);
@@ -75,7 +76,7 @@ static void print_literal(input book, int32_t literal) {
 
 static void print_clauses(input book, gentupag_sizes sizes) {
     int32_t *words = room(sizes.words, sizeof *words);
-    gentupag_totals totals = gentupag_write_formula(book.bytes, book.length, words, sizes.words);
+    gentupag_totals totals = gentupag_write_formula_under(0, 0, book.bytes, book.length, words, sizes.words);
     size_t at = 0;
     for (size_t clause = 1; clause <= 3 && clause <= totals.clauses; clause++) {
         printf("clause %zu:\n", clause);
@@ -90,12 +91,12 @@ static void print_clauses(input book, gentupag_sizes sizes) {
 static void judge(input book, input plan, gentupag_sizes sizes) {
     uint8_t *assignment = room(sizes.variables, 1), *back = room(sizes.plan_bytes, 1);
     gentupag_output answer =
-        gentupag_check_plan(book.bytes, book.length, plan.bytes, plan.length, assignment, sizes.variables);
+        gentupag_check_plan_under(0, 0, book.bytes, book.length, plan.bytes, plan.length, assignment, sizes.variables);
     if (answer.number) {
         printf("the plan is refused: %zu %zu\n", answer.number, answer.detail);
     } else {
-        gentupag_verdict verdict = gentupag_judge_assignment(book.bytes, book.length, assignment, answer.length);
-        answer = gentupag_unpack_plan(book.bytes, book.length, assignment, answer.length, back, sizes.plan_bytes);
+        gentupag_verdict verdict = gentupag_judge_assignment_under(0, 0, book.bytes, book.length, assignment, answer.length);
+        answer = gentupag_unpack_plan_under(0, 0, book.bytes, book.length, assignment, answer.length, back, sizes.plan_bytes);
         printf("the plan is accepted; its assignment of %zu bytes is %s and gives %zu bytes back\n", sizes.variables,
                verdict.number ? "refused" : "accepted", answer.length);
     }
@@ -120,7 +121,7 @@ int main(int count, char **names) {
         return 2;
     }
     input book = read_file(names[1]);
-    gentupag_sizes sizes = gentupag_measure_book(book.bytes, book.length);
+    gentupag_sizes sizes = gentupag_measure_book_under(0, 0, book.bytes, book.length);
     if (sizes.number) {
         printf("the book is refused: %zu %zu\n", sizes.number, sizes.detail);
         free(book.bytes);

@@ -29,6 +29,20 @@ def bordered_kinds():
     return tuple(kind for kind in BORDER_KINDS if 1 in border_bytes(kind))
 
 
+def free_nodes(book):
+    """The nodes that may be set, in rising number; a cap counts these and no others."""
+    return [node for node, kind in enumerate(book.nodes) if kind == MAY_BE_SET]
+
+
+def counted(book, cap):
+    """What the variables that a cap adds stand for, in order: of the nodes of kind 1 up to a node at least so many are set. By the count, from 1 to
+    the cap, then by the node, from the first that could be the last of so many; as many nodes as there are more of than the cap."""
+    free = free_nodes(book)
+    if cap is None or cap >= len(free):
+        return []
+    return [(free[count - 1 + more], count) for count in range(1, cap + 1) for more in range(len(free) - cap)]
+
+
 class Spec:
     """A book before it is bytes; fields may be as wrong as wished."""
 

@@ -1,8 +1,9 @@
 """Holds the definitions of crates/spec, evaluated by the checker, against the reference: BOOKS random and damaged books from SEED, with
-assignments, plans and refutations for those that pass, and as many old books, books whose plans are drawn as train graphs, and books whose plans
-are carried by borders. Both sides are asked the same questions, and it prints how many answers of each kind agreed, or which did not. A
-question's answer is a row of numbers: 0 and the result, or the refusal's number and detail. The questions become a table of a small crate beside
-a copy of crates/spec, and the checker (`rt dev`) decides it; a table that it refuses is halved until the question is found.
+assignments, plans and refutations for those that pass, without a cap and under one, and as many old books, books whose plans are drawn as train
+graphs, and books whose plans are carried by borders, with the fewest of them. Both sides are asked the same questions, and it prints how many
+answers of each kind agreed, or which did not. A question's answer is a row of numbers: 0 and the result, or the refusal's number and detail. The
+questions become a table of a small crate beside a copy of crates/spec, and the checker (`rt dev`) decides it; a table that it refuses is halved
+until the question is found.
 
 Exit status: 0 none differs, 1 some differ, or the checker refused a table's form, 2 wrong usage.
 """
@@ -17,14 +18,15 @@ import tempfile
 from collections import Counter
 
 from . import library, reference
-from .carrying_books import carried_plans
+from .carrying_books import carried_plans, carrying_book
 from .counts import listed as counted
 from .crates import Listed, below
 from .features import list_features
-from .known import TWO, far, lone, moving, on_segment, parted
+from .known import TWO, far, lone, many_free, moving, on_segment, parted
 from .passing_books import passing_book
 from .random_books import book_to_rewrite, damaged_book, random_book
-from .random_inputs import kept_plans, random_assignments, random_borders, random_plans, random_refutations, with_needed_borders
+from .random_inputs import (kept_plans, random_assignments, random_borders, random_cap, random_fewest, random_plans, random_refutations,
+                            with_needed_borders)
 from .repository import ROOT, read_text, write_text
 
 # the most characters of questions in one table: a declaration has a limit of steps
@@ -35,6 +37,7 @@ use mathlib.Core.Path.{_≡_, refl}
 use mathlib.Core.Bool.{Bool, true, false}
 use Prim.Native.Nat.{ℕ, zero, suc, _+_, _*_}
 use mathlib.Core.List.{List, [], _∷_, _++_, map}
+use mathlib.Core.Option.{Option, none, some}
 use lib.ListN.{length, take, drop}
 use lib.IntN.{ℤ, pos, negsuc}
 
@@ -56,23 +59,26 @@ grouped : Bytes → List ℕ → List ℕ
 grouped s borders = answered (readInstance s) λ I.
     rows (map (λ t. pick (λ u. together I (λ n. has n borders) t u) (upTo (I .segments))) (upTo (I .segments)))
 
-words : Bytes → ℕ → List ℕ
-words s n = answered (writeFormula s n) λ w. w .variableCount ∷ w .clauseCount ∷ w .wordCount ∷ map code (w .words)
+words : Option ℕ → Bytes → ℕ → List ℕ
+words cap s n = answered (writeFormula cap s n) λ w. w .variableCount ∷ w .clauseCount ∷ w .wordCount ∷ map code (w .words)
 
-textOf : Bytes → List ℕ
-textOf s = answered (formulaText s 1000000) λ t. t
+textOf : Option ℕ → Bytes → List ℕ
+textOf cap s = answered (formulaText cap s 1000000) λ t. t
 
-decoding : Bytes → Bytes → ℕ → List ℕ
-decoding s a n = answered (unpackPlan s a n) λ p. p
+decoding : Option ℕ → Bytes → Bytes → ℕ → List ℕ
+decoding cap s a n = answered (unpackPlan cap s a n) λ p. p
 
-judging : Bytes → Bytes → List ℕ
-judging s a = answered (checkAssignment s a) λ _. []
+judging : Option ℕ → Bytes → Bytes → List ℕ
+judging cap s a = answered (checkAssignment cap s a) λ _. []
 
-encoding : Bytes → Bytes → ℕ → List ℕ
-encoding s p n = answered (checkPlan s p n) λ a. a
+encoding : Option ℕ → Bytes → Bytes → ℕ → List ℕ
+encoding cap s p n = answered (checkPlan cap s p n) λ a. a
 
-refuting′ : Bytes → Bytes → ℕ → ℕ → ℕ → ℕ → List ℕ
-refuting′ s r w c v t = answered (checkRefutation s r (record { words = w; clauses = c; values = v; trail = t })) λ _. []
+refuting′ : Option ℕ → Bytes → Bytes → ℕ → ℕ → ℕ → ℕ → List ℕ
+refuting′ cap s r w c v t = answered (checkRefutation cap s r (record { words = w; clauses = c; values = v; trail = t })) λ _. []
+
+combining : Bytes → ℕ → Bytes → Bytes → ℕ → ℕ → ℕ → ℕ → List ℕ
+combining s n a r w c v t = answered (checkFewest s n a r (record { words = w; clauses = c; values = v; trail = t })) λ _. []
 
 rewriting : Bytes → ℕ → List ℕ
 rewriting s n = answered (upgradeBook s n) λ b. b
@@ -86,8 +92,8 @@ lineDrawn s p t = answered (printGraph s p 65536) λ g. length g ∷ take 81 (dr
 listing : Bytes → Bytes → ℕ → List ℕ
 listing s p n = answered (listCarriers s p n) λ l. l
 
-measuring : Bytes → List ℕ
-measuring s = answered (measureBook s) λ z.
+measuring : Option ℕ → Bytes → List ℕ
+measuring cap s = answered (measureBook cap s) λ z.
     z .intervals ∷ z .nodes ∷ z .freeNodes ∷ z .segments ∷ z .trains ∷ z .variableCount ∷ z .clauseCount ∷ z .wordCount ∷ z .planBytes ∷ []
 
 labelling : Bytes → Bytes → ℕ → List ℕ
@@ -103,13 +109,14 @@ running s i r = answered (askRun s i r) showing
 
 meant : Meaning → List ℕ
 meant noVariable = 0 ∷ []
-meant (border n) = 1 ∷ 0 ∷ 0 ∷ n ∷ []
-meant (run i t r) = 2 ∷ i ∷ t ∷ r ∷ []
-meant (gone i t) = 3 ∷ i ∷ t ∷ 0 ∷ []
-meant (claim i t s) = 4 ∷ i ∷ t ∷ s ∷ []
+meant (border n) = 1 ∷ 0 ∷ 0 ∷ n ∷ 0 ∷ []
+meant (run i t r) = 2 ∷ i ∷ t ∷ r ∷ 0 ∷ []
+meant (gone i t) = 3 ∷ i ∷ t ∷ 0 ∷ 0 ∷ []
+meant (claim i t s) = 4 ∷ i ∷ t ∷ s ∷ 0 ∷ []
+meant (counted n j) = 5 ∷ 0 ∷ 0 ∷ n ∷ j ∷ []
 
-meaning′ : Bytes → ℕ → List ℕ
-meaning′ s v = answered (askVariable s v) meant
+meaning′ : Option ℕ → Bytes → ℕ → List ℕ
+meaning′ cap s v = answered (askVariable cap s v) meant
 
 record Case : Type 0 where
   asked : List ℕ
@@ -119,10 +126,10 @@ failing : ℕ → List Case → List ℕ
 failing n [] = []
 failing n (c ∷ cs) = only (mathlib.Core.Bool.not (same (c .asked) (c .answer))) (n ∷ []) ++ failing (suc n) cs
 """
-HELPERS = """answered code rows lists grouped words textOf decoding judging encoding refuting′ rewriting drawing lineDrawn listing measuring labelling
-    showing running meant meaning′ failing"""
+HELPERS = """answered code rows lists grouped words textOf decoding judging encoding refuting′ combining rewriting drawing lineDrawn listing measuring
+    labelling showing running meant meaning′ failing"""
 # the constructors that the tables name, by the module that has them
-MAKERS = {"Lists": ["accepted", "refused"], "Library": ["noTrain", "noRun", "shown", "border", "run", "gone", "claim", "noVariable"]}
+MAKERS = {"Lists": ["accepted", "refused"], "Library": ["noTrain", "noRun", "shown", "border", "run", "gone", "claim", "counted", "noVariable"]}
 
 
 def names_of_specs(specs):
@@ -139,6 +146,11 @@ def names_of_specs(specs):
 
 def row(numbers):
     return "(" + "".join("%d ∷ " % n for n in numbers) + "[])"
+
+
+def option(cap):
+    """A cap, or none."""
+    return "none" if cap is None else "(some %d)" % cap
 
 
 def answer_of(result):
@@ -165,8 +177,8 @@ def listed(data, form=reference.NEW):
     return out
 
 
-def written(data, length):
-    result = reference.entry_write_formula(data, length)
+def written(data, length, cap):
+    result = reference.entry_write_formula(data, length, cap)
     if result[0] == "refused":
         return list(result[1:])
     return [0] + list(result[1:4]) + [coded(x) for x in result[4]]
@@ -182,23 +194,31 @@ def grouped(data, borders):
 
 
 def book_questions(rng, data):
-    """What is asked of every book: its lists, its words with enough room and with one word too few."""
+    """What is asked of every book: its lists, its words and sections."""
     yield "book", "lists %s" % row(data), listed(data)
-    result = reference.entry_write_formula(data, 10 ** 6)
-    if result[0] != "refused":
-        yield "words", "words %s %d" % (row(data), 10 ** 6), written(data, 10 ** 6)
-        yield "short", "words %s %d" % (row(data), result[3] - 1), written(data, result[3] - 1)
+    if library.book_or_refusal(data)[1] is None:
         book = reference.read_book(data)
-        yield "text", "textOf %s" % row(data), [0] + list(reference.dimacs(book))
+        yield from formula_questions(rng, data, book, None)
         for _ in range(2):
             borders = [n for n in range(len(book.nodes)) if rng.random() < 0.4]
             yield "sections", "grouped %s %s" % (row(data), row(borders)), grouped(data, borders)
         yield from library_questions(rng, data, book)
 
 
+def formula_questions(rng, data, book, cap):
+    """A formula's words, with enough room and with one word too few, its text, its sizes, and what its variables stand for."""
+    given, count = "%s %s" % (option(cap), row(data)), library.measured(book, cap)[9]
+    yield "words", "words %s %d" % (given, 10 ** 6), written(data, 10 ** 6, cap)
+    yield "short", "words %s %d" % (given, count - 1), written(data, count - 1, cap)
+    yield "text", "textOf %s" % given, [0] + list(reference.dimacs(book, cap))
+    yield "sizes", "measuring %s" % given, list(library.measured(book, cap)[1:])
+    last, found = library.meanings(book, cap)
+    for variable in (0, last, last + 1, rng.randrange(1, last + 1), rng.randint(reference.Variables(book).count, last)):
+        yield "variable", "meaning′ %s %d" % (given, variable), [0] + list(found.get(variable, (0,)))
+
+
 def library_questions(rng, data, book):
     """What the library asks beside the entry points, of a book that passes."""
-    yield "sizes", "measuring %s" % row(data), list(library.measured(book)[1:])
     borders, room = bytes(random_borders(rng, book)), len(book.segments) - (rng.random() < 0.1)
     spoiled = rng.choice((borders, borders, borders[1:], bytes([2]) + borders[1:]))
     (number, detail, _), labels = library.labelled(book, spoiled, room)
@@ -206,32 +226,63 @@ def library_questions(rng, data, book):
     train, run = rng.randrange(len(book.trains) + 1), rng.choice((0, rng.randrange(30)))
     _, _, missing, runs, place, length, path = library.run_shown(book, train, run)
     yield "run", "running %s %d %d" % (row(data), train, run), [0] + ([1], [2, runs], [0, runs, place] + path[:length])[(1, 2, 0).index(missing)]
-    count, found = library.meanings(book)
-    for variable in (0, count + 1, rng.randrange(1, count + 1)):
-        yield "variable", "meaning′ %s %d" % (row(data), variable), [0] + list(found.get(variable, (0,)))
 
 
-def input_questions(rng, data, book, each):
+def input_questions(rng, data, book, each, cap=None):
     """Assignments, plans and refutations for a book that passes, with room enough or one entry short."""
-    variables, clauses = reference.formula(book)
-    plan_length = reference.plan_length(book)
-    for s in list(random_assignments(rng, book, each)):
-        n = plan_length - (rng.random() < 0.1)
-        yield "unpacking", "decoding %s %s %d" % (row(data), row(s), n), answer_of(reference.entry_unpack_plan(data, s, n))
-        yield "assignment", "judging %s %s" % (row(data), row(s)), answer_of(reference.entry_check_assignment(data, s))
+    given = "%s %s" % (option(cap), row(data))
+    for s in list(random_assignments(rng, book, each, cap=cap)):
+        n = reference.plan_length(book) - (rng.random() < 0.1)
+        yield "unpacking", "decoding %s %s %d" % (given, row(s), n), answer_of(reference.entry_unpack_plan(data, s, n, cap))
+        yield "assignment", "judging %s %s" % (given, row(s)), answer_of(reference.entry_check_assignment(data, s, cap))
     for s in list(random_plans(rng, book, each)):
-        n = variables - (rng.random() < 0.1)
-        yield "plan", "encoding %s %s %d" % (row(data), row(s), n), answer_of(reference.entry_check_plan(data, s, n))
-        yield graph_question(rng, data, book, s)
-        yield carriers_question(rng, data, book, s)
+        n = reference.Variables(book, cap).count - (rng.random() < 0.1)
+        yield "plan", "encoding %s %s %d" % (given, row(s), n), answer_of(reference.entry_check_plan(data, s, n, cap))
+        if cap is None:
+            yield graph_question(rng, data, book, s)
+            yield carriers_question(rng, data, book, s)
+    for s in list(random_refutations(rng, book, each, cap=cap)):
+        lent = lent_about(rng, book, cap)
+        asked = "refuting′ %s %s %d %d %d %d" % (given, row(s), *lent)
+        yield "refutation", asked, answer_of(reference.entry_check_refutation(data, s, *lent, cap))
+
+
+def lent_about(rng, book, cap):
+    """Slices for a refutation: long enough, or one of them just as long as the formula needs, or one too short."""
+    variables, clauses = reference.formula(book, cap)
     words = reference.word_count(clauses)
-    for s in list(random_refutations(rng, book, each)):
-        lent = [words + 400, len(clauses) + 60, variables, variables]
-        if rng.random() < 0.3:
-            which = rng.randrange(4)
-            lent[which] = [words + rng.randrange(8), len(clauses) + rng.randrange(3), variables, variables][which] - (rng.random() < 0.3)
-        asked = "refuting′ %s %s %d %d %d %d" % ((row(data), row(s)) + tuple(lent))
-        yield "refutation", asked, answer_of(reference.entry_check_refutation(data, s, *lent))
+    lent = [words + 400, len(clauses) + 60, variables, variables]
+    if rng.random() < 0.3:
+        which = rng.randrange(4)
+        lent[which] = [words + rng.randrange(8), len(clauses) + rng.randrange(3), variables, variables][which] - (rng.random() < 0.3)
+    return lent
+
+
+def fewest_questions(rng, data, book, each):
+    """The combined verdict; at n = 0 nothing need be lent."""
+    for n, assignment, refutation in random_fewest(rng, book, each):
+        lent = lent_about(rng, book, n - 1) if n else [rng.choice((0, 9)) for _ in range(4)]
+        asked = "combining %s %d %s %s %d %d %d %d" % (row(data), n, row(assignment), row(refutation), *lent)
+        yield "fewest", asked, answer_of(reference.entry_check_fewest(data, n, assignment, refutation, *lent))
+
+
+def capped_questions(rng, each):
+    """A tiny book with borders that are needed: its formula, and what is judged, under each cap about the ends and one in between."""
+    data = carrying_book(rng, "tiny")[0]
+    book = reference.read_book(data)
+    if len(reference.formula(book)[1]) < 500:
+        yield from formula_questions(rng, data, book, random_cap(rng, book))
+        yield from input_questions(rng, data, book, each, random_cap(rng, book))
+        yield from fewest_questions(rng, data, book, 2 * each)
+
+
+def edge_caps(rng):
+    """What random books seldom have: as many nodes of kind 1 as there may be."""
+    data, _ = many_free(96)
+    book = reference.read_book(data)
+    for cap in (rng.randrange(10), 95, 96):
+        yield "words", "words %s %s %d" % (option(cap), row(data), 10 ** 6), written(data, 10 ** 6, cap)
+        yield "sizes", "measuring %s %s" % (option(cap), row(data)), list(library.measured(book, cap)[1:])
 
 
 def graph_question(rng, data, book, plan):
@@ -297,6 +348,7 @@ def explodes(data, form=reference.NEW):
 def questions(rng, books):
     yield from edge_graphs(rng)
     yield from edge_carriers(rng)
+    yield from edge_caps(rng)
     for n in range(books):
         if n % 8 == 3:
             # many intervals: the formula has too many words for a table
@@ -304,6 +356,7 @@ def questions(rng, books):
             yield "book", "lists %s" % row(data), listed(data)
             yield from long_graph(rng, data)
         yield from kept_questions(rng, 4)
+        yield from capped_questions(rng, 3)
         for given in carried_plans(rng, "large" if n % 8 == 5 else "small"):
             yield carriers_question(rng, *given)
         old = book_to_rewrite(rng)
@@ -319,6 +372,8 @@ def questions(rng, books):
             continue
         if len(reference.formula(book)[1]) < 700:
             yield from input_questions(rng, data, book, 8)
+            yield from formula_questions(rng, data, book, random_cap(rng, book))
+            yield from input_questions(rng, data, book, 2, random_cap(rng, book))
 
 
 def tables(asked):

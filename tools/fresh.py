@@ -1,13 +1,14 @@
 """Holds the built program, the reference and solvers together on new random books, made from SEED for so many SECONDS; SEED/BOOK in place of
 SEED makes that book of the seed alone.
 
-Of each book: the formula's text is the reference's; the solver script decides it, and one of Debian's solvers that are installed, in turns;
-what they answer is accepted, and turned into a plan and back; spoiled assignments, plans and refutations get the reference's line and
-result, and every plan, spoiled or not, its train graph or line, and the list of the borders that carry it; no book has both a plan and a
-refutation accepted. Where the plans are few, all are tried by the reference's rules: there is one that keeps them exactly where there is an
-accepted assignment, and otherwise there is an accepted refutation. With each book goes an old one, good or damaged, which is rewritten as the
-reference does it; what comes of it has the formula that the old book had; and one with plans that borders carry, which are listed. Prints a
-summary and every difference; the files of those stay in a folder that it names.
+Of each book: the formula's text is the reference's; the solver script decides it, and one of Debian's solvers that are installed, in turns; what
+they answer is accepted, and turned into a plan and back; spoiled assignments, plans and refutations get the reference's line and result, and
+every plan, spoiled or not, its train graph or line, and the list of the borders that carry it; no book has both a plan and a refutation
+accepted. The same under a cap; and where there is a plan the solver script lowers the cap until there is none, so that check_fewest accepts the
+number that is left. Where the plans are few, all are tried by the reference's rules: there is one that keeps them exactly where there is an
+accepted assignment, and otherwise there is an accepted refutation; and the fewest borders are those that were found. With each book goes an old
+one, good or damaged, which is rewritten as the reference does it; what comes of it has the formula that the old book had; and one with plans
+that borders carry, which are listed. Prints a summary and every difference; the files of those stay in a folder that it names.
 
 Exit status: 0 no difference, 1 a difference, 2 wrong usage, or the program is missing.
 """
@@ -25,15 +26,17 @@ from collections import Counter, defaultdict
 from . import reference as ref
 from .all_plans import keeping, plans_to_try
 from .ask import answered
+from .ask import fewest as fewest_line
 from .books import BORDER_KINDS
 from .carrying_books import carried_plans
 from .counts import answer_name, line_name, listed
 from .features import features, list_features, on, parallel_tracks
 from .inputs import TooLong, plan_bytes, read_steps, step_frame
 from .passing_books import make_book
-from .program import CABINET, CHECKS, built, has_result
+from .program import CABINET, CHECKS, FEWEST, built, cap_words, has_result
 from .random_books import book_to_rewrite
-from .random_inputs import damaged_refutation, honest_steps, nearly_assignment, nearly_plan, walked_plan
+from .random_inputs import (Fewest, assignment_of, damaged_refutation, honest_steps, nearly_assignment, nearly_fewest, nearly_plan, random_cap,
+                            set_count, walked_plan)
 from .repository import PROGRAMS, TOOLS, Stop
 from .solve import Failure
 from .solver import SOLVERS, build_converter
@@ -104,9 +107,10 @@ class Trial:
         self.rng = random.Random(f"{session.seed}/{number}")
         self.data = make_book(self.rng)
         self.book = self.formula = None
-        self.accepted = set()       # the programs that accepted something
+        self.accepted = defaultdict(set)    # by cap, the programs that accepted something
         self.decisions = {}         # solver: whether satisfiable
         self.good = self.plan = self.steps = None
+        self.fewest = None          # how many nodes of kind 1 a plan needs, as far as that was found
         self.long = False           # a refutation did not fit
         self.write("book", self.data)
 
@@ -132,13 +136,14 @@ class Trial:
     def differ(self, what, **files):
         self.session.differ(self.number, what, {"book": self.data, **files})
 
-    def run(self, program, *names, stdin=b""):
-        """The bytes that a program printed; anything else that it does is a difference."""
-        words = [os.path.join(self.session.folder, CABINET), program, *map(self.path, names)]
+    def run(self, program, *names, stdin=b"", options=()):
+        """The bytes that a program printed; anything else that it does is a difference. A number stands for itself among the names."""
+        given = [str(name) if isinstance(name, int) else self.path(name) for name in names]
+        words = [os.path.join(self.session.folder, CABINET), program, *options, *given]
         try:
             done = subprocess.run(words, input=stdin, capture_output=True, timeout=LIMIT, check=False)
         except subprocess.TimeoutExpired:
-            self.differ(f"{program} did not end in {LIMIT} s", **{name: self.read(name) or b"" for name in names})
+            self.differ(f"{program} did not end in {LIMIT} s", **{name: self.read(name) or b"" for name in names if isinstance(name, str)})
             return b""
         if done.stderr or done.returncode:
             self.differ(f"{program}: status {done.returncode}, standard error {done.stderr[:200]!r}")
@@ -146,36 +151,36 @@ class Trial:
 
     # ---- verdicts
 
-    def beside(self, program, *names):
+    def beside(self, program, *names, cap=None):
         """The program's line and result beside the reference's, of inputs that are in their files already; answers what the program said: its
         line, and the result or None."""
         self.remove("result")
         inputs = {name: self.read(name) for name in names}
-        line, result = self.run(program, *names, *["result"] * has_result(program)), self.read("result")
-        expected = answered(program, *inputs.values())
+        line, result = self.run(program, *names, *["result"] * has_result(program), options=cap_words(cap)), self.read("result")
+        expected = answered(program, *inputs.values(), cap=cap)
         if (line, result) != expected:
-            told = f"{program}: printed {line!r} and result {shown(result)}, the reference has {expected[0]!r} and {shown(expected[1])}"
+            told = f"{program}, cap {cap}: printed {line!r} and result {shown(result)}, the reference has {expected[0]!r} and {shown(expected[1])}"
             self.differ(told, **{**inputs, "result": result or b"", "expected": expected[1] or b""})
         self.count[program][line_name(line)] += 1
         return line, result
 
-    def check(self, program, second):
-        """A check beside the reference's; a plan is drawn and listed too."""
+    def check(self, program, second, cap=None):
+        """A check beside the reference's; a plan is drawn and listed too, where there is no cap."""
         self.write("second", second)
-        line, result = self.beside(program, "book", "second")
+        line, result = self.beside(program, "book", "second", cap=cap)
         if line == b"accepted\n":
-            self.note_accepted(program, second)
+            self.note_accepted(program, second, cap)
         if program == "check_assignment":
-            self.judge_alone(line, second)
-        if program == "check_plan":
+            self.judge_alone(line, second, cap)
+        if program == "check_plan" and cap is None:
             self.draw(second)
             self.list_carriers("book", "second")
         return line, result
 
-    def judge_alone(self, line, assignment):
+    def judge_alone(self, line, assignment, cap):
         """With no third name the assignment is judged alone: the same line, and no file."""
         self.remove("result")
-        alone = self.run("check_assignment", "book", "second")
+        alone = self.run("check_assignment", "book", "second", options=cap_words(cap))
         if (alone, self.read("result")) != (line, None):
             self.differ(f"check_assignment: printed {alone!r} with no third name and {line!r} with one", second=assignment)
 
@@ -192,22 +197,23 @@ class Trial:
         if result is not None:
             self.count["lists of carriers"].update(list_features(result))
 
-    def note_accepted(self, program, second):
-        """No book has both."""
-        self.accepted.add(program)
-        if "check_refutation" in self.accepted and len(self.accepted) > 1:
-            self.differ(f"accepted by {sorted(self.accepted)}", second=second)
+    def note_accepted(self, program, second, cap):
+        """No book has both under one cap."""
+        accepted = self.accepted[cap]
+        accepted.add(program)
+        if "check_refutation" in accepted and len(accepted) > 1:
+            self.differ(f"accepted under cap {cap} by {sorted(accepted)}", second=second)
 
-    def must_accept(self, program, second, what):
-        line, result = self.check(program, second)
+    def must_accept(self, program, second, what, cap=None):
+        line, result = self.check(program, second, cap)
         if line != b"accepted\n":
-            self.differ(f"{what}: {program} printed {line!r}", second=second)
+            self.differ(f"{what}: {program} printed {line!r} under cap {cap}", second=second)
         return result
 
-    def both_ways(self, plan, what):
+    def both_ways(self, plan, what, cap=None):
         """A plan that keeps the rules is accepted; the assignment that is written for it is too, and gives that plan again."""
-        written = self.must_accept("check_plan", plan, what)
-        if written is not None and self.must_accept("check_assignment", written, what) != plan:
+        written = self.must_accept("check_plan", plan, what, cap)
+        if written is not None and self.must_accept("check_assignment", written, what, cap) != plan:
             self.differ(f"{what}: the plan's assignment decodes to another plan", plan=plan, assignment=written)
 
     # ---- an old book
@@ -314,6 +320,86 @@ class Trial:
             self.differ(told, second=refutation, formula=self.read("formula"))
         self.count["refutations of solvers"]["fit" if fits else "too long"] += 1
 
+    # ---- at most so many borders
+
+    def cap_it(self):
+        """A random cap: the formula's text beside the reference's, what the solver script finds, and spoiled inputs."""
+        cap = random_cap(self.rng, self.book)
+        text, expected = self.run("print_formula", stdin=self.data, options=cap_words(cap)), ref.print_formula(self.data, cap)
+        if text != expected:
+            self.differ(f"print_formula, cap {cap}: another text than the reference's", text=text, expected=expected)
+        self.count["formula under a cap"]["printed" if text.startswith(b"p cnf ") else line_name(text)] += 1
+        formula, (some, found) = ref.formula(self.book, cap), self.decided_under(cap)
+        steps = read_steps(found) if some is False else None
+        for _ in range(SPOILED):
+            self.check("check_assignment", nearly_assignment(self.rng, self.book, found if some else None, cap), cap)
+            self.check("check_plan", nearly_plan(self.rng, self.book, self.plan), cap)
+            try:
+                self.check("check_refutation", spoiled_refutation(self.rng, formula, steps), cap)
+            except TooLong:
+                pass            # longer than a frame holds
+
+    def decided_under(self, cap):
+        """Whether there is a plan within a cap, by the solver script, and what it shows for that, which is accepted; two None where it gave up."""
+        self.write("capped", ref.dimacs(self.book, cap))
+        self.remove("answer")
+        said = self.ask("solve.py", [os.path.join(TOOLS, "solve.py"), self.path("capped"), self.path("answer")])
+        if said is None:
+            return None, None
+        found, what = self.read("answer"), f"solve.py under cap {cap}"
+        self.count["solvers"][f"solve.py {said} under a cap"] += 1
+        if said == "satisfiable":
+            self.within(cap, self.must_accept("check_assignment", found, what, cap), what)
+            return True, found
+        fits = fits_slices(ref.formula(self.book, cap), read_steps(found), found)
+        line, _ = self.check("check_refutation", found, cap)
+        if line != (b"accepted\n" if fits else b"12 0\n"):
+            self.differ(f"{what}: check_refutation printed {line!r}", second=found)
+        return False, found
+
+    def within(self, cap, plan, what):
+        """A plan that an assignment under a cap gave."""
+        if plan is None:
+            return
+        if cap is not None and set_count(self.book, plan) > cap:
+            self.differ(f"{what}: the plan sets more nodes of kind 1", second=plan)
+        self.both_ways(plan, what, cap)
+
+    def find_fewest(self):
+        """The cap is lowered as long as there is a plan; then check_fewest accepts what is left, and no other number."""
+        plan, refutation = self.plan, b""
+        while set_count(self.book, plan):
+            some, found = self.decided_under(set_count(self.book, plan) - 1)
+            if some is None:
+                return
+            if not some:
+                refutation = found
+                break
+            plan = ref.decode(self.book, found)
+        self.fewest = set_count(self.book, plan)
+        self.count["fewest borders"][str(self.fewest)] += 1
+        self.try_fewest(Fewest(self.fewest, assignment_of(self.book, plan), refutation))
+
+    def try_fewest(self, good):
+        if len(good.refutation) <= ref.LENT_BYTES and self.combine(good) not in (b"accepted\n", b"12 0\n"):
+            self.differ(f"check_fewest does not accept {good.n}", assignment=good.assignment, refutation=good.refutation)
+        for _ in range(SPOILED):
+            try:
+                self.combine(nearly_fewest(self.rng, self.book, good))
+            except (IndexError, ref.Refused, TooLong):
+                pass            # what is wrong already can't be spoiled in this way
+
+    def combine(self, given):
+        """check_fewest beside the reference's; answers its line."""
+        self.write("assignment", given.assignment)
+        self.write("refutation", given.refutation)
+        line, expected = self.run(FEWEST, "book", given.n, "assignment", "refutation"), fewest_line(given.n, self.data, *given[1:])
+        if line != expected:
+            told = f"{FEWEST} {given.n}: printed {line!r}, the reference has {expected!r}"
+            self.differ(told, assignment=given.assignment, refutation=given.refutation)
+        self.count[FEWEST][line_name(line)] += 1
+        return line
+
     # ---- spoiled inputs and all plans
 
     def spoil(self):
@@ -335,6 +421,8 @@ class Trial:
         self.count["enumerated"].update({f"books by {how}": 1, f"plans by {how}": len(plans), "plans that keep the rules": len(kept)})
         self.count["enumerated"]["books with such a plan" if kept else "books without"] += 1
         self.hold_together(bool(kept))
+        if self.fewest is not None and self.fewest != min((set_count(self.book, borders) for borders, _ in kept), default=None):
+            self.differ(f"{self.fewest} borders were found to be the fewest, and trying all plans says otherwise")
         for plan in self.rng.sample(kept, min(SAMPLED, len(kept))):
             self.both_ways(plan_bytes(*plan), "enumerated plan")
         for plan in self.rng.sample(plans, min(SAMPLED, len(plans))):
@@ -346,9 +434,9 @@ class Trial:
             self.differ(f"some plan keeps the rules: {some}; solvers: {self.decisions}", formula=self.read("formula"))
         if not self.decisions:
             return              # all gave up
-        if some and "check_assignment" not in self.accepted:
+        if some and "check_assignment" not in self.accepted[None]:
             self.differ("a plan keeps the rules, but no assignment was accepted")
-        if not some and "check_refutation" not in self.accepted and not self.long and list(self.decisions) != ["minisat"]:
+        if not some and "check_refutation" not in self.accepted[None] and not self.long and list(self.decisions) != ["minisat"]:
             self.differ("no plan keeps the rules, but no refutation was accepted")
 
     def note(self):
@@ -368,6 +456,8 @@ class Trial:
         if not self.read_book():
             for program in CHECKS:
                 self.check(program, self.rng.randbytes(self.rng.randrange(40)))
+                self.check(program, self.rng.randbytes(self.rng.randrange(40)), self.rng.randrange(3))
+            self.combine(Fewest(self.rng.randrange(3), b"", b""))
             return
         if not self.keep_formula():
             self.count["decided"]["too large for a solver"] += 1
@@ -375,6 +465,9 @@ class Trial:
             return
         self.solve()
         self.spoil()
+        self.cap_it()
+        if self.plan is not None:
+            self.find_fewest()
         self.try_all_plans()
         self.note()
 
@@ -436,8 +529,8 @@ def summary(session, seconds):
     count = session.count
     books, accepted = sum(count["books"].values()), count["books"].pop("accepted", 0)
     say(f"seed {session.seed}, {seconds:.0f} s: {books} books, {accepted} accepted; refused by {listed(count['books'])}")
-    for name in ("formula", "decided", "solvers", "refutations of solvers", "enumerated", *CHECKS, "upgrade_book", "print_graph", "list_carriers",
-                 "lists of carriers"):
+    for name in ("formula", "formula under a cap", "decided", "solvers", "refutations of solvers", "enumerated", *CHECKS, FEWEST, "fewest borders",
+                 "upgrade_book", "print_graph", "list_carriers", "lists of carriers"):
         say(f"{name}: {listed(count[name])}")
     missing = [name for name in SOLVERS if name not in session.solvers]
     say(f"real solvers: {', '.join(session.solvers) or 'none'}; not used: {', '.join(missing) or 'none'}")

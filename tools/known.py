@@ -1,6 +1,6 @@
 """Books that are known by name: document 01's, rows, stars and rings, books on each limit, books with many intervals, books as long as a slice,
-books whose train graphs show every kind of cell, and books whose plans are carried by borders; with the inputs, pages and lists of some that were
-worked out by hand."""
+books whose train graphs show every kind of cell, books whose plans are carried by borders, and books whose fewest borders are known; with the
+inputs, pages, lists and clauses of some that were worked out by hand."""
 from . import reference as ref
 from .books import EXIT, MAY_BE_SET, NEVER, Spec, spec_bytes
 from .inputs import plan_bytes, step_frame
@@ -464,3 +464,39 @@ def chasing(intervals):
     the first two intervals, and the others are reached by the last two trains."""
     entries = [(node, node % 2, node // 2 - 1, node // 2) if 2 <= node < 16 else (node, (node - 14) % 64, 6, 7) for node in range(64)]
     return (*circling(intervals, 8, 2, True), list_of(*entries))
+
+
+# ------------------------------------------------------- at most so many borders
+
+# Two trains on two segments, with three nodes of kind 1, of which the middle one is needed: the book of docs/FORMATS.md, section 13. Variables 1 to 3
+# are the borders; then of each train four runs, gone and two claims, from 4 and from 11 on. Of 44 clauses 1 and 12 ask for a move, 23 to 26 and 27 to
+# 30 deny all but runs 0 and 2, 31 is -4 9, 37 is -13 17, 39 is -9 2 10, 44 is -10 -17.
+BOOK_FEWEST, PLAN_FEWEST = parted((1, 1, 1), TWO, (0, 1, 0), (0, 1))
+PLAN_MORE = b"\1\1\1" + PLAN_FEWEST[3:]
+# borders and runs, and the claim of its own segment
+ASSIGNMENT_FEWEST = bytes.fromhex("000100 01000000 00 0100 00000100 00 0001")
+ASSIGNMENT_MORE = b"\1\1\1" + ASSIGNMENT_FEWEST[3:]
+# what a cap adds: clauses 45 and up, and how many variables behind 17
+CAPPED = {
+    0: ([[-1], [-2], [-3]], 0),
+    1: ([[-1, 18], [-2, 19], [-18, 19], [-2, -18], [-3, -19]], 2),
+    2: ([[-1, 18], [-2, -18, 19], [-3, -19]], 2),
+    3: ([], 0),
+}
+# by 46, -2, the sections are one; so train 0's claim of segment 0 is one of segment 1, which train 1 has
+REFUTATION_FEWEST = step_frame([], [23, 24, 25, 26, 1, 31, 27, 28, 29, 30, 12, 37, 46, 39, 44])
+
+
+def standing_row(places, segments, T=1):
+    """Trains that stand on some segments of a row of one TTD, whose nodes are all of kind 1. Book, and the plan with one border between neighbours,
+    right behind the first of the two, which are the fewest."""
+    row = [(s, s + 1, 0) for s in range(segments)]
+    borders = [int(node - 1 in sorted(places)[:-1]) for node in range(segments + 1)]
+    return parted([MAY_BE_SET] * (segments + 1), row, borders, places, (), T)
+
+
+def many_free(count, T=1):
+    """A lone train beside so many nodes of kind 1, none of which is needed. Book, and the plan without a border."""
+    spec = lone_spec(T, 0, 0, T)
+    spec.nodes = [MAY_BE_SET] * count
+    return spec_bytes(spec), plan_bytes([0] * count, [[0] * T])

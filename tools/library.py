@@ -1,5 +1,5 @@
 """Calls the library from Python and holds it against the reference: every function on BOOKS random books from SEED, some of them damaged,
-with good and spoiled inputs and outputs that are too short. It makes the archive (`rt staticlib gentupag`, which proves what is not proved
+with good and spoiled inputs, caps of every kind, and outputs that are too short. It makes the archive (`rt staticlib gentupag`, which proves what is not proved
 yet) and links it into a shared object for this. That include/gentupag.h has the same structs, numbers and functions is asked of a C compiler.
 
 Exit status: 0 none differs, 1 some differ, 2 wrong usage.
@@ -14,9 +14,10 @@ import tempfile
 from collections import Counter
 
 from . import reference
-from .carrying_books import carried_plans
+from .books import counted
+from .carrying_books import carried_plans, carrying_book
 from .random_books import book_to_rewrite, damaged_book, random_book, random_size
-from .random_inputs import kept_plans, random_assignments, random_borders, random_plans, random_refutations
+from .random_inputs import kept_plans, random_assignments, random_borders, random_cap, random_fewest, random_plans, random_refutations
 from .repository import ROOT, Stop, write_text
 
 WORD = ctypes.c_size_t
@@ -28,28 +29,30 @@ STRUCTS = {
     "totals": "variables clauses words",
     "sizes": "intervals nodes free_nodes segments trains variables clauses words plan_bytes",
     "run": "missing runs place length path",
-    "variable": "kind train interval item",
+    "variable": "kind train interval item count",
 }
 
-# What a function answers, and the types of its parameters: B bytes, b an output of bytes, w of words, n of numbers, u a number.
+# What a function answers, and the types of its parameters: B bytes, b an output of bytes, w of words, n of numbers, u a number. Those that are
+# about the formula take a cap ahead, by two numbers.
 FUNCTIONS = {
     "read_book": ("verdict", "B"),
-    "measure_book": ("sizes", "B"),
-    "write_formula": ("totals", "Bw"),
-    "judge_assignment": ("verdict", "BB"),
-    "unpack_plan": ("output", "BBb"),
-    "check_plan": ("output", "BBb"),
-    "check_refutation": ("verdict", "BBwnbn"),
+    "measure_book_under": ("sizes", "uuB"),
+    "write_formula_under": ("totals", "uuBw"),
+    "judge_assignment_under": ("verdict", "uuBB"),
+    "unpack_plan_under": ("output", "uuBBb"),
+    "check_plan_under": ("output", "uuBBb"),
+    "check_refutation_under": ("verdict", "uuBBwnbn"),
+    "check_fewest": ("verdict", "BuBBwnbn"),
     "label_sections": ("output", "BBb"),
     "show_run": ("run", "Buu"),
-    "explain_variable": ("variable", "Bu"),
+    "explain_variable_under": ("variable", "uuBu"),
     "upgrade_book": ("output", "Bb"),
     "print_graph": ("output", "BBb"),
     "list_carriers": ("output", "BBb"),
 }
 
 # what `kind` says of a variable
-NO_VARIABLE, IS_BORDER, IS_RUN, IS_GONE, IS_CLAIM = range(5)
+NO_VARIABLE, IS_BORDER, IS_RUN, IS_GONE, IS_CLAIM, IS_COUNT = range(6)
 ELEMENTS = {"B": ctypes.c_uint8, "b": ctypes.c_uint8, "w": ctypes.c_int32, "n": WORD}
 # what an output holds before a call
 OLD = 7
@@ -112,7 +115,8 @@ def build():
 
 
 # The header's numbers: `missing` of a run and `kind` of a variable.
-NUMBERS = {"NOTHING_MISSING": 0, "NO_TRAIN": 1, "NO_RUN": 2, "NO_VARIABLE": 0, "IS_BORDER": 1, "IS_RUN": 2, "IS_GONE": 3, "IS_CLAIM": 4}
+NUMBERS = {"NOTHING_MISSING": 0, "NO_TRAIN": 1, "NO_RUN": 2, "NO_VARIABLE": 0, "IS_BORDER": 1, "IS_RUN": 2, "IS_GONE": 3, "IS_CLAIM": 4,
+           "IS_COUNT": 5}
 C_TYPES = {"B": "const uint8_t *, size_t", "b": "uint8_t *, size_t", "w": "int32_t *, size_t", "n": "size_t *, size_t", "u": "size_t"}
 
 
@@ -178,8 +182,8 @@ def book_or_refusal(data):
         return None, (refusal.number, refusal.detail)
 
 
-def measured(book):
-    variables, clauses = reference.formula(book)
+def measured(book, cap=None):
+    variables, clauses = reference.formula(book, cap)
     return (0, 0, book.T, len(book.nodes), book.nodes.count(1), len(book.segments), len(book.trains), variables, len(clauses),
             reference.word_count(clauses), reference.plan_length(book))
 
@@ -204,16 +208,24 @@ def run_shown(book, train, run):
     return (0, 0, 0, len(runs), book.trains[train].l, len(path), path + [0] * (16 - len(path)))
 
 
-def meanings(book):
-    """What each variable stands for, by its number."""
+def meanings(book, cap=None):
+    """What each variable stands for, by its number: kind, train, interval, item, count."""
     v = reference.Variables(book)
-    found = {v.border(n): (IS_BORDER, 0, 0, n) for n in range(len(book.nodes))}
+    found = {v.border(n): (IS_BORDER, 0, 0, n, 0) for n in range(len(book.nodes))}
     for train, runs in enumerate(book.runs):
         for interval in range(book.T):
-            found.update({v.run(train, interval, r): (IS_RUN, train, interval, r) for r in range(len(runs))})
-            found[v.gone(train, interval)] = (IS_GONE, train, interval, 0)
-            found.update({v.claim(train, interval, s): (IS_CLAIM, train, interval, s) for s in range(len(book.segments))})
-    return v.count, found
+            found.update({v.run(train, interval, r): (IS_RUN, train, interval, r, 0) for r in range(len(runs))})
+            found[v.gone(train, interval)] = (IS_GONE, train, interval, 0, 0)
+            found.update({v.claim(train, interval, s): (IS_CLAIM, train, interval, s, 0) for s in range(len(book.segments))})
+    found.update({at: (IS_COUNT, 0, 0, node, count) for at, (node, count) in enumerate(counted(book, cap), v.count + 1)})
+    return reference.Variables(book, cap).count, found
+
+
+def given_as(rng, cap):
+    """The two numbers that say a cap: where there is none the second may be anything, and where there is one the first, but 0."""
+    if cap is None:
+        return 0, rng.choice((0, 1, reference.MOST_NUMBER))
+    return rng.choice((1, 1, 2, reference.MOST_NUMBER)), cap
 
 
 # ---- questions: a function, its arguments, the reference's answer and outputs
@@ -224,21 +236,20 @@ def book_questions(rng, data):
     yield "read_book", (data,), said("verdict", reference.entry_read_book(data), lambda: ()), []
     if refusal:
         train, run, variable, room = rng.randrange(9), rng.randrange(9), rng.randrange(99), rng.randrange(70)
-        yield "measure_book", (data,), refused("sizes", *refusal), []
+        under = given_as(rng, rng.choice((None, 0, 1, 50, reference.MOST_NUMBER)))
+        yield "measure_book_under", (*under, data), refused("sizes", *refusal), []
         yield "show_run", (data, train, run), refused("run", *refusal), []
-        yield "explain_variable", (data, variable), refused("variable", *refusal), []
-        yield "judge_assignment", (data, b""), refused("verdict", *refusal), []
-        for name in ("unpack_plan", "label_sections", "print_graph", "list_carriers"):
+        yield "explain_variable_under", (*under, data, variable), refused("variable", *refusal), []
+        yield "judge_assignment_under", (*under, data, b""), refused("verdict", *refusal), []
+        yield "unpack_plan_under", (*under, data, b"", room), refused("output", *refusal), [[OLD] * room]
+        for name in ("label_sections", "print_graph", "list_carriers"):
             yield name, (data, b"", room), refused("output", *refusal), [[OLD] * room]
-        yield "write_formula", (data, room), refused("totals", *refusal), [[OLD] * room]
+        yield "write_formula_under", (*under, data, room), refused("totals", *refusal), [[OLD] * room]
+        yield "check_fewest", (data, rng.randrange(3), b"", b"", *[room] * 4), refused("verdict", *refusal), [[0] * room] * 4
         return
-    size = measured(book)
-    words, nodes, segments = size[9], size[3], size[5]
-    yield "measure_book", (data,), size, []
-    for room in (words, words + 3, words - 1):
-        verdict = reference.entry_write_formula(data, room)
-        written = verdict[4] if verdict[0] == "accepted" else []
-        yield "write_formula", (data, room), said("totals", verdict, lambda v, c, w, _: (v, c, w)), [after(room, written)]
+    for cap in (None, random_cap(rng, book)):
+        yield from formula_questions(rng, data, book, cap)
+    nodes, segments = len(book.nodes), len(book.segments)
     for room in (segments, segments + 2, segments - 1):
         borders = bytes(random_borders(rng, book))
         spoiled = rng.choice((borders, borders, borders[:-1], borders + b"\0", borders[:nodes // 2] + b"\2" + borders[nodes // 2 + 1:]))
@@ -248,15 +259,33 @@ def book_questions(rng, data):
         train, run = rng.randrange(len(book.trains) + 1), rng.randrange(300)
         asked = rng.choice((run, run % 20, 2 ** 64 - 1))
         yield "show_run", (data, train, asked), run_shown(book, train, asked), []
-    count, found = meanings(book)
-    for variable in [0, 1, count, count + 1, 2 ** 64 - 1] + [rng.randrange(count + 9) for _ in range(20)]:
-        yield "explain_variable", (data, variable), (0, 0, *found.get(variable, (NO_VARIABLE, 0, 0, 0))), []
+
+
+def formula_questions(rng, data, book, cap):
+    """The sizes, the words and the variables of a book's formula."""
+    under, size = given_as(rng, cap), measured(book, cap)
+    yield "measure_book_under", (*under, data), size, []
+    for room in (size[9], size[9] + 3, size[9] - 1):
+        verdict = reference.entry_write_formula(data, room, cap)
+        written = verdict[4] if verdict[0] == "accepted" else []
+        yield "write_formula_under", (*under, data, room), said("totals", verdict, lambda v, c, w, _: (v, c, w)), [after(room, written)]
+    count, found = meanings(book, cap)
+    first = reference.Variables(book).count
+    asked = [0, 1, first, first + 1, count, count + 1, 2 ** 64 - 1] + [rng.randrange(count + 9) for _ in range(20)]
+    for variable in asked + [rng.randint(first, count) for _ in range(5)]:
+        yield "explain_variable_under", (*under, data, variable), (0, 0, *found.get(variable, (NO_VARIABLE, 0, 0, 0, 0))), []
 
 
 def output_question(name, entry, data, second, room):
     verdict = entry(data, second, room)
     written = verdict[1] if verdict[0] == "accepted" else b""
     return name, (data, second, room), said("output", verdict, lambda result: (len(result),)), [after(room, written)]
+
+
+def under_question(rng, name, entry, given, cap):
+    """The same under a cap; what is given is a book, a second input and the output's length."""
+    _, asked, answer, outputs = output_question(name, lambda *three: entry(*three, cap), *given)
+    return name, (*given_as(rng, cap), *asked), answer, outputs
 
 
 def graph_question(rng, data, book, plan):
@@ -271,23 +300,40 @@ def carriers_question(rng, data, book, plan):
     return output_question("list_carriers", reference.entry_list_carriers, data, plan, room)
 
 
-def input_questions(rng, data, book):
-    variables, clauses = reference.formula(book)
-    plan_bytes, words = reference.plan_length(book), reference.word_count(clauses)
-    for assignment in random_assignments(rng, book, 4):
-        yield "judge_assignment", (data, assignment), said("verdict", reference.entry_check_assignment(data, assignment), lambda: ()), []
-        yield output_question("unpack_plan", reference.entry_unpack_plan, data, assignment, plan_bytes + rng.choice((-1, 0, 0, 2)))
+def input_questions(rng, data, book, cap=None):
+    variables, plan_bytes = reference.Variables(book, cap).count, reference.plan_length(book)
+    for assignment in random_assignments(rng, book, 4, cap=cap):
+        verdict = reference.entry_check_assignment(data, assignment, cap)
+        yield "judge_assignment_under", (*given_as(rng, cap), data, assignment), said("verdict", verdict, lambda: ()), []
+        given = data, assignment, plan_bytes + rng.choice((-1, 0, 0, 2))
+        yield under_question(rng, "unpack_plan_under", reference.entry_unpack_plan, given, cap)
     for plan in random_plans(rng, book, 4):
-        yield output_question("check_plan", reference.entry_check_plan, data, plan, variables + rng.choice((-1, 0, 0, 2)))
+        given = data, plan, variables + rng.choice((-1, 0, 0, 2))
+        yield under_question(rng, "check_plan_under", reference.entry_check_plan, given, cap)
         yield graph_question(rng, data, book, plan)
         yield carriers_question(rng, data, book, plan)
     for plan in itertools.islice(kept_plans(rng, book), 4):
         yield graph_question(rng, data, book, plan)
-    for refutation in random_refutations(rng, book, 4):
-        lent = [words + rng.choice((-1, 0, 9, 400)), len(clauses) + rng.choice((-1, 0, 3, 90)), variables + rng.choice((0, 0, 2, -1)),
-                variables + rng.choice((0, 0, 2, -1))]
-        verdict = reference.entry_check_refutation(data, refutation, *lent)
-        yield "check_refutation", (data, refutation, *lent), said("verdict", verdict, lambda: ()), [[0] * n for n in lent]
+    for refutation in random_refutations(rng, book, 4, cap=cap):
+        lent = lent_about(rng, book, cap)
+        verdict = reference.entry_check_refutation(data, refutation, *lent, cap)
+        yield "check_refutation_under", (*given_as(rng, cap), data, refutation, *lent), said("verdict", verdict, lambda: ()), [[0] * n for n in lent]
+
+
+def lent_about(rng, book, cap):
+    """Slices for a refutation: as long as the formula needs, longer, or one too short."""
+    variables, clauses = reference.formula(book, cap)
+    return [reference.word_count(clauses) + rng.choice((-1, 0, 9, 400)), len(clauses) + rng.choice((-1, 0, 3, 90)),
+            variables + rng.choice((0, 0, 2, -1)), variables + rng.choice((0, 0, 2, -1))]
+
+
+def fewest_questions(rng, data, book):
+    """The combined verdict, with slices about as long as the formula under cap n - 1 needs, or longer; at n = 0 they may be empty."""
+    for given in random_fewest(rng, book, 6):
+        lent = lent_about(rng, book, given.n - 1) if given.n else [rng.choice((0, 9)) for _ in range(4)]
+        lent = lent if rng.random() < 0.3 else [n + 500 for n in lent]
+        verdict = reference.entry_check_fewest(data, *given, *lent)
+        yield "check_fewest", (data, *given, *lent), said("verdict", verdict, lambda: ()), [[0] * n for n in lent]
 
 
 def rewriting_questions(rng):
@@ -308,6 +354,12 @@ def questions(rng, count):
         book, refusal = book_or_refusal(data)
         if not refusal and len(reference.formula(book)[1]) <= MOST_CLAUSES:
             yield from input_questions(rng, data, book)
+            yield from input_questions(rng, data, book, random_cap(rng, book))
+            yield from fewest_questions(rng, data, book)
+        data = carrying_book(rng, "tiny")[0]
+        book = reference.read_book(data)
+        yield from input_questions(rng, data, book, random_cap(rng, book))
+        yield from fewest_questions(rng, data, book)
         yield from rewriting_questions(rng)
         for given in carried_plans(rng, rng.choice(("tiny", "small", "large"))):
             yield carriers_question(rng, *given)

@@ -1,11 +1,27 @@
-"""Random, damaged and hostile plans, assignments and refutations for a book, from a random.Random and nothing else."""
+"""Random, damaged and hostile caps, plans, assignments and refutations for a book, from a random.Random and nothing else."""
 import struct
+from collections import namedtuple
 
 from . import reference as ref
-from .books import border_bytes
+from .books import border_bytes, free_nodes
 from .inputs import TooLong, encode_steps, plan_bytes, step_frame
 from .reference import ABSENT, GONE
 from .small_solver import Solver, refutation_steps, satisfying_assignment
+
+# ------------------------------------------------------------- random caps
+
+
+def edge_caps(book):
+    """None, and about both ends of what a cap can say, each once."""
+    count = len(free_nodes(book))
+    return list(dict.fromkeys(cap for cap in (None, 0, 1, count - 1, count, count + 3, ref.MOST_NUMBER) if cap is None or cap >= 0))
+
+
+def random_cap(rng, book):
+    """One of these, or one in between, which is the likeliest to add something."""
+    between = rng.randint(0, max(len(free_nodes(book)) - 1, 0))
+    return rng.choice((*edge_caps(book), between, between))
+
 
 # ------------------------------------------------------------ random plans
 
@@ -102,10 +118,10 @@ def outside_plan(rng, book, borders, moves):
         borders[rng.randrange(len(borders))] = rng.choice((2, 255))
 
 
-def solved(book, budget=2000):
+def solved(book, budget=2000, cap=None):
     """A satisfying assignment, None if there is none or none was found."""
     try:
-        return satisfying_assignment(*ref.formula(book), budget)
+        return satisfying_assignment(*ref.formula(book, cap), budget)
     except TooLong:
         return None
 
@@ -201,15 +217,25 @@ def claim_more(rng, book, assignment):
     return bytes(out)
 
 
-def nearly_assignment(rng, book, good):
-    """A good assignment, where there is one, or one of trains that go anywhere: surplus claims, a variable changed, a wrong byte or length."""
+def count_more(rng, book, assignment):
+    """Set some of the variables that a cap adds, which need not be least either."""
+    first, more = ref.Variables(book).count, rng.choice((0.2, 1))
+    return assignment[:first] + bytes(byte | (rng.random() < more) for byte in assignment[first:])
+
+
+def nearly_assignment(rng, book, good, cap=None):
+    """A good assignment, where there is one, or one of trains that go anywhere: surplus claims, a variable changed, a wrong byte or length. Under a
+    cap also surplus counts, one of its variables changed, and none of them there."""
     if good and rng.random() < 0.6:
         data = good
     else:
         borders, moves = walked_plan(rng, book)
         if rng.random() < 0.5:
             break_plan(rng, book, borders, moves)
-        data = ref.write_assignment(book, borders, moves)
+        data = ref.write_assignment(book, borders, moves, cap)
+    first = ref.Variables(book).count
+    if len(data) > first and rng.random() < 0.5:
+        return rng.choice((count_more(rng, book, data), flipped(data, rng.randrange(first, len(data))), data[:first], data))
     style = rng.random()
     if style < 0.25:
         return claim_more(rng, book, data)
@@ -218,16 +244,16 @@ def nearly_assignment(rng, book, good):
     return spoiled_input(rng, data) if style < 0.85 else data
 
 
-def random_assignments(rng, book, count=30, assignment=None):
+def random_assignments(rng, book, count=30, assignment=None, cap=None):
     """Good assignments where there is one, nearly good ones, hostile ones."""
-    good = assignment or solved(book)
-    size = ref.Variables(book).count
+    good = assignment or solved(book, cap=cap)
+    size = ref.Variables(book, cap).count
     if good:
         yield good
     yield from (b"", bytes(size), bytes([1]) * size, bytes([2]) * size)
     yield bytes(rng.randrange(2) for _ in range(size))
     for _ in range(count):
-        yield nearly_assignment(rng, book, good)
+        yield nearly_assignment(rng, book, good, cap)
 
 
 # ------------------------------------------------------ random refutations
@@ -388,9 +414,9 @@ def damaged_refutation(rng, variables, clauses, steps):
     return encode_steps(steps[:at + 1] + [(kept, rng.choice((hints[-1:], hints)))] + steps[at + 1:])
 
 
-def random_refutations(rng, book, count=30, steps=None, budget=2000):
+def random_refutations(rng, book, count=30, steps=None, budget=2000, cap=None):
     """A good refutation where there is one, nearly good and hostile ones."""
-    variables, clauses = ref.formula(book)
+    variables, clauses = ref.formula(book, cap)
     try:
         steps = steps or refutation_steps(variables, clauses, budget)
     except TooLong:
@@ -412,3 +438,90 @@ def random_refutations(rng, book, count=30, steps=None, budget=2000):
             yield spoil_steps(rng, variables, clauses, chosen)
         else:
             yield spoil_ending(rng, encode_steps(chosen), chosen)
+
+
+# ------------------------------------------------- the fewest borders of kind 1
+
+# n, an assignment and a refutation, for the combined verdict
+Fewest = namedtuple("Fewest", "n assignment refutation")
+
+
+def set_count(book, plan):
+    """How many nodes of kind 1 a plan sets."""
+    return sum(plan[node] for node in free_nodes(book))
+
+
+def assignment_of(book, plan):
+    """The least assignment of a plan, without a cap."""
+    return ref.write_assignment(book, *ref.read_plan(book, plan))
+
+
+def fewest(book, budget=2000):
+    """The fewest nodes of kind 1 that a plan which keeps the rules sets, with what shows it; None where there is no plan, or a search was given
+    up."""
+    assignment, refutation = solved(book, budget), b""
+    while assignment:
+        plan = ref.decode(book, assignment)
+        n = set_count(book, plan)
+        if n == 0:
+            break
+        solver = Solver(*ref.formula(book, n - 1), budget)
+        try:
+            less = solver.solve()
+        except TooLong:
+            return None
+        if not less:
+            refutation = encode_steps(solver.steps)
+            break
+        assignment = bytes(1 if v > 0 else 0 for v in solver.value[1:])
+    return Fewest(n, assignment_of(book, plan), refutation) if assignment else None
+
+
+def wrong_number(rng, book, n):
+    """Another n: one off either way, at an edge, or anything."""
+    count = len(free_nodes(book))
+    return rng.choice([x for x in (n - 1, n + 1, 0, count, count + 1, ref.MOST_NUMBER, rng.randint(0, count + 2)) if x >= 0])
+
+
+def more_than_needed(rng, book, good):
+    """The assignment of the same movements with further borders, and the n that it has then, or the n of before."""
+    plan = with_more_borders(rng, book, ref.decode(book, good.assignment))
+    return good._replace(assignment=assignment_of(book, plan), n=rng.choice((good.n, set_count(book, plan))))
+
+
+def nearly_refutation(rng, book, good):
+    """The refutation spoiled, one of another cap, or an empty one."""
+    cap = rng.choice((max(good.n - 1, 0), good.n, None))
+    return rng.choice(list(random_refutations(rng, book, 3, budget=300, cap=cap)))
+
+
+def nearly_fewest(rng, book, good):
+    """The fewest with something wrong, or with two things."""
+    for _ in range(rng.choice((1, 1, 1, 2))):
+        style = rng.random()
+        if style < 0.3:
+            good = good._replace(n=wrong_number(rng, book, good.n))
+        elif style < 0.5:
+            good = more_than_needed(rng, book, good)
+        elif style < 0.7:
+            good = good._replace(assignment=nearly_assignment(rng, book, good.assignment))
+        else:
+            good = good._replace(refutation=nearly_refutation(rng, book, good))
+    return good
+
+
+def random_fewest(rng, book, count=20, good=None):
+    """The fewest of a book where it is found, nearly good ones, hostile ones; of a book without a plan only these."""
+    good = good or fewest(book)
+    if good:
+        yield good
+        for _ in range(count):
+            try:
+                yield nearly_fewest(rng, book, good)
+            except (IndexError, ref.Refused):
+                continue        # what is wrong already can't be spoiled in this way
+    size = ref.Variables(book).count
+    for n in rng.sample((0, 1, len(free_nodes(book)), ref.MOST_NUMBER), 2):
+        yield Fewest(n, rng.choice((b"", bytes(size), bytes([1]) * size)), rng.choice((b"", step_frame([], [1]))))
+    steps = list(random_refutations(rng, book, 2, budget=300, cap=rng.choice((None, 0))))
+    yield Fewest(1, nearly_assignment(rng, book, None), rng.choice(steps))

@@ -3,9 +3,12 @@
 document 02's requests P1: times of two bytes, and old books rewritten; P2: a
 train graph on paper, printed by `print_graph BOOK PLAN`; P3: speeds to the
 nearest segment; P4: a terminating train stays on the track; P5: which border
-carries the plan, listed by `list_carriers BOOK PLAN OUT`; and P6: judging
-apart from unpacking, so that `check_assignment BOOK ASSIGNMENT` only judges,
-and unpacks too when a third name says where the plan goes.
+carries the plan, listed by `list_carriers BOOK PLAN OUT`; P6: judging apart
+from unpacking, so that `check_assignment BOOK ASSIGNMENT` only judges, and
+unpacks too when a third name says where the plan goes; and P7: at most so many
+borders, by `--cap N` behind the word of a command that is about the formula,
+and the combined verdict of `check_fewest BOOK N ASSIGNMENT REFUTATION`.
+A cap is None, which is no cap, or a number from 0 up.
 
 Every function states sentences of the documents as simply as it can.  Nothing
 here is fast on purpose; the only care taken is that no input can make a
@@ -52,6 +55,9 @@ LINE_BYTES, CELL_BYTES = 80, 9
 
 # P5: "An entry is four bytes: node, interval, lower and higher train"
 ENTRY_BYTES = 4
+
+# P7: a cap and an n on the command line are at most this
+MOST_NUMBER = 2 ** 64 - 1
 
 # "they lend at most 64 KiB a slice"
 LENT_BYTES = 65536
@@ -548,9 +554,10 @@ def touched(together, run):
 
 class Variables:
     """Text: "node borders 1 to N; then by train and interval: its runs, gone, and
-    one claim a segment"."""
+    one claim a segment"; P7: a cap's "extra variables follow all others, so
+    that existing numbers hold"."""
 
-    def __init__(self, book):
+    def __init__(self, book, cap=None):
         self.runs = [len(runs) for runs in book.runs]
         self.bases = []
         following = len(book.nodes) + 1
@@ -558,7 +565,9 @@ class Variables:
             width = count + 1 + len(book.segments)
             self.bases.append((following, width))
             following += book.T * width
-        self.count = following - 1
+        self.uncapped = following - 1
+        self.band = band_width(book, cap)
+        self.count = self.uncapped + (self.band * cap if self.band else 0)
 
     def border(self, node):
         return node + 1
@@ -573,14 +582,21 @@ class Variables:
     def claim(self, tr, i, segment):
         return self.run(tr, i, self.runs[tr] + 1 + segment)
 
+    def counter(self, j, k):
+        """The cap's variable y(j, k), j from 1 to c and k from 0 to w - 1, j
+        outermost."""
+        return self.uncapped + (j - 1) * self.band + k + 1
 
-def each_clause(book):
-    """The clauses, "families outermost"."""
-    v = Variables(book)
+
+def each_clause(book, cap=None):
+    """The clauses, "families outermost"; P7: a cap's "clauses follow family
+    I"."""
+    v = Variables(book, cap)
     families = (family_a, family_b, family_c, family_d, family_e, family_f,
                 family_g, family_h, family_i)
     for family in families:
         yield from family(book, v)
+    yield from cap_clauses(book, v, cap)
 
 
 def family_a(book, v):
@@ -690,9 +706,56 @@ def family_i(book, v):
                 yield [-v.claim(x, i, s), -v.claim(y, i, s)]
 
 
-def formula(book):
+def kind_1_nodes(book):
+    """The nodes that "may be set", in rising node number."""
+    return [node for node, kind in enumerate(book.nodes)
+            if kind == MAY_BE_SET]
+
+
+def kind_1_set(book, borders):
+    """How many "kind 1 nodes set" there are."""
+    return sum(borders[node] for node in kind_1_nodes(book))
+
+
+def within_cap(book, borders, cap):
+    """P7: "at most that many kind 1 nodes set"."""
+    return cap is None or kind_1_set(book, borders) <= cap
+
+
+def band_width(book, cap):
+    """w = m - c for m kind 1 nodes and the cap c; 0 where nothing is added: P7:
+    "A cap not below the count of kind 1 nodes adds nothing"."""
+    count = len(kind_1_nodes(book))
+    return 0 if cap is None or cap >= count else count - cap
+
+
+def cap_clauses(book, v, cap):
+    """P7: "at most that many kind 1 nodes set", in the order that "the team
+    writes": by j = 1 to c + 1, then k = 0 to w - 1, how y(j, k) begins, and
+    behind it how it goes on."""
+    if v.band == 0:
+        return
+    for j in range(1, cap + 2):
+        for k in range(v.band):
+            yield begin_clause(book, v, cap, j, k)
+            if j <= cap and k >= 1:
+                yield [-v.counter(j, k - 1), v.counter(j, k)]
+
+
+def begin_clause(book, v, cap, j, k):
+    """Kind 1 node number j + k set, and j - 1 of those before it, imply j of
+    the first j + k; j = c + 1 would be one too many, so nothing is implied."""
+    clause = [-v.border(kind_1_nodes(book)[j + k - 1])]
+    if j > 1:
+        clause.append(-v.counter(j - 1, k))
+    if j <= cap:
+        clause.append(v.counter(j, k))
+    return clause
+
+
+def formula(book, cap=None):
     """The number of variables and the whole list of clauses."""
-    return Variables(book).count, list(each_clause(book))
+    return Variables(book, cap).count, list(each_clause(book, cap))
 
 
 def word_count(clauses):
@@ -700,19 +763,19 @@ def word_count(clauses):
     return sum(len(clause) + 1 for clause in clauses)
 
 
-def dimacs(book):
+def dimacs(book, cap=None):
     """Text: "variables and clauses in the header, one clause a line"."""
-    variables, clauses = formula(book)
+    variables, clauses = formula(book, cap)
     lines = ["p cnf %d %d\n" % (variables, len(clauses))]
     for clause in clauses:
         lines.append("".join("%d " % x for x in clause) + "0\n")
     return "".join(lines).encode("ascii")
 
 
-def lent_formula(book, words_len, clauses_len=None):
+def lent_formula(book, words_len, clauses_len=None, cap=None):
     """The clauses, or 12 as soon as they pass what is lent for them."""
     clauses, words = [], 0
-    for clause in each_clause(book):
+    for clause in each_clause(book, cap):
         clauses.append(clause)
         words += len(clause) + 1
         refuse_if(words > words_len, 12)
@@ -732,13 +795,14 @@ def plan_length(book):
     return len(book.nodes) + 2 * len(book.trains) * book.T
 
 
-def judge(book, assignment):
+def judge(book, assignment, cap=None):
     """What P6's pair shares: "both refuse by 13 and 14 with the same detail".
     13 is "length or byte wrong", 14 "a clause is false" with "the least false
-    clause", clauses counted from 1."""
-    refuse_if(len(assignment) != Variables(book).count, 13)
+    clause", clauses counted from 1.  P7: "Under a cap the demands' formula is
+    document 01's with these clauses"."""
+    refuse_if(len(assignment) != Variables(book, cap).count, 13)
     refuse_if(any(x > 1 for x in assignment), 13)
-    for number, clause in enumerate(each_clause(book), 1):
+    for number, clause in enumerate(each_clause(book, cap), 1):
         true = any(is_true(assignment, x) for x in clause)
         refuse_if(not true, 14, number)
 
@@ -781,9 +845,9 @@ def accepted_plan(book, plan):
     return borders, moves
 
 
-def write_assignment(book, borders, moves):
+def write_assignment(book, borders, moves, cap=None):
     """Text: "A plan's assignment claims exactly the sections its runs touch"."""
-    v = Variables(book)
+    v = Variables(book, cap)
     together = sections(book, borders)
     assignment = bytearray(v.count)
     assignment[:len(borders)] = bytes(borders)
@@ -796,7 +860,19 @@ def write_assignment(book, borders, moves):
                 assignment[v.run(tr, i, move) - 1] = 1
             for s in touched(together, run_in(book, moves, tr, i)):
                 assignment[v.claim(tr, i, s) - 1] = 1
+    for j, k in counted(book, borders, v, cap):
+        assignment[v.counter(j, k) - 1] = 1
     return bytes(assignment)
+
+
+def counted(book, borders, v, cap):
+    """The pairs j, k for which at least j of the first j + k kind 1 nodes are
+    set."""
+    if v.band == 0:
+        return []
+    row = [borders[node] for node in kind_1_nodes(book)]
+    return [(j, k) for j in range(1, cap + 1) for k in range(v.band)
+            if sum(row[:j + k]) >= j]
 
 
 # ---------------------------------------------------------- the train graph
@@ -897,8 +973,8 @@ Step = namedtuple("Step", "literals hints")
 class Lent:
     """The clauses that hints may name, and how much is lent for them."""
 
-    def __init__(self, book, words_len, clauses_len):
-        self.clauses = lent_formula(book, words_len, clauses_len)
+    def __init__(self, book, words_len, clauses_len, cap=None):
+        self.clauses = lent_formula(book, words_len, clauses_len, cap)
         self.words = word_count(self.clauses)
         self.words_len = words_len
         self.clauses_len = clauses_len
@@ -1000,41 +1076,44 @@ def entry_upgrade_book(old_bytes, new_len):
     return verdict(check)
 
 
-def entry_write_formula(book_bytes, words_len):
+def entry_write_formula(book_bytes, words_len, cap=None):
     def check():
         book = read_book(book_bytes)
-        clauses = lent_formula(book, words_len)
+        clauses = lent_formula(book, words_len, cap=cap)
         words = [x for clause in clauses for x in clause + [0]]
-        return Variables(book).count, len(clauses), len(words), words
+        return Variables(book, cap).count, len(clauses), len(words), words
     return verdict(check)
 
 
-def entry_check_assignment(book_bytes, assignment_bytes):
+def entry_check_assignment(book_bytes, assignment_bytes, cap=None):
     """P6: "one judges an assignment and lends no plan slice"; with no slice
     lent, 12 has nothing to measure."""
     def check():
-        judge(read_book(book_bytes), assignment_bytes)
+        judge(read_book(book_bytes), assignment_bytes, cap)
         return ()
     return verdict(check)
 
 
-def entry_unpack_plan(book_bytes, assignment_bytes, plan_len):
+def entry_unpack_plan(book_bytes, assignment_bytes, plan_len, cap=None):
     """P6: "the other unpacks the plan from an assignment, judging it first",
     which is done "Once 12 is passed"."""
     def check():
         book = read_book(book_bytes)
         refuse_if(plan_len < plan_length(book), 12)
-        judge(book, assignment_bytes)
+        judge(book, assignment_bytes, cap)
         return (decode(book, assignment_bytes),)
     return verdict(check)
 
 
-def entry_check_plan(book_bytes, plan_bytes, assignment_len):
+def entry_check_plan(book_bytes, plan_bytes, assignment_len, cap=None):
+    """P7: 22 "after 16 where a plan to be written as an assignment sets more
+    than the cap"."""
     def check():
         book = read_book(book_bytes)
-        refuse_if(assignment_len < Variables(book).count, 12)
+        refuse_if(assignment_len < Variables(book, cap).count, 12)
         borders, moves = accepted_plan(book, plan_bytes)
-        return (write_assignment(book, borders, moves),)
+        refuse_if(not within_cap(book, borders, cap), 22)
+        return (write_assignment(book, borders, moves, cap),)
     return verdict(check)
 
 
@@ -1059,26 +1138,71 @@ def entry_list_carriers(book_bytes, plan_bytes, out_len):
 
 
 def entry_check_refutation(book_bytes, refutation_bytes, words_len,
-                           clauses_len, values_len, trail_len):
+                           clauses_len, values_len, trail_len, cap=None):
     def check():
         book = read_book(book_bytes)
-        variables = Variables(book).count
-        refuse_if(min(values_len, trail_len) < variables, 12)
-        lent = Lent(book, words_len, clauses_len)
+        variables, lent = lent_for_steps(book, words_len, clauses_len,
+                                         values_len, trail_len, cap)
         check_steps(variables, lent, refutation_bytes)
         return ()
     return verdict(check)
 
 
+def lent_for_steps(book, words_len, clauses_len, values_len, trail_len, cap):
+    """The number of variables and the clauses, or 12, which "compares with
+    formula words, clause count, variable count" of the formula under the
+    cap."""
+    variables = Variables(book, cap).count
+    refuse_if(min(values_len, trail_len) < variables, 12)
+    return variables, Lent(book, words_len, clauses_len, cap)
+
+
+def entry_check_fewest(book_bytes, n, assignment_bytes, refutation_bytes,
+                       words_len, clauses_len, values_len, trail_len):
+    """P7: "A combined verdict takes n, an assignment of the formula without a
+    cap, and a refutation of the formula under cap n minus 1"; 22 "after the
+    assignment is accepted, where its plan sets another count of kind 1 nodes
+    than n".  By "then 12; then the second input" what the refutation needs is
+    asked for first; "With n = 0 there is no lower cap", and nothing is."""
+    def check():
+        book = read_book(book_bytes)
+        lower = None
+        if n > 0:
+            lower = lent_for_steps(book, words_len, clauses_len, values_len,
+                                   trail_len, n - 1)
+        judge(book, assignment_bytes)
+        refuse_if(unpacked_count(book, assignment_bytes) != n, 22)
+        check_none_lower(lower, refutation_bytes)
+        return ()
+    return verdict(check)
+
+
+def unpacked_count(book, assignment):
+    """P7: the "count of kind 1 nodes" that an accepted assignment's "plan
+    sets"."""
+    borders, _ = read_plan(book, decode(book, assignment))
+    return kind_1_set(book, borders)
+
+
+def check_none_lower(lower, refutation):
+    """P7: that there is "none with fewer": the steps under the lower cap; but
+    "a non-empty refutation at n = 0 is refused by 21"."""
+    if lower is None:
+        refuse_if(len(refutation) > 0, 21)
+    else:
+        variables, lent = lower
+        check_steps(variables, lent, refutation)
+
+
 # ------------------------------------------------------------- the programs
 
 
-def print_formula(book_bytes):
+def print_formula(book_bytes, cap=None):
     """The formula in DIMACS, or the line of the refusal."""
     answer = longer_input(book_bytes)
-    answer = answer or entry_write_formula(book_bytes, LENT_WORDS)
+    answer = answer or entry_write_formula(book_bytes, LENT_WORDS, cap)
     if answer[0] == "accepted":
-        return dimacs(read_book(book_bytes))
+        return dimacs(read_book(book_bytes), cap)
     return verdict_line(answer)
 
 
@@ -1105,20 +1229,28 @@ def verdict_line(answer):
     return b"%d %d\n" % answer[1:]
 
 
-def check_two(name, book_bytes, second):
+def check_two(name, book_bytes, second, cap=None):
     """The verdict of one of the three checking programs; `unpack_plan` is what
     check_assignment does when a third name is given."""
     answer = longer_input(book_bytes, second)
     if answer:
         return answer
     if name == "check_assignment":
-        return entry_check_assignment(book_bytes, second)
+        return entry_check_assignment(book_bytes, second, cap)
     if name == "unpack_plan":
-        return entry_unpack_plan(book_bytes, second, LENT_BYTES)
+        return entry_unpack_plan(book_bytes, second, LENT_BYTES, cap)
     if name == "check_plan":
-        return entry_check_plan(book_bytes, second, LENT_BYTES)
+        return entry_check_plan(book_bytes, second, LENT_BYTES, cap)
     return entry_check_refutation(book_bytes, second, LENT_WORDS,
-                                  LENT_CLAUSES, LENT_VALUES, LENT_TRAIL)
+                                  LENT_CLAUSES, LENT_VALUES, LENT_TRAIL, cap)
+
+
+def check_fewest(book_bytes, n, assignment_bytes, refutation_bytes):
+    """The combined verdict of P7."""
+    answer = longer_input(book_bytes, assignment_bytes, refutation_bytes)
+    return answer or entry_check_fewest(
+        book_bytes, n, assignment_bytes, refutation_bytes, LENT_WORDS,
+        LENT_CLAUSES, LENT_VALUES, LENT_TRAIL)
 
 
 def rewrite(old_bytes):
@@ -1139,24 +1271,60 @@ def read_file(name):
         return file.read()
 
 
+USAGE = ("usage: print_formula [--cap N] < BOOK | check_assignment [--cap N] "
+         "BOOK ASSIGNMENT [PLAN] | check_plan [--cap N] BOOK PLAN [ASSIGNMENT] "
+         "| check_refutation [--cap N] BOOK REFUTATION | check_fewest BOOK N "
+         "ASSIGNMENT REFUTATION | upgrade_book OLD NEW | print_graph BOOK PLAN "
+         "| list_carriers BOOK PLAN OUT")
+
+# The commands that are about the formula, which "takes a cap".
+CAPPED = ("print_formula", "check_assignment", "check_plan",
+          "check_refutation")
+
+
+def number_of(word):
+    """A cap or an n: "Figures are base ten", in digits 0 to 9."""
+    if not word or any(digit not in "0123456789" for digit in word):
+        sys.exit(USAGE)
+    number = 0
+    for digit in word:
+        number = 10 * number + int(digit)
+        if number > MOST_NUMBER:
+            sys.exit(USAGE)
+    return number
+
+
+def split_cap(arguments):
+    """The words without the option `--cap N`, and its cap."""
+    if arguments[0] not in CAPPED or arguments[1:2] != ["--cap"]:
+        return arguments, None
+    if len(arguments) < 3:
+        sys.exit(USAGE)
+    return arguments[:1] + arguments[3:], number_of(arguments[2])
+
+
 def main(arguments):
-    usage = ("usage: print_formula < BOOK | check_assignment BOOK ASSIGNMENT "
-             "[PLAN] | check_plan BOOK PLAN [ASSIGNMENT] | check_refutation "
-             "BOOK REFUTATION | upgrade_book OLD NEW | print_graph BOOK PLAN | "
-             "list_carriers BOOK PLAN OUT")
     # the least and the most words, and how many name inputs
     counts = {"print_formula": (1, 1, 0), "check_assignment": (3, 4, 2),
               "check_plan": (3, 4, 2), "check_refutation": (3, 3, 2),
-              "upgrade_book": (3, 3, 1), "print_graph": (3, 3, 2),
-              "list_carriers": (4, 4, 2)}
+              "check_fewest": (5, 5, 3), "upgrade_book": (3, 3, 1),
+              "print_graph": (3, 3, 2), "list_carriers": (4, 4, 2)}
     name = arguments[0] if arguments else None
     if name not in counts:
-        sys.exit(usage)
+        sys.exit(USAGE)
+    arguments, cap = split_cap(arguments)
     least, most, inputs = counts[name]
     if not least <= len(arguments) <= most:
-        sys.exit(usage)
+        sys.exit(USAGE)
     if name == "print_formula":
-        sys.stdout.buffer.write(print_formula(sys.stdin.buffer.read()))
+        sys.stdout.buffer.write(print_formula(sys.stdin.buffer.read(), cap))
+        return 0
+    if name == "check_fewest":
+        _, book, n, assignment, refutation = arguments
+        n = number_of(n)
+        answer = check_fewest(read_file(book), n, read_file(assignment),
+                              read_file(refutation))
+        sys.stdout.buffer.write(verdict_line(answer))
         return 0
     given = [read_file(file) for file in arguments[1:1 + inputs]]
     if name == "print_graph":
@@ -1173,7 +1341,10 @@ def main(arguments):
     if name == "check_assignment" and has_output:
         # P6: only a call that has somewhere "to put a plan" unpacks
         name = "unpack_plan"
-    answer = rewrite(*given) if inputs == 1 else check_two(name, *given)
+    if inputs == 1:
+        answer = rewrite(*given)
+    else:
+        answer = check_two(name, *given, cap)
     if has_output and answer[0] == "accepted":
         with open(arguments[1 + inputs], "wb") as file:
             file.write(answer[1])

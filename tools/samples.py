@@ -1,8 +1,9 @@
 """Tests the reference by itself, on inputs made from SEED: document 01's examples ("On each edge", starred or not), whose books L and M are
 rewritten; random and damaged books, with every refusal of the book among them; old books, good and damaged, rewritten: the formula stays, and
 so does every number; trains that leave over an exit, and that may not; train graphs, read back by their columns; lists of carriers, with each
-border cleared and the plan judged again; assignments, plans and refutations, with every rule broken; and brute force: on tiny books every plan is
-enumerated, and a plan that keeps the rules exists exactly where the formula is satisfiable. Prints counts.
+border cleared and the plan judged again; assignments, plans and refutations, with every rule broken, under caps too; and brute force: on tiny books
+every plan is enumerated, and a plan that keeps the rules exists exactly where the formula is satisfiable, under each cap one that sets no more
+borders of kind 1; and the combined verdict is given for the fewest that are found so, and for no other number. Prints counts.
 
 Exit status: 0 all held, 1 something did not (an assertion says what), 2 wrong usage.
 """
@@ -13,17 +14,19 @@ from collections import Counter
 
 from . import reference as ref
 from .all_plans import keeping, plans_to_try
-from .books import BORDER_KINDS, EXIT, MAY_BE_SET, Spec, bordered_kinds, spec_bytes, split
-from .carrying_books import carried_plans
+from .books import BORDER_KINDS, EXIT, MAY_BE_SET, Spec, bordered_kinds, counted, free_nodes, spec_bytes, split
+from .carrying_books import carried_plans, carrying_book
 from .counts import answer_name, listed
 from .features import entries_of, list_features
 from .inputs import TooLong, encode_steps, plan_bytes, step_frame
-from .known import (BOOK_CARRIED, BOOK_GRAPH, BOOK_L, CARRYING, FORMULA_L, LEAVING, LIST_CARRIED, OLD_L, PAGE_GRAPH, PAGE_L, PLAN_CARRIED,
-                    PLAN_GRAPH, PLAN_L, SPEEDS, add_train, book_m, chasing, circling, far, leaving_spec, list_of, lone_spec, outgrowing, padded,
-                    parted, row_spec, spec_l, speed_spec)
+from .known import (ASSIGNMENT_FEWEST, ASSIGNMENT_MORE, BOOK_CARRIED, BOOK_FEWEST, BOOK_GRAPH, BOOK_L, CAPPED, CARRYING, FORMULA_L, LEAVING,
+                    LIST_CARRIED, OLD_L, PAGE_GRAPH, PAGE_L, PLAN_CARRIED, PLAN_FEWEST, PLAN_GRAPH, PLAN_L, PLAN_MORE, REFUTATION_FEWEST, SPEEDS,
+                    add_train, book_m, chasing, circling, far, leaving_spec, list_of, lone_spec, many_free, outgrowing, padded, parted, row_spec,
+                    spec_l, speed_spec, standing_row)
 from .passing_books import passing_book
 from .random_books import book_to_rewrite, damaged_book, random_book
-from .random_inputs import kept_plans, random_assignments, random_plans, random_refutations, solved, walked_plan, with_needed_borders
+from .random_inputs import (assignment_of, edge_caps, fewest, kept_plans, random_assignments, random_cap, random_fewest, random_plans,
+                            random_refutations, set_count, solved, walked_plan, with_needed_borders)
 from .small_solver import Solver
 
 sys.setrecursionlimit(20000)
@@ -345,6 +348,202 @@ def check_carriers(rng, count):
     assert {"borders that carry", "borders that do not", "empty", "several entries", "several intervals", "several pairs"} <= set(tally)
 
 
+# ------------------------------------------------------------------ caps
+
+LENT = (10 ** 6,) * 4
+
+
+def check_counters():
+    """What a cap adds, worked out by hand, and how much of it for as many nodes as there may be; "A cap not below the count of kind 1 nodes adds
+    nothing"."""
+    book = ref.read_book(BOOK_FEWEST)
+    variables, clauses = ref.formula(book)
+    for cap, (added, more) in CAPPED.items():
+        assert ref.formula(book, cap) == (variables + more, clauses + added)
+    for cap in (4, 96, ref.MOST_NUMBER):
+        assert ref.formula(book, cap) == (variables, clauses)
+    most = [capped_totals(many_free(96)[0], cap) for cap in range(98)]
+    assert most == [(c * (96 - c), 2 * c * (96 - c) + 96 - 2 * c, 7 * c * (96 - c) + 2 * (96 - c) - 3 * c) for c in range(96)] + [(0, 0, 0)] * 2
+    assert max(most) == (2304, 4608, 16080)
+
+
+def capped_totals(data, cap):
+    """The variables, clauses and words that a cap adds."""
+    without, under = (ref.entry_write_formula(data, 10 ** 6, some)[1:4] for some in (None, cap))
+    return tuple(more - less for more, less in zip(under, without))
+
+
+def check_combined():
+    """The combined verdict, worked out by hand: n off by one either way, more borders than needed, n = 0, and the order of its refusals."""
+    def said(n, assignment, refutation, lent=LENT, book=BOOK_FEWEST):
+        return ref.entry_check_fewest(book, n, assignment, refutation, *lent)
+
+    good, more, steps = ASSIGNMENT_FEWEST, ASSIGNMENT_MORE, REFUTATION_FEWEST
+    assert said(1, good, steps) == ("accepted",)
+    for n in (0, 2, 3, ref.MOST_NUMBER):
+        assert said(n, good, steps) == said(n, good, b"") == ("refused", 22, 0)
+    assert said(3, more, steps) == ("refused", 20, 1) and said(1, more, steps) == ("refused", 22, 0)
+    # 12, 13 and 14 ahead of 22, and that ahead of what is wrong with the refutation
+    assert said(2, good, b"", (0,) * 4) == ("refused", 12, 0) and said(0, good, b"", (0,) * 4) == ("refused", 22, 0)
+    assert said(2, good[1:], b"") == ("refused", 13, 0) and said(0, bytes(17), b"") == ("refused", 14, 1) == said(2, bytes(17), b"")
+    assert said(1, good, b"") == ("refused", 21, 0) and said(1, good, steps + b"\0") == ("refused", 21, 0)
+    # just enough for the formula under cap 0 and the step, and one less
+    exact = (140 + 1, 47 + 1, 17, 17)
+    assert said(1, good, steps, exact) == ("accepted",)
+    for which in range(4):
+        assert said(1, good, steps, exact[:which] + (exact[which] - 1,) + exact[which + 1:]) == ("refused", 12, 0)
+    # at n = 0 nothing is lent, and the refutation is empty
+    data, plan = many_free(3)
+    none = assignment_of(ref.read_book(data), plan)
+    assert said(0, none, b"", (0,) * 4, data) == ("accepted",)
+    for refutation in (b"\0", steps, step_frame([], [])):
+        assert said(0, none, refutation, (0,) * 4, data) == ("refused", 21, 0)
+    assert said(0, none[:-1], b"\0", (0,) * 4, data) == ("refused", 13, 0)
+    assert said(0, none, b"", (0,) * 4, data[:-1]) == ("refused", 1, 0)
+
+
+def check_capped_plans():
+    """A plan written under a cap: 12 by the variables under it, 15, 16, 22."""
+    for cap, plan, answer in ((0, PLAN_FEWEST, 22), (1, PLAN_FEWEST, 0), (1, PLAN_MORE, 22), (2, PLAN_MORE, 22), (3, PLAN_MORE, 0), (None, PLAN_MORE, 0),
+                              (0, PLAN_FEWEST[1:], 15), (0, bytes(3) + PLAN_FEWEST[3:], 16), (0, bytes(3) + PLAN_FEWEST[3:5] + b"\0\0", 16)):
+        need = 17 + CAPPED.get(cap, ((), 0))[1]
+        found = ref.entry_check_plan(BOOK_FEWEST, plan, need, cap)
+        assert found[1] == answer if answer else found[0] == "accepted" and len(found[1]) == need
+        assert ref.entry_check_plan(BOOK_FEWEST, plan, need - 1, cap) == ("refused", 12, 0)
+    for places, segments in (((0, 1, 2), 3), ((4, 0, 2), 5), ((0, 7), 8)):
+        data, plan = standing_row(places, segments)
+        good = fewest(ref.read_book(data))
+        assert good.n == len(places) - 1 == set_count(ref.read_book(data), plan)
+
+
+def caps_to_try(book):
+    """All that add something, and those about and above the count of kind 1 nodes."""
+    return sorted({cap for cap in edge_caps(book) if cap is not None}.union(range(len(free_nodes(book)))))
+
+
+def check_caps(data, book, plans, tally):
+    """Of a book all of whose plans that keep the rules are known: under each cap the formula is satisfiable exactly where one of them sets no more
+    nodes of kind 1, and what satisfies it decodes to such a plan; a plan is written under a cap exactly where it does."""
+    counts = [set_count(book, borders) for borders, _ in plans]
+    for cap in caps_to_try(book):
+        solver = Solver(*ref.formula(book, cap))
+        some = solver.solve()
+        assert some == any(count <= cap for count in counts)
+        tally["caps with a plan" if some else "caps without"] += 1
+        if some:
+            check_under(data, book, bytes(1 if v > 0 else 0 for v in solver.value[1:]), cap)
+        else:
+            proof = encode_steps(solver.steps)
+            assert ref.entry_check_refutation(data, proof, *LENT, cap) == ("accepted",)
+        for (borders, moves), count in some_of(list(zip(plans, counts)), 6):
+            check_written_under(data, plan_bytes(borders, moves), count, cap, tally)
+    check_minimum(data, book, counts, tally)
+
+
+def check_under(data, book, assignment, cap):
+    """An assignment that satisfies the formula under a cap; without what the cap added it satisfies that without a cap."""
+    answer = ref.entry_unpack_plan(data, assignment, ref.plan_length(book), cap)
+    assert answer[0] == "accepted" and ref.entry_check_assignment(data, assignment, cap) == ("accepted",)
+    assert ref.broken_rule(book, *ref.read_plan(book, answer[1])) == 0 and set_count(book, answer[1]) <= cap
+    assert ref.entry_check_assignment(data, assignment[:ref.Variables(book).count]) == ("accepted",)
+
+
+def check_written_under(data, plan, count, cap, tally):
+    """A plan that keeps the rules, written under a cap and unpacked again; or 22."""
+    answer = ref.entry_check_plan(data, plan, 10 ** 6, cap)
+    if count > cap:
+        assert answer == ("refused", 22, 0)
+        tally["plans above a cap"] += 1
+        return
+    assert answer[0] == "accepted" and ref.entry_unpack_plan(data, answer[1], len(plan), cap) == ("accepted", plan)
+    tally["plans within a cap"] += 1
+
+
+def check_minimum(data, book, counts, tally):
+    """The fewest that a search finds are the least of all plans; the combined verdict is given for that number, and for no other."""
+    good = fewest(book, 20000)
+    assert (good is None) == (not counts)
+    if good is None:
+        tally["books without a plan"] += 1
+        return
+    assert good.n == min(counts)
+    tally[f"fewest {good.n}"] += 1
+    for n in {*range(len(free_nodes(book)) + 2), ref.MOST_NUMBER}:
+        answer = ref.entry_check_fewest(data, n, good.assignment, good.refutation, *LENT)
+        assert answer == (("accepted",) if n == good.n else ("refused", 22, 0))
+
+
+def check_more_borders(data, book, plans, tally):
+    """A plan that sets more than the fewest is refused with that number by its count, and no refutation shows that there is none with fewer."""
+    good = fewest(book, 20000)
+    for borders, moves in some_of(plans, 3):
+        count = set_count(book, borders)
+        if count == good.n:
+            continue
+        assignment = ref.write_assignment(book, borders, moves)
+        assert ref.entry_check_fewest(data, good.n, assignment, good.refutation, *LENT) == ("refused", 22, 0)
+        assert ref.entry_check_fewest(data, count, assignment, good.refutation, *LENT)[1] in range(17, 22)
+        tally["plans with more than the fewest"] += 1
+
+
+def small_books(rng, count):
+    """Tiny books; every other one has a plan that borders carry, so that some are needed."""
+    done = 0
+    while done < count:
+        data = carrying_book(rng, "tiny")[0] if done % 2 else random_book(rng, "tiny")
+        if ref.entry_read_book(data)[0] == "accepted":
+            done += 1
+            yield data
+
+
+def check_minima(rng, count):
+    """Caps and the fewest borders by brute force."""
+    tally = Counter()
+    for data in small_books(rng, count):
+        book = ref.read_book(data)
+        found = plans_to_try(book)
+        if found is None:
+            tally["too many plans to try"] += 1
+            continue
+        plans = keeping(book, found[1])
+        try:
+            check_caps(data, book, plans, tally)
+        except TooLong:
+            tally["given up"] += 1
+            continue
+        if plans:
+            check_more_borders(data, book, plans, tally)
+    print(f"caps: {listed(tally)}")
+    assert {"caps with a plan", "caps without", "plans above a cap", "plans within a cap", "fewest 0", "fewest 1", "fewest 2",
+            "plans with more than the fewest"} <= set(tally)
+
+
+def check_verdicts(rng, count):
+    """Random inputs of the combined verdict: accepted ones name the fewest; and each refusal occurs."""
+    tally = Counter()
+    for data in small_books(rng, count):
+        book = ref.read_book(data)
+        good = fewest(book)
+        lent = [rng.choice((10 ** 6, 10 ** 6, 10 ** 6, 400)) for _ in range(4)]
+        for given in random_fewest(rng, book, 12, good):
+            answer = ref.entry_check_fewest(data, given.n, given.assignment, given.refutation, *lent)
+            tally[answer_name(answer)] += 1
+            assert answer[0] != "accepted" or good is None or given.n == good.n
+    print(f"combined verdicts: {listed(tally)}")
+    assert {"12", "13", "14", "17", "20", "21", "22", "accepted"} <= set(tally)
+
+
+def check_meanings(rng, count):
+    """What the tools say of a cap's variables, against the clauses: a plan's assignment has 1 exactly where the words are true."""
+    for _ in range(count):
+        data, plan = carrying_book(rng, "tiny")
+        book = ref.read_book(data)
+        for cap in range(set_count(book, plan), len(free_nodes(book)) + 1):
+            added = ref.entry_check_plan(data, plan, 10 ** 6, cap)[1][ref.Variables(book).count:]
+            true = [sum(plan[node] for node in free_nodes(book) if node <= last) >= least for last, least in counted(book, cap)]
+            assert list(map(bool, added)) == true
+
+
 # --------------------------------------------------------------- self-test
 
 
@@ -390,12 +589,12 @@ def check_satisfied(data, book, solver):
     check_kept(data, answer[1])
 
 
-def check_written(data, book, plan, answer):
-    """The least claims satisfy the formula exactly when the rules are kept."""
+def check_written(data, book, plan, answer, cap=None):
+    """The least claims and counts satisfy the formula exactly when the rules are kept, within the cap."""
     if answer[1] == 15:
         return
-    assignment = ref.write_assignment(book, *ref.read_plan(book, plan))
-    again = ref.entry_check_assignment(data, assignment)
+    assignment = ref.write_assignment(book, *ref.read_plan(book, plan), cap)
+    again = ref.entry_check_assignment(data, assignment, cap)
     assert (answer[0] == "accepted") == (again[0] == "accepted")
 
 
@@ -436,7 +635,7 @@ def check_books(rng, count):
 
 
 def check_second_inputs(rng, count):
-    """Assignments, plans and refutations of random books, counted."""
+    """Assignments, plans and refutations of random books, without a cap and under one, counted."""
     tally = {"assignments": Counter(), "plans": Counter(),
              "refutations": Counter(), "rules broken": Counter()}
     done = 0
@@ -447,25 +646,27 @@ def check_second_inputs(rng, count):
         except ref.Refused:
             continue
         done += 1
-        good = solved(book)
-        for second in random_assignments(rng, book, 12, good):
-            answer = ref.entry_check_assignment(data, second)
+        cap = random_cap(rng, book) if done % 2 else None
+        good = solved(book, cap=cap)
+        for second in random_assignments(rng, book, 12, good, cap):
+            answer = ref.entry_check_assignment(data, second, cap)
             tally["assignments"][answer_name(answer)] += 1
         for second in random_plans(rng, book, 20, good):
-            answer = ref.entry_check_plan(data, second, 100000)
+            answer = ref.entry_check_plan(data, second, 100000, cap)
             tally["plans"][answer_name(answer)] += 1
-            check_written(data, book, second, answer)
+            check_written(data, book, second, answer, cap)
             if answer[1] == 16:
                 tally["rules broken"][str(answer[2])] += 1
         lent = [rng.choice((10 ** 6, 10 ** 6, 10 ** 6, 400)) for _ in range(4)]
-        for second in random_refutations(rng, book, 20):
-            answer = ref.entry_check_refutation(data, second, *lent)
+        for second in random_refutations(rng, book, 20, cap=cap):
+            answer = ref.entry_check_refutation(data, second, *lent, cap)
             tally["refutations"][answer_name(answer)] += 1
             assert not (good and answer[0] == "accepted")
     for name, counter in tally.items():
         print(f"{name}: {listed(counter)}")
     assert {str(x) for x in range(1, 7)} <= set(tally["rules broken"])
     assert {str(x) for x in range(17, 22)} <= set(tally["refutations"])
+    assert "22" in tally["plans"]
 
 
 def arguments(parser):
@@ -482,6 +683,9 @@ def run(options):
     check_rewritten_l_and_m()
     check_pages()
     check_lists()
+    check_counters()
+    check_combined()
+    check_capped_plans()
     print("the document's examples hold")
     check_books(rng, 400)
     check_rewriting(rng, 1000)
@@ -495,5 +699,8 @@ def run(options):
     print(f"meaning: {listed(meaning)}")
     check_graphs(rng, 200)
     check_carriers(rng, 300)
+    check_minima(rng, 200)
+    check_verdicts(rng, 100)
+    check_meanings(rng, 60)
     print("all held")
     return 0

@@ -6,7 +6,8 @@ Directed segments are written 5> for segment 5 from its node a to its node b, an
 for each train and interval its run, by number and by directed segments, rear first. Of an assignment: what each variable stands for that
 is true, and where the first false clause is, that clause. Of a refutation: each step with its clause's number, its literals and its
 hints. Of a list of carriers: each node, and where trains first meet without its border. What the file is is found from its bytes, and with
---book from its length; --as says it where that does not tell, and always of a list of carriers.
+--book from its length; --as says it where that does not tell, and always of a list of carriers. --cap says under which cap an assignment or a
+refutation was made, or a plan is to be written: an assignment has more variables then, and clauses have other numbers behind family I.
 
 What can't be shown: with a book that is refused nothing but that refusal, since runs and variables have no numbers then. Bytes beyond
 a plan's or an assignment's length, from the first frame on that is no step, or behind the last whole entry, are shown as bytes.
@@ -17,8 +18,9 @@ can't be read.
 import sys
 
 from . import reference
-from .books import kind_words, split
+from .books import counted, kind_words, split
 from .features import entries_of
+from .program import CAP, whole_number
 from .reference import ABSENT, ENTRY_BYTES, GONE, STEP, two_bytes
 from .repository import read_bytes
 from .text import book_lines, old_words, row, verdict_words
@@ -35,12 +37,13 @@ def arguments(parser):
     parser.add_argument("--book", metavar="BOOK", help="the book that a plan, an assignment or a refutation is for; the first two need it")
     parser.add_argument("--as", dest="kind", choices=KINDS, help="what the file is, where its bytes do not tell; a plan or an assignment with --book")
     parser.add_argument("--runs", action="store_true", help="of a book: its trains' run lists too, behind #")
+    parser.add_argument(CAP, metavar="N", type=whole_number, help="of a plan, an assignment or a refutation: at most so many nodes of kind 1 set")
 
 
 # ------------------------------------------------------------ what a file is
 
 
-def kind_of(data, book):
+def kind_of(data, book, cap=None):
     """What bytes are, with a book or without one."""
     frames, _ = split(data)
     first = frames[0][0] if frames else None
@@ -51,13 +54,14 @@ def kind_of(data, book):
             return "book"
         raise Unclear("this begins neither like a book nor like a refutation; a plan or an assignment needs its book: give --book BOOK; "
                       "--as book or --as refutation shows the bytes all the same")
-    plan, assignment = reference.plan_length(book), reference.Variables(book).count
+    plan, assignment = reference.plan_length(book), reference.Variables(book, cap).count
     fitting = [name for name, length in (("plan", plan), ("assignment", assignment)) if len(data) == length]
     if len(fitting) == 1:
         return fitting[0]
     if not fitting and first == STEP:
         return "refutation"
-    raise Unclear(f"{len(data)} bytes; a plan of this book has {plan}, an assignment {assignment}: give --as")
+    under = "" if cap is None else f" under cap {cap}"
+    raise Unclear(f"{len(data)} bytes; a plan of this book has {plan}, an assignment {assignment}{under}: give --as")
 
 
 # --------------------------------------------------------------------- plans
@@ -104,7 +108,7 @@ def length_lines(data, length, what):
 # --------------------------------------------------------------- assignments
 
 
-def meanings(book):
+def meanings(book, cap=None):
     """What each variable stands for, in order from variable 1."""
     words = [f"border at node {node}" for node in range(len(book.nodes))]
     for train, runs in enumerate(book.runs):
@@ -112,18 +116,22 @@ def meanings(book):
             at = f"train {train}, interval {interval}: "
             words += [at + run_words(book, train, number) for number in range(len(runs))]
             words += [at + "gone"] + [at + f"claims segment {segment}" for segment in range(len(book.segments))]
-    return words
+    return words + [count_words(node, count) for node, count in counted(book, cap)]
+
+
+def count_words(node, count):
+    return f"of the nodes of kind 1 up to {node} at least {count} {'is' if count == 1 else 'are'} set"
 
 
 def literal_words(literal, words):
     return f"{literal} ({'not ' if literal < 0 else ''}{words[abs(literal) - 1]})"
 
 
-def assignment_lines(book, assignment, answer):
-    words = meanings(book)
+def assignment_lines(book, assignment, answer, cap):
+    words = meanings(book, cap)
     lines = []
     if answer[:2] == ("refused", 14):
-        clause = next(clause for number, clause in enumerate(reference.each_clause(book), 1) if number == answer[2])
+        clause = next(clause for number, clause in enumerate(reference.each_clause(book, cap), 1) if number == answer[2])
         lines.append(f"# clause {answer[2]} is false: " + (" or ".join(literal_words(x, words) for x in clause) or "it is empty"))
     for number, (byte, word) in enumerate(zip(assignment, words), 1):
         if byte:
@@ -170,19 +178,19 @@ def run_lines(data):
     return [f"# train {train}, {run_words(book, train, number)}" for train, runs in enumerate(book.runs) for number in range(len(runs))]
 
 
-def lines_for(kind, data, book_data, book):
+def lines_for(kind, data, book_data, book, cap):
     """The lines of a plan, an assignment or a refutation for a book that is accepted."""
-    answer = reference.check_two("check_" + kind, book_data, data)
+    answer = reference.check_two("check_" + kind, book_data, data, cap)
     if kind == "plan":
         lines = plan_lines(book, data)
     elif kind == "assignment":
-        lines = assignment_lines(book, data, answer)
+        lines = assignment_lines(book, data, answer, cap)
     else:
-        lines = refutation_lines(data, sum(1 for _ in reference.each_clause(book)))
-    return ["# " + verdict_words(answer), *lines]
+        lines = refutation_lines(data, sum(1 for _ in reference.each_clause(book, cap)))
+    return [f"# {verdict_words(answer)}{'' if cap is None else f', under cap {cap}'}", *lines]
 
 
-def shown(data, book_data, kind, runs):
+def shown(data, book_data, kind, runs, cap=None):
     """The lines of a file; Unclear where there are none."""
     if kind == "carriers":
         return carrier_lines(data)
@@ -198,14 +206,14 @@ def shown(data, book_data, kind, runs):
     if answer[0] != "accepted":
         raise Unclear("the book is " + verdict_words(answer) + old_words(book_data))
     book = reference.read_book(book_data)
-    kind = kind or kind_of(data, book)
-    return book_lines(data) if kind == "book" else lines_for(kind, data, book_data, book)
+    kind = kind or kind_of(data, book, cap)
+    return book_lines(data) if kind == "book" else lines_for(kind, data, book_data, book, cap)
 
 
 def run(options):
     book_data = read_bytes(options.book) if options.book else None
     try:
-        lines = shown(read_bytes(options.file), book_data, options.kind, options.runs)
+        lines = shown(read_bytes(options.file), book_data, options.kind, options.runs, options.cap)
     except Unclear as why:
         print(f"tools show: {why}", file=sys.stderr)
         return 1

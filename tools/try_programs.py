@@ -13,10 +13,10 @@ from collections import namedtuple
 
 from . import reference
 from .inputs import encode_steps, step_frame
-from .known import (ASSIGNMENT_L, ASSIGNMENT_PADDED, BOOK_CARRIED, BOOK_GRAPH, BOOK_L, FORMULA_L, LIST_CARRIED, OLD_L, PAGE_GRAPH, PAGE_L,
-                    PLAN_CARRIED, PLAN_GRAPH, PLAN_L, PLAN_MEETING, PLAN_PADDED, REFUTATION_M, REFUTATION_PADDED, book_m, chasing, circling, far,
-                    outgrowing, padded, standing)
-from .program import CABINET, COMMANDS, built
+from .known import (ASSIGNMENT_FEWEST, ASSIGNMENT_L, ASSIGNMENT_MORE, ASSIGNMENT_PADDED, BOOK_CARRIED, BOOK_FEWEST, BOOK_GRAPH, BOOK_L, CAPPED,
+                    FORMULA_L, LIST_CARRIED, OLD_L, PAGE_GRAPH, PAGE_L, PLAN_CARRIED, PLAN_FEWEST, PLAN_GRAPH, PLAN_L, PLAN_MEETING, PLAN_MORE,
+                    PLAN_PADDED, REFUTATION_FEWEST, REFUTATION_M, REFUTATION_PADDED, book_m, chasing, circling, far, outgrowing, padded, standing)
+from .program import CAP, CABINET, CAPPED as TAKE_A_CAP, COMMANDS, FEWEST, built
 from .repository import PROGRAMS, ROOT, write_bytes
 
 MOST = reference.LENT_BYTES
@@ -611,6 +611,145 @@ def try_lists(t):
     t.verdict("list_carriers, old book L", b"4 0\n", t.run("list_carriers", t.file(OLD_L), t.file(PLAN_L), t.unused()))
 
 
+# ---- at most so many borders
+
+# what N may be: each with the cap that it is; and what it may not be
+NUMBERS = (("0", 0), ("1", 1), ("2", 2), ("3", 3), ("00", 0), ("0001", 1), ("0" * 60 + "2", 2), ("96", 96), ("4294967296", 2 ** 32),
+           ("18446744073709551615", 2 ** 64 - 1))
+NO_NUMBERS = ("", "-1", "-0", "+1", " 1", "1 ", "1\n", "0x1", "1e3", "1.0", "1,000", "one", "\N{FULLWIDTH DIGIT ONE}", "18446744073709551616",
+              "18446744073709551617", "99999999999999999999", "36893488147419103232", "1" + "0" * 30, "--", CAP)
+
+
+def capped_text(text, cap):
+    """The formula's text under a cap, from that without one, by what was worked out by hand."""
+    added, more = CAPPED.get(cap, ((), 0))
+    first, *lines = text.decode().splitlines()
+    variables, clauses = map(int, first.split()[2:])
+    lines += [" ".join(map(str, (*clause, 0))) for clause in added]
+    return "".join(line + "\n" for line in (f"p cnf {variables + more} {clauses + len(added)}", *lines)).encode()
+
+
+def try_caps(t):
+    """Each command that takes a cap, under each number that N may be."""
+    text = t.run("print_formula", stdin=BOOK_FEWEST).out
+    t.expect("print_formula, without a cap", text.startswith(b"p cnf 17 44\n"), text[:40])
+    book, plan, more, steps = map(t.file, (BOOK_FEWEST, PLAN_FEWEST, PLAN_MORE, REFUTATION_FEWEST))
+    for word, cap in NUMBERS:
+        what = f"cap {word[:30]}"
+        t.verdict(f"print_formula, {what}", capped_text(text, cap), t.run("print_formula", CAP, word, stdin=BOOK_FEWEST))
+        made, back = t.unused(), t.unused()
+        t.verdict(f"check_plan, {what}", ACCEPTED if cap else b"22 0\n", t.run("check_plan", CAP, word, book, plan, made))
+        t.verdict(f"check_plan, two names, {what}", ACCEPTED if cap > 2 else b"22 0\n", t.run("check_plan", CAP, word, book, more))
+        if cap:
+            t.verdict(f"check_assignment, {what}", ACCEPTED, t.run("check_assignment", CAP, word, book, made, back))
+            t.expect(f"check_assignment, {what}: the plan again", read(back) == PLAN_FEWEST, read(back))
+        # 46, -2 under cap 0, is no clause without a cap, and another under caps 1 and 2
+        line = {0: ACCEPTED, 1: b"20 1\n", 2: b"20 1\n"}.get(cap, b"19 1\n")
+        t.verdict(f"check_refutation, {what}", line, t.run("check_refutation", CAP, word, book, steps))
+    t.verdict("check_assignment, of another cap", b"13 0\n", t.run("check_assignment", CAP, "1", book, t.file(ASSIGNMENT_FEWEST)))
+    t.verdict("check_assignment, more than the cap", b"14 46\n", t.run("check_assignment", CAP, "0", book, t.file(ASSIGNMENT_FEWEST)))
+    t.verdict("check_assignment, no cap", ACCEPTED, t.run("check_assignment", book, t.file(ASSIGNMENT_MORE)))
+
+
+def try_refused_caps(t):
+    """A plan above the cap: 22 behind 15 and 16, and no file is written."""
+    book, kept = t.file(BOOK_FEWEST), t.file(b"kept")
+    before = stamp(kept)
+    for what, plan, line in (("more borders", PLAN_MORE, b"22 0\n"), ("a byte less", PLAN_MORE[:-1], b"15 0\n"),
+                             ("no border", bytes(3) + PLAN_FEWEST[3:], b"16 6\n")):
+        t.verdict(f"check_plan, cap 0, {what}", line, t.run("check_plan", CAP, "0", book, t.file(plan), kept))
+    t.expect("check_plan, cap 0: the third file untouched", stamp(kept) == before, read(kept))
+    # 64 + 65,472 variables fill the slice, and cap 1 adds 63
+    data, plan, _ = standing(64)
+    for word, line in (("0", ACCEPTED), ("1", TOO_LONG), ("63", TOO_LONG), ("64", ACCEPTED)):
+        t.verdict(f"check_plan, 65,536 variables, cap {word}", line, t.run("check_plan", CAP, word, t.file(data), t.file(plan)))
+
+
+def try_cap_words(t):
+    """What is no number, a cap without names, in another place, twice, or for a command that takes none: usage, no verdict, nothing written."""
+    for check in CHECKS[:3]:
+        book, good, kept = t.file(check.book), t.file(check.good), t.file(b"kept")
+        names = (book, good, kept)[:COMMANDS[check.program].most]
+        for word in NO_NUMBERS:
+            try_usage(t, f"{check.program}, cap {word[:30]!r}", check.program, t.run(check.program, CAP, word, *names))
+        for words in ((CAP,), (CAP, "1"), (CAP, "1", book), (CAP, "1", CAP, "1", *names), (*names, CAP, "1"), (CAP, "1", *names, kept, kept)):
+            try_usage(t, f"{check.program}, {len(words)} words with a cap", check.program, t.run(check.program, *words))
+        t.expect(f"{check.program}, wrong caps: files untouched", [read(book), read(good), read(kept)] == [check.book, check.good, b"kept"], None)
+    for word in NO_NUMBERS:
+        try_usage(t, f"print_formula, cap {word[:30]!r}", "print_formula", t.run("print_formula", CAP, word, stdin=BOOK_L))
+    for words in ((CAP,), (CAP, "1", "1"), ("1", CAP), (CAP, "1", CAP, "1"), (CAP + "=1",)):
+        try_usage(t, f"print_formula {words}", "print_formula", t.run("print_formula", *words, stdin=BOOK_L))
+    for command in set(COMMANDS) - set(TAKE_A_CAP):
+        names = [t.file(b"kept") for _ in range(COMMANDS[command].most)]
+        try_usage(t, f"{command}, which takes no cap", command, t.run(command, CAP, "1", *names))
+    # behind the names it is a name
+    t.verdict("check_plan, a third file named as the option", ACCEPTED, t.run("check_plan", t.file(BOOK_L), t.file(PLAN_L), CAP))
+    t.expect("check_plan, a third file named as the option: the result", read(t.path(CAP)) == ASSIGNMENT_L, read(t.path(CAP)))
+
+
+# ---- the fewest borders
+
+
+def fewest_lines():
+    """Words for N, assignments and refutations, with the line."""
+    good, more, steps = ASSIGNMENT_FEWEST, ASSIGNMENT_MORE, REFUTATION_FEWEST
+    yield "the fewest", "1", good, steps, ACCEPTED
+    yield "the fewest, with zeros ahead", "0001", good, steps, ACCEPTED
+    for word in ("0", "2", "3", "97", "4294967297", "18446744073709551615"):
+        yield f"n = {word}", word, good, steps, b"22 0\n"
+        yield f"n = {word}, an empty refutation", word, good, b"", b"22 0\n"
+    yield "more borders than needed", "3", more, steps, b"20 1\n"
+    yield "more borders than n", "1", more, steps, b"22 0\n"
+    yield "14 ahead of 22", "2", bytes(17), steps, b"14 1\n"
+    yield "13 ahead of 22", "2", good[1:], steps, b"13 0\n"
+    yield "an empty refutation", "1", good, b"", b"21 0\n"
+    yield "a cut refutation", "1", good, steps[:-1], b"17 1\n"
+    yield "22 ahead of a cut refutation", "2", good, steps[:-1], b"22 0\n"
+    yield "65,537 bytes of assignment", "1", bytes(MOST + 1), steps, TOO_LONG
+    yield "65,537 bytes of refutation", "0", good, bytes(MOST + 1), TOO_LONG
+
+
+def try_fewest(t):
+    book = t.file(BOOK_FEWEST)
+    for what, word, assignment, refutation, line in fewest_lines():
+        t.verdict(f"{FEWEST}, {what}", line, t.run(FEWEST, book, word, t.file(assignment), t.file(refutation)))
+    # book L has no node of kind 1, so that n = 0 and no refutation
+    for word, refutation, line in (("0", b"", ACCEPTED), ("0", b"\0", b"21 0\n"), ("0", REFUTATION_M, b"21 0\n"), ("1", b"", b"22 0\n")):
+        t.verdict(f"{FEWEST}, book L, n = {word}", line, t.run(FEWEST, t.file(BOOK_L), word, t.file(ASSIGNMENT_L), t.file(refutation)))
+    for what, data, line in (("a cut book", BOOK_FEWEST[:-1], b"1 0\n"), ("an old book", OLD_L, b"4 0\n"), ("65,537 bytes", bytes(MOST + 1), TOO_LONG)):
+        for word in ("0", "1"):
+            t.verdict(f"{FEWEST}, {what}", line, t.run(FEWEST, t.file(data), word, t.file(ASSIGNMENT_FEWEST), t.file(REFUTATION_FEWEST)))
+
+
+def try_fewest_words(t):
+    """Too few and too many words, and what is no number: usage; inputs by a pipe; they stay as they are."""
+    inputs = BOOK_FEWEST, ASSIGNMENT_FEWEST, REFUTATION_FEWEST
+    book, assignment, refutation = names = list(map(t.file, inputs))
+    words = (book, "1", assignment, refutation, t.unused(), t.unused())
+    for count in (0, 1, 2, 3, 5, 6):
+        try_usage(t, f"{FEWEST}, {count} words", FEWEST, t.run(FEWEST, *words[:count]))
+    for word in NO_NUMBERS:
+        try_usage(t, f"{FEWEST}, n {word[:30]!r}", FEWEST, t.run(FEWEST, book, word, assignment, refutation))
+        # and so it is where a file is missing
+        try_usage(t, f"{FEWEST}, n {word[:30]!r}, no book", FEWEST, t.run(FEWEST, t.path("missing"), word, assignment, refutation))
+    for place in range(3):
+        piped = ["/dev/stdin" if at == place else name for at, name in enumerate(names)]
+        t.verdict(f"{FEWEST}, input {place + 1} by a pipe", ACCEPTED, in_pieces(t, FEWEST, (piped[0], "1", *piped[1:]), inputs[place], 3))
+    t.expect(f"{FEWEST}: inputs untouched", tuple(map(read, names)) == inputs, None)
+    t.verdict(f"{FEWEST}, one file three times", b"13 0\n", t.run(FEWEST, book, "1", book, book))
+
+
+def try_fewest_unreadable(t):
+    """A file that can't be read, in each place, beside good ones and beside long ones: it is named, and there is no verdict."""
+    names, long = list(map(t.file, (BOOK_FEWEST, ASSIGNMENT_FEWEST, REFUTATION_FEWEST))), t.file(bytes(MOST + 1))
+    for place in range(3):
+        for wrong in (t.path("missing"), t.folder, ""):
+            for others in (names, [long] * 3):
+                given = [wrong if at == place else name for at, name in enumerate(others)]
+                answer = t.run(FEWEST, given[0], "1", *given[1:])
+                t.no_verdict(f"{FEWEST}, input {place + 1} unreadable {wrong!r}", os.fsencode(wrong) + b": ", answer)
+
+
 # ---- the scripts
 
 
@@ -639,6 +778,9 @@ def try_scripts(t):
     t.expect("bin/upgrade_book: the new book", read(new) == BOOK_L, read(new))
     t.verdict("bin/upgrade_book, refused", b"4 0\n", t.run_words((t.file(BOOK_L), new), program=rewriting))
     t.no_verdict("bin/upgrade_book, one name", b"usage", t.run_words((t.file(OLD_L),), program=rewriting))
+    names = [t.file(BOOK_FEWEST), "1", t.file(ASSIGNMENT_FEWEST), t.file(REFUTATION_FEWEST)]
+    t.verdict(f"bin/{FEWEST}", ACCEPTED, t.run_words(names, program=os.path.join(scripts, FEWEST)))
+    t.verdict("bin/check_refutation, cap 0", ACCEPTED, t.run_words((CAP, "0", names[0], names[3]), program=os.path.join(scripts, "check_refutation")))
     for check in CHECKS:
         script = os.path.join(scripts, check.program)
         names, third = (t.file(check.book), t.file(check.good)), t.unused()
@@ -659,7 +801,8 @@ def try_scripts(t):
 GROUPS = (
     try_examples, try_results, try_commands, try_name_counts, try_unreadable, try_unreadable_standard_input, try_without_permission,
     try_unwritable_third, try_same_names, try_odd_names, try_book_lengths, try_second_lengths, try_full_output, try_full_refutation, try_empty,
-    try_closed_output, try_pipes, try_old_books, try_refused_old_books, try_old_book_names, try_graphs, try_lists, try_scripts)
+    try_closed_output, try_pipes, try_old_books, try_refused_old_books, try_old_book_names, try_graphs, try_lists, try_caps, try_refused_caps,
+    try_cap_words, try_fewest, try_fewest_words, try_fewest_unreadable, try_scripts)
 
 
 def copied(program, folder):

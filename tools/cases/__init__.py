@@ -4,6 +4,6 @@ A module has NAME, its file; SEED; and `records`, which takes a random.Random ma
 the records in order. It may have `files`, the stored files that its records name, and OFTEN, how often an answer has to occur. A new
 file of cases is a new module and its name in `cases.FILES`.
 """
-from . import carriers, checks, formula, graph, programs, reading, refutations, runs, solver, upgrading
+from . import caps, carriers, checks, formula, graph, programs, reading, refutations, runs, solver, upgrading
 
-FILES = (reading, upgrading, runs, formula, checks, graph, carriers, refutations, solver, programs)
+FILES = (reading, upgrading, runs, formula, checks, graph, carriers, refutations, caps, solver, programs)

@@ -67,9 +67,9 @@ def random_books(rng):
             yield random_book(rng, "long" if kind < 0.25 else "tiny" if kind < 0.8 else "small")
 
 
-def short(data):
+def short(data, cap=None):
     """Whether the text is stored whole."""
-    return len(formula_answer(Record("F", data), {}).data) <= WHOLE
+    return len(formula_answer(Record("F", data, cap=cap), {}).data) <= WHOLE
 
 
 def just_enough(data, question):

@@ -2,12 +2,14 @@
 replace a file, that must not be written, and that are not named; inputs of 65,536 and of 65,537 bytes in either place; missing files. Old books
 that are rewritten, in place too; one whose new book fills the slice, and one whose new book is too long for it. Train graphs, up to the longest
 page, with plans and books that are refused, too long or missing. Lists of carriers, up to the longest; empty ones, which leave an empty file; and
-in place of an input."""
+in place of an input. Formulas, assignments, plans and refutations under a cap, and the combined verdict, with each of its three inputs refused, too
+long or missing."""
 from ..books import spec_bytes
 from ..inputs import step_frame
-from ..known import (ASSIGNMENT_L, ASSIGNMENT_PADDED, BOOK_CARRIED, BOOK_GRAPH, BOOK_L, OLD_L, PLAN_CARRIED, PLAN_GRAPH, PLAN_L, PLAN_MEETING,
-                     PLAN_PADDED, REFUTATION_M, REFUTATION_PADDED, book_m, chasing, circling, lone_spec, outgrowing, padded, standing)
-from ..reference import LENT_BYTES, OLD
+from ..known import (ASSIGNMENT_FEWEST, ASSIGNMENT_L, ASSIGNMENT_MORE, ASSIGNMENT_PADDED, BOOK_CARRIED, BOOK_FEWEST, BOOK_GRAPH, BOOK_L, OLD_L,
+                     PLAN_CARRIED, PLAN_FEWEST, PLAN_GRAPH, PLAN_L, PLAN_MEETING, PLAN_MORE, PLAN_PADDED, REFUTATION_FEWEST, REFUTATION_M,
+                     REFUTATION_PADDED, book_m, chasing, circling, lone_spec, outgrowing, padded, standing)
+from ..reference import LENT_BYTES, MOST_NUMBER, OLD
 from .records import Record
 
 NAME, SEED = "programs.cases", 0
@@ -36,6 +38,8 @@ def files():
         "graph_book": BOOK_GRAPH, "graph_plan": PLAN_GRAPH, "round_book": round_book, "round_plan": round_plan,
         "carried_book": BOOK_CARRIED, "carried_plan": PLAN_CARRIED, "meeting_plan": PLAN_MEETING,
         "chasing_book": chasing_book, "chasing_plan": chasing_plan,
+        "fewest_book": BOOK_FEWEST, "fewest_plan": PLAN_FEWEST, "more_plan": PLAN_MORE, "fewest_assignment": ASSIGNMENT_FEWEST,
+        "more_assignment": ASSIGNMENT_MORE, "fewest_refutation": REFUTATION_FEWEST,
         # old books, which only upgrade_book takes
         "book_before": OLD_L, "no_plan_before": book_m(0, 1, OLD), "cut_before": OLD_L[:-1], "more_before": OLD_L + b"\0",
         "late_before": spec_bytes(lone_spec(33, 0, 0, 33), OLD), "full_before": padded(0, OLD), "outgrowing_before": outgrowing(),
@@ -141,6 +145,60 @@ def carried():
     yield "p", "carried_book", "carried_plan", KEPT
 
 
+def capped():
+    """The cases under a cap: the cap, question, book, second input, result."""
+    for cap in (0, 1, 2, 3, MOST_NUMBER):
+        yield cap, "f", "fewest_book", "", ""
+        # an assignment that is made under the cap, where there is one, and unpacked again under that and under another
+        made = f"made_{min(cap, 4)}"
+        yield cap, "p", "fewest_book", "fewest_plan", made
+        yield cap, "a", "fewest_book", made, "unpacked"
+        yield cap, "a", "fewest_book", "made_1", "unpacked"
+        yield cap, "a", "fewest_book", "fewest_assignment", ""
+        yield cap, "p", "fewest_book", "more_plan", "made_more"
+        yield cap, "n", "fewest_book", "fewest_refutation", KEPT
+    for cap in (0, MOST_NUMBER):
+        yield cap, "f", "book", "", ""
+        yield cap, "f", MISSING, "", ""
+        yield cap, "f", "long", "", ""
+        yield cap, "a", "book", "assignment", ""
+        yield cap, "p", "book", "long", KEPT
+        yield cap, "p", "book", MISSING, KEPT
+        yield cap, "p", "cut_book", "plan", KEPT
+        yield cap, "n", "no_plan", "refutation", KEPT
+        # as many variables as a slice holds: the cap adds none, and with cap 1 it does
+        yield cap, "p", "large_book", "large_plan", ""
+    yield 1, "p", "large_book", "large_plan", KEPT
+
+
+def combined():
+    """The cases of check_fewest: n, question, book, assignment, refutation."""
+    good = "fewest_book", "fewest_assignment", "fewest_refutation"
+    for n in (0, 1, 2, 2 ** 32 + 1, MOST_NUMBER):
+        yield n, "w", *good
+        yield n, "w", good[0], "more_assignment", good[2]
+        yield n, "w", *good[:2], "empty"
+    for n, assignment in ((0, "assignment"), (1, "assignment")):
+        yield n, "w", "book", assignment, "empty"
+        yield n, "w", "book", assignment, "refutation"
+    for place, others in enumerate((("cut_book", "more_book", "old", "empty", "zeros", "long_book", "long", MISSING),
+                                    ("zero_assignment", "two_assignment", "plan", "empty", "zeros", "long", MISSING),
+                                    ("cut_refutation", "wrong_kind", "far_literal", "far_hint", "unproved", "unfinished", "zeros", "long", MISSING))):
+        for other in others:
+            yield 1, "w", *good[:place], other, *good[place + 1:]
+    # a missing file ahead of a long one, wherever they stand; at n = 0 too
+    for names in (("long", MISSING, "empty"), (MISSING, "long", "empty"), ("empty", "long", MISSING), (MISSING,) * 3, ("long",) * 3):
+        for n in (0, 1):
+            yield n, "w", *names
+
+
+def without(cases):
+    """The same with no cap ahead."""
+    return [(None, *given) for given in cases]
+
+
 def records(rng, note):
-    for question, *names in (*rewritten(), *drawn(), *carried(), *listed()):
-        yield Record(question, *(name.encode() for name in names))
+    before = (*without(rewritten()), *without(drawn()), *without(carried()))
+    # the last ones write over the book
+    for cap, question, *names in (*before, *capped(), *combined(), *without(listed())):
+        yield Record(question, *(name.encode() for name in names), cap=cap)

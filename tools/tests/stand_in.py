@@ -15,18 +15,21 @@ from tools import reference
 from tools.program import COMMANDS
 from tools.tests.stand_in import USAGE
 words = sys.argv[1:]
+def names(command):
+    return words[3:] if command.capped and words[1:2] == ["--cap"] else words[1:]
 if not words or words[0] not in USAGE:
     sys.stderr.write("".join(USAGE.values()))
-elif COMMANDS[words[0]].least < len(words) <= COMMANDS[words[0]].most + 1:
+elif COMMANDS[words[0]].least <= len(names(COMMANDS[words[0]])) <= COMMANDS[words[0]].most:
     reference.main(words)
 else:
     sys.stderr.write(USAGE[words[0]])
 '''
 USAGE = {
-    "print_formula": "usage: print_formula < BOOK\n",
-    "check_assignment": "usage: check_assignment BOOK ASSIGNMENT [PLAN]\n",
-    "check_plan": "usage: check_plan BOOK PLAN [ASSIGNMENT]\n",
-    "check_refutation": "usage: check_refutation BOOK REFUTATION\n",
+    "print_formula": "usage: print_formula [--cap N] < BOOK\n",
+    "check_assignment": "usage: check_assignment [--cap N] BOOK ASSIGNMENT [PLAN]\n",
+    "check_plan": "usage: check_plan [--cap N] BOOK PLAN [ASSIGNMENT]\n",
+    "check_refutation": "usage: check_refutation [--cap N] BOOK REFUTATION\n",
+    "check_fewest": "usage: check_fewest BOOK N ASSIGNMENT REFUTATION\n",
     "upgrade_book": "usage: upgrade_book OLD NEW\n",
     "print_graph": "usage: print_graph BOOK PLAN\n",
     "list_carriers": "usage: list_carriers BOOK PLAN OUT\n",

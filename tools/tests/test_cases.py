@@ -6,21 +6,31 @@ from unittest import mock
 
 from .. import known
 from ..cases import FILES, command, programs
-from ..cases.records import Record, answer, checksum, lending, lent, numbers, split
-from ..known import (ASSIGNMENT_L, BOOK_CARRIED, BOOK_GRAPH, BOOK_L, FORMULA_L, LIST_CARRIED, OLD_L, PAGE_GRAPH, PAGE_L, PLAN_CARRIED, PLAN_GRAPH,
-                     PLAN_L, PLAN_MEETING, REFUTATION_M)
+from ..cases.records import Record, answer, checksum, fewest_record, lending, lent, numbers, split
+from ..known import (ASSIGNMENT_FEWEST, ASSIGNMENT_L, BOOK_CARRIED, BOOK_FEWEST, BOOK_GRAPH, BOOK_L, FORMULA_L, LIST_CARRIED, OLD_L, PAGE_GRAPH, PAGE_L,
+                     PLAN_CARRIED, PLAN_FEWEST, PLAN_GRAPH, PLAN_L, PLAN_MEETING, REFUTATION_FEWEST, REFUTATION_M)
 from ..repository import ROOT, Stop, read_bytes, write_bytes
 from .stand_in import CASES, InFolder, printed, script
 
 
 class Records(unittest.TestCase):
     def test_bytes_and_back(self):
-        records = [Record("B", b"abc"), Record("N", b"", b"\0" * 300, numbers(1, 2)), Record("a", b"x", b"y", b"")]
+        records = [Record("B", b"abc"), Record("N", b"", b"\0" * 300, numbers(1, 2)), Record("a", b"x", b"y", b""), Record("F", b"x", cap=0),
+                   Record("P", b"", b"y", cap=2 ** 64 - 1), fewest_record(b"x", 0, b"y", b"z"), Record("w", b"x", b"y", b"z", cap=7)]
         again = split(b"".join(record.data() for record in records))
-        self.assertEqual([(r.question, r.parts) for r in again], [(r.question, r.parts) for r in records])
+        self.assertEqual([(r.question, r.parts, r.cap) for r in again], [(r.question, r.parts, r.cap) for r in records])
 
     def test_form(self):
-        self.assertEqual(Record("B", b"ab", b"", b"\1").data(), b"B\2\0\0\0\0\0\0\0\1\0\0\0ab\1")
+        self.assertEqual(Record("B", b"ab", b"", b"\1").data(), b"B" + bytes(9) + b"\2\0\0\0\0\0\0\0\1\0\0\0ab\1")
+        self.assertEqual(Record("F", b"a", cap=0).data(), b"F\1" + bytes(8) + b"\1\0\0\0" + bytes(8) + b"a")
+        self.assertEqual(Record("F", b"", cap=258).data(), b"F\1\2\1" + bytes(6 + 12))
+        head = b"W\1\3" + bytes(7) + b"\1\0\0\0\1\0\0\0\x11\0\0\0"
+        self.assertEqual(fewest_record(b"b", 3, b"a", b"r", (5, 6, 7, 8)).data(), head + b"ba" + numbers(5, 6, 7, 8) + b"r")
+
+    def test_who_has_a_cap(self):
+        for question, cap in (("B", 1), ("g", 1), ("U", 0), ("C", 0), ("W", None), ("w", None)):
+            with self.subTest(question=question), self.assertRaises(AssertionError):
+                Record(question, b"", b"", bytes(16), cap=cap)
 
     def test_a_cut_file_is_told(self):
         with self.assertRaises(AssertionError):
@@ -102,6 +112,37 @@ class Answers(unittest.TestCase):
         self.says(Record("P", BOOK_L, bytes([0, 0, 1, 0])), "16", b"16 2\n")
         self.says(Record("N", known.book_m(0, 1), REFUTATION_M), "accepted", b"accepted\n")
         self.says(Record("N", known.book_m(0, 1), REFUTATION_M, numbers(74, 26, 10, 9)), "12", b"12 0\n")
+
+    def test_caps(self):
+        text = answer(Record("F", BOOK_FEWEST), {}).data
+        under = text.replace(b"p cnf 17 44", b"p cnf 19 49") + b"-1 18 0\n-2 19 0\n-18 19 0\n-2 -18 0\n-3 -19 0\n"
+        self.says(Record("F", BOOK_FEWEST, cap=1), "accepted", under)
+        self.says(Record("F", BOOK_FEWEST, b"", numbers(149), cap=1), "accepted", under)
+        self.says(Record("F", BOOK_FEWEST, b"", numbers(148), cap=1), "12", b"12 0\n")
+        self.says(Record("D", BOOK_FEWEST, cap=1), "accepted", b"%d %d\n" % (len(under), checksum(under)))
+        made = ASSIGNMENT_FEWEST + b"\0\1"
+        self.says(Record("P", BOOK_FEWEST, PLAN_FEWEST, cap=1), "accepted", b"accepted\n" + made + b"\n")
+        self.says(Record("P", BOOK_FEWEST, PLAN_FEWEST, numbers(18), cap=1), "12", b"12 0\n")
+        self.says(Record("P", BOOK_FEWEST, PLAN_FEWEST, cap=0), "22", b"22 0\n")
+        self.says(Record("A", BOOK_FEWEST, made, cap=1), "accepted", b"accepted\n" + PLAN_FEWEST + b"\naccepted\n")
+        self.says(Record("A", BOOK_FEWEST, made), "13", b"13 0\n13 0\n")
+        self.says(Record("N", BOOK_FEWEST, REFUTATION_FEWEST, cap=0), "accepted", b"accepted\n")
+        self.says(Record("N", BOOK_FEWEST, REFUTATION_FEWEST), "19", b"19 1\n")
+
+    def test_fewest(self):
+        exact = 141, 48, 17, 17
+        for n, given, name, line in ((1, exact, "accepted", b"accepted\n"), (1, (141, 47, 17, 17), "12", b"12 0\n"), (0, (0, 0, 0, 0), "22", b"22 0\n"),
+                                     (2, (2 ** 32 - 1,) * 4, "22", b"22 0\n")):
+            self.says(fewest_record(BOOK_FEWEST, n, ASSIGNMENT_FEWEST, REFUTATION_FEWEST, given), name, line)
+        self.says(fewest_record(BOOK_L, 0, ASSIGNMENT_L, b"", (0,) * 4), "accepted", b"accepted\n")
+        self.says(fewest_record(BOOK_L, 0, ASSIGNMENT_L, b"\0", (0,) * 4), "21", b"21 0\n")
+        files = programs.files()
+        before = dict(files)
+        names = b"fewest_book", b"fewest_assignment", b"fewest_refutation"
+        self.says(Record("w", *names, cap=1), "accepted", b"accepted\n", files)
+        self.says(Record("w", *names[:2], b"missing", cap=1), "nothing", b"", files)
+        self.says(Record("w", *names[:2], b"long", cap=1), "12", b"12 0\n", files)
+        self.assertEqual(files, before)
 
     def test_files(self):
         files = programs.files()

@@ -6,6 +6,7 @@ import unittest
 
 from .. import library, reference
 from ..books import Spec, spec_bytes
+from ..known import BOOK_FEWEST
 from ..repository import ROOT, Stop, read_text, write_text
 
 HEADER = os.path.join(ROOT, "include", "gentupag.h")
@@ -32,7 +33,10 @@ class Headers(unittest.TestCase):
 
     def test_other_headers(self):
         for old, new in (("size_t variables, clauses, words, plan_bytes;", "size_t words, clauses, variables, plan_bytes;"),
-                         ("GENTUPAG_IS_GONE = 3", "GENTUPAG_IS_GONE = 5"),
+                         ("GENTUPAG_IS_GONE = 3", "GENTUPAG_IS_GONE = 6"),
+                         ("GENTUPAG_IS_COUNT = 5", "GENTUPAG_IS_COUNT = 4"),
+                         ("size_t kind, train, interval, item, count;", "size_t kind, train, interval, count, item;"),
+                         ("gentupag_write_formula_under(size_t capped, size_t cap, const", "gentupag_write_formula_under(size_t cap, const"),
                          ("size_t book_length, size_t train, size_t run);", "size_t book_length, size_t train);"),
                          ("uint8_t path[16];", "uint8_t path[8];")):
             with self.subTest(new=new), self.assertRaises(Stop):
@@ -92,4 +96,24 @@ class Answers(unittest.TestCase):
         count, found = library.meanings(book())
         self.assertEqual(sorted(found), list(range(1, count + 1)))
         self.assertEqual([found[v] for v in (2, 4, 10, 12)],
-                         [(library.IS_BORDER, 0, 0, 1), (library.IS_RUN, 0, 0, 0), (library.IS_GONE, 0, 0, 0), (library.IS_CLAIM, 0, 0, 1)])
+                         [(library.IS_BORDER, 0, 0, 1, 0), (library.IS_RUN, 0, 0, 0, 0), (library.IS_GONE, 0, 0, 0, 0), (library.IS_CLAIM, 0, 0, 1, 0)])
+
+    def test_counts(self):
+        fewest = reference.read_book(BOOK_FEWEST)
+        for cap, counts in ((None, []), (0, []), (1, [(0, 1), (1, 1)]), (2, [(0, 1), (1, 2)]), (3, []), (2 ** 64 - 1, [])):
+            count, found = library.meanings(fewest, cap)
+            self.assertEqual(sorted(found), list(range(1, count + 1)))
+            self.assertEqual([found[v] for v in range(18, count + 1)], [(library.IS_COUNT, 0, 0, *pair) for pair in counts])
+            self.assertEqual(library.measured(fewest, cap)[7:10], (count, *reference.entry_write_formula(BOOK_FEWEST, 1000, cap)[2:4]))
+
+    def test_caps(self):
+        """Each function is called with as many arguments as it has, under caps and without one; where there is none any number goes with it."""
+        rng, seen = random.Random(2), set()
+        for name, given, answer, outputs in library.questions(rng, 12):
+            kinds = library.FUNCTIONS[name][1]
+            self.assertEqual((len(kinds), len(outputs)), (len(given), sum(kind in "bwn" for kind in kinds)))
+            if name == "check_plan_under":
+                seen.add((given[0] > 0, answer[0]))
+            if name == "check_fewest":
+                seen.add((name, answer[0]))
+        self.assertLessEqual({(False, 0), (True, 0), (True, 22), ("check_fewest", 0), ("check_fewest", 12), ("check_fewest", 22)}, seen)

@@ -10,10 +10,11 @@ from unittest import mock
 
 from .. import ask, example, fresh, generated, known, reference, samples, solve, solver, try_programs
 from ..books import MAY_BE_SET
-from ..carrying_books import carried_plans
+from ..carrying_books import carried_plans, carrying_book
 from ..command import main
 from ..inputs import read_steps
-from ..random_inputs import with_all_borders, with_needed_borders
+from ..program import whole_number
+from ..random_inputs import random_fewest, with_all_borders, with_needed_borders
 from ..repository import EXAMPLES, ROOT, Stop, read_bytes, write_bytes, write_text
 from .stand_in import ALWAYS_ACCEPTED, CABINET, InFolder, printed, script
 
@@ -177,6 +178,55 @@ class Reference(InFolder):
             with self.subTest(name=name), mock.patch.object(reference, name, wrong), printed(), self.assertRaises(AssertionError):
                 samples.check_carriers(random.Random(1), 40)
 
+    def test_caps(self):
+        samples.check_counters()
+        samples.check_combined()
+        samples.check_capped_plans()
+        samples.check_meanings(random.Random(1), 10)
+        with printed() as out:
+            samples.check_minima(random.Random(1), 60)
+        self.assertIn("fewest 2: ", out.getvalue())
+
+    def test_wrong_caps_are_told(self):
+        """One border too many allowed, or one too few; the first node not counted, or those of kind 2 too; a clause left out, or a literal's sign changed;
+        another number than the count asked for."""
+        nodes, clauses, within, begin = reference.kind_1_nodes, reference.cap_clauses, reference.within_cap, reference.begin_clause
+        for name, wrong in (
+                ("within_cap", lambda book, borders, cap: cap is None or within(book, borders, cap + 1)),
+                ("within_cap", lambda book, borders, cap: cap is None or within(book, borders, cap - 1)),
+                ("kind_1_nodes", lambda book: nodes(book)[1:]),
+                ("kind_1_nodes", lambda book: [node for node, kind in enumerate(book.nodes) if kind in (1, 2)]),
+                ("cap_clauses", lambda *given: list(clauses(*given))[1:]), ("cap_clauses", lambda *given: list(clauses(*given))[:-1]),
+                ("cap_clauses", lambda *given: [clause for clause in clauses(*given) if len(clause) != 2]),
+                ("begin_clause", lambda *given: [-begin(*given)[0], *begin(*given)[1:]]),
+                ("unpacked_count", lambda book, assignment: sum(assignment[:len(book.nodes)])),
+                ("check_none_lower", lambda lower, refutation: None)):
+            with self.subTest(name=name), mock.patch.object(reference, name, wrong), printed(), self.assertRaises((AssertionError, IndexError)):
+                samples.check_minima(random.Random(1), 40)
+
+    def test_the_fewest(self):
+        """What shows the fewest is accepted, and something of everything is wrong with what is nearly that."""
+        rng, found = random.Random(4), {}
+        for _ in range(12):
+            data, _ = carrying_book(rng, "tiny")
+            book = reference.read_book(data)
+            for given in random_fewest(rng, book, 20):
+                answer = reference.entry_check_fewest(data, *given, *[10 ** 6] * 4)
+                found[answer[1] if answer[1:] else 0] = given
+        self.assertLessEqual({0, 13, 14, 20, 21, 22}, set(found))
+
+    def test_ask_under_a_cap(self):
+        inputs = {"book": known.BOOK_FEWEST, "plan": known.PLAN_FEWEST, "assignment": known.ASSIGNMENT_FEWEST, "steps": known.REFUTATION_FEWEST}
+        for name, data in inputs.items():
+            write_bytes(self.path(name), data)
+        book, plan, assignment, steps, made = map(self.path, (*inputs, "made"))
+        self.assertEqual(ask.said_by("print_formula", [book], 1).split(b"\n")[0], b"p cnf 19 49")
+        self.assertEqual(ask.said_by("check_plan", [book, plan, made], 0), b"22 0\n")
+        self.assertFalse(os.path.exists(made))
+        self.assertEqual((ask.said_by("check_plan", [book, plan, made], 1), len(read_bytes(made))), (b"accepted\n", 19))
+        self.assertEqual([ask.said_by("check_refutation", [book, steps], cap) for cap in (0, None)], [b"accepted\n", b"19 1\n"])
+        self.assertEqual([ask.said_by("check_fewest", [book, n, assignment, steps]) for n in "012"], [b"22 0\n", b"accepted\n", b"22 0\n"])
+
     def test_borders_that_are_needed(self):
         """None of them may go, and as many as there may be keep the rules too."""
         rng, fewer = random.Random(1), 0
@@ -264,6 +314,20 @@ class Trials(InFolder):
         self.assertEqual((tries.failed, said), (0, ""))
         self.assertGreater(tries.tried, 30)
 
+    def test_good_caps(self):
+        tries, said = self.tries(CABINET, try_programs.try_caps, try_programs.try_refused_caps, try_programs.try_cap_words, try_programs.try_fewest,
+                                 try_programs.try_fewest_words)
+        self.assertEqual((tries.failed, said), (0, ""))
+        self.assertGreater(tries.tried, 300)
+
+    def test_a_cap_that_is_passed_over(self):
+        """As a program does that takes the option and makes nothing of it."""
+        deaf = CABINET.replace("reference.main(words)", "reference.main([words[0], *names(COMMANDS[words[0]])])")
+        tries, said = self.tries(deaf, try_programs.try_caps, try_programs.try_refused_caps)
+        self.assertGreater(tries.failed, 20)
+        self.assertIn("check_plan, cap 0: expected b'22 0\\n'", said)
+        self.assertNotIn("cap 18446744073709551615", said)
+
     def test_a_page_a_byte_short(self):
         cut = CABINET.replace("reference.main(words)", "sys.stdout.buffer.write(reference.print_graph(*map(reference.read_file, words[1:]))[:-1])")
         tries, said = self.tries(cut, try_programs.try_graphs)
@@ -334,10 +398,11 @@ class Bench(InFolder):
         names = sorted(os.listdir(self.folder))
         self.assertEqual(names, sorted(
             ["big_star.book", "big_ring.book", "big_lanes.book", "small_l.book", "shut.book", "ring_8.book", "ring_16.book", "ring_32.book",
-             "stand_16.book", "stand_16.plan", "stand_64.book", "stand_64.plan", "scale_line.book", "scale_ring.book", "scale_ring.plan",
+             "stand_16.book", "stand_16.plan", "stand_64.book", "stand_64.plan", "many_nodes.book", "many_nodes.plan",
+             "scale_line.book", "scale_ring.book", "scale_ring.plan",
              "scale_tracks.book", "scale_tracks.plan", "scale_apart.book", "scale_apart.plan", "scale_close.book", "scale_close.plan",
              "scale_long.book", "scale_shut_ring.book", "scale_shut_long.book"]))
-        self.assertEqual(out.getvalue().count("\n"), 18)
+        self.assertEqual(out.getvalue().count("\n"), 19)
         book, plan = (read_bytes(self.path("stand_16." + kind)) for kind in ("book", "plan"))
         self.assertEqual(reference.check_two("check_plan", book, plan)[0], "accepted")
 
@@ -363,9 +428,20 @@ class Commands(InFolder):
         for words, many in ((("check_refutation", "a"), "2"), (("check_plan", "a"), "2 or 3"), (("print_formula", "a", "b"), "0 or 1"),
                             (("upgrade_book", "a"), "2"), (("upgrade_book", "a", "b", "c"), "2"), (("print_graph", "a"), "2"),
                             (("print_graph", "a", "b", "c"), "2"), (("list_carriers", "a", "b"), "3"),
-                            (("list_carriers", "a", "b", "c", "d"), "3")):
+                            (("list_carriers", "a", "b", "c", "d"), "3"), (("check_fewest", "a", "1", "b"), "4"),
+                            (("check_plan", "--cap", "1", "a"), "2 or 3")):
             status, said = self.said("reference", *words)
             self.assertEqual((status, said.split(" takes ")[-1]), (2, f"{many} names\n"))
+
+    def test_caps_that_are_none(self):
+        for words, why in ((("check_plan", "--cap", "x", "a", "b"), "'x' is no number"), (("print_formula", "--cap", str(2 ** 64)), "is no number"),
+                           (("check_fewest", "a", "-1", "b", "c"), "no number"), (("print_graph", "--cap", "1", "a", "b"), "takes 2 names"),
+                           (("check_plan", "--cap"), "'' is no number"),
+                           (("check_plan", "--cap", "1" * 9999, "a", "b"), "is no number"), (("check_plan", "--cap", "", "a", "b"), "is no number")):
+            status, said = self.said("reference", *words)
+            self.assertEqual((status, why in said), (2, True), said)
+        for word, number in (("0", 0), ("007", 7), ("0" * 6000 + "1", 1), (str(2 ** 64 - 1), 2 ** 64 - 1)):
+            self.assertEqual(whole_number(word), number)
 
     def test_errors_of_solve(self):
         """They begin alike, whoever finds them."""

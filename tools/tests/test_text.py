@@ -149,6 +149,21 @@ class Shown(unittest.TestCase):
         self.assertEqual(words[v.claim(1, 3, 2) - 1], "train 1, interval 3: claims segment 2")
         self.assertIn("train 0, interval 1: run 4, segments", words[v.run(0, 1, 4) - 1])
 
+    def test_under_a_cap(self):
+        book, plan, made = known.BOOK_FEWEST, known.PLAN_FEWEST, known.ASSIGNMENT_FEWEST + b"\0\1"
+        lines = show.shown(made, book, None, False, 1)
+        self.assertEqual((lines[0], lines[-1]), ("# accepted, under cap 1", "variable 19: of the nodes of kind 1 up to 1 at least 1 is set"))
+        lines = show.shown(made[:-2] + b"\1\0", book, None, False, 2)
+        self.assertEqual(lines[:2], ["# refused: 14 46, under cap 2", "# clause 46 is false: -2 (not border at node 1) or -18 (not of the nodes of kind 1 "
+                                     "up to 0 at least 1 is set) or 19 (of the nodes of kind 1 up to 1 at least 2 are set)"])
+        self.assertEqual(show.shown(plan, book, None, False, 0)[0], "# refused: 22 0, under cap 0")
+        self.assertEqual(show.shown(known.REFUTATION_FEWEST, book, None, False, 0)[:1], ["# accepted, under cap 0"])
+        self.assertTrue(show.shown(known.REFUTATION_FEWEST, book, None, False, 0)[1].startswith("step 1, clause 48: empty"))
+        with self.assertRaisesRegex(show.Unclear, "an assignment 17: give --as"):
+            show.shown(made, book, None, False)
+        with self.assertRaisesRegex(show.Unclear, "an assignment 19 under cap 1: give --as"):
+            show.shown(made[:-1], book, None, False, 1)
+
     def test_refutation(self):
         data = encode_steps([([6], [19, 17]), ([], [26, 16])])
         lines = show.shown(data, BOOK_M, None, False)
@@ -187,7 +202,7 @@ class Commands(InFolder):
     def test_make_writes_what_show_prints(self):
         write_bytes(self.path("book"), BOOK_M)
         with printed() as out:
-            show.run(self.options(file=self.path("book"), book=None, kind=None, runs=True))
+            show.run(self.options(file=self.path("book"), book=None, kind=None, runs=True, cap=None))
         write_text(self.path("text"), out.getvalue())
         with printed():
             self.assertEqual(make.run(self.options(text=self.path("text"), book=self.path("again"))), 0)

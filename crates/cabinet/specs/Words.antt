@@ -3,7 +3,7 @@ use mathlib.Core.Path.{_≡_}
 use mathlib.Core.List.{[], _∷_}
 use Rattle.spec.specs.Lists.{Bytes}
 use Rattle.cabinet.specs.declared.commands.Command.{Command}
-use Rattle.cabinet.specs.declared.commands.Command.the-variants.{PrintFormula, CheckAssignment, CheckPlan, CheckRefutation, UpgradeBook, PrintGraph, ListCarriers, Unknown}
+use Rattle.cabinet.specs.declared.commands.Command.the-variants.{PrintFormula, CheckAssignment, CheckPlan, CheckRefutation, CheckFewest, UpgradeBook, PrintGraph, ListCarriers, Unknown}
 
 -- "print_formula"
 abbrev pub printFormulaWord : Bytes
@@ -20,6 +20,10 @@ checkPlanWord = 99 ∷ 104 ∷ 101 ∷ 99 ∷ 107 ∷ 95 ∷ 112 ∷ 108 ∷ 97 
 -- "check_refutation"
 abbrev pub checkRefutationWord : Bytes
 checkRefutationWord = 99 ∷ 104 ∷ 101 ∷ 99 ∷ 107 ∷ 95 ∷ 114 ∷ 101 ∷ 102 ∷ 117 ∷ 116 ∷ 97 ∷ 116 ∷ 105 ∷ 111 ∷ 110 ∷ []
+
+-- "check_fewest"
+abbrev pub checkFewestWord : Bytes
+checkFewestWord = 99 ∷ 104 ∷ 101 ∷ 99 ∷ 107 ∷ 95 ∷ 102 ∷ 101 ∷ 119 ∷ 101 ∷ 115 ∷ 116 ∷ []
 
 -- "upgrade_book"
 abbrev pub upgradeBookWord : Bytes
@@ -39,9 +43,10 @@ Names word PrintFormula = word ≡ printFormulaWord
 Names word CheckAssignment = word ≡ checkAssignmentWord
 Names word CheckPlan = word ≡ checkPlanWord
 Names word CheckRefutation = word ≡ checkRefutationWord
+Names word CheckFewest = word ≡ checkFewestWord
 Names word UpgradeBook = word ≡ upgradeBookWord
 Names word PrintGraph = word ≡ printGraphWord
 Names word ListCarriers = word ≡ listCarriersWord
 Names word Unknown =
     (word ≡ printFormulaWord → ⊥) × (word ≡ checkAssignmentWord → ⊥) × (word ≡ checkPlanWord → ⊥) × (word ≡ checkRefutationWord → ⊥)
-    × (word ≡ upgradeBookWord → ⊥) × (word ≡ printGraphWord → ⊥) × (word ≡ listCarriersWord → ⊥)
+    × (word ≡ checkFewestWord → ⊥) × (word ≡ upgradeBookWord → ⊥) × (word ≡ printGraphWord → ⊥) × (word ≡ listCarriersWord → ⊥)

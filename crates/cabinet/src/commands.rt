@@ -7,6 +7,7 @@ pub enum Command {
     CheckAssignment,
     CheckPlan,
     CheckRefutation,
+    CheckFewest,
     UpgradeBook,
     PrintGraph,
     ListCarriers,
@@ -28,6 +29,9 @@ pub fn named(word: &[u8]) -> Command
     }
     if same(word, b"check_refutation") {
         return Command::CheckRefutation;
+    }
+    if same(word, b"check_fewest") {
+        return Command::CheckFewest;
     }
     if same(word, b"upgrade_book") {
         return Command::UpgradeBook;

@@ -1,6 +1,7 @@
 // The commands' own code on stored files: names, lengths, and results that are written or not. Each prints
 // what the command prints, then the bytes of the file that has the result's name by then, on a line.
 use libc::STDOUT_FILENO;
+use model::Cap;
 use programs::printing::load_from;
 use programs::printing::print;
 use programs::printing::print_formula_from;
@@ -22,16 +23,16 @@ fn print_file(name: &[u8]) {
 }
 
 // print_formula, with the book's file as its standard input.
-pub fn print_formula(book: &[u8], result: &[u8]) {
+pub fn print_formula(cap: Cap, book: &[u8], result: &[u8]) {
     let fd = os::open_read(book);
-    print_formula_from(fd);
+    print_formula_from(cap, fd);
     libc::close(fd);
     print_file(result);
 }
 
 // A check; the result is named where its name is not empty.
-pub fn judge(check: Check, book: &[u8], second: &[u8], result: &[u8]) {
-    judge_files(check, book, second, result, 0 < result.len());
+pub fn judge(check: Check, cap: Cap, book: &[u8], second: &[u8], result: &[u8]) {
+    judge_files(check, cap, book, second, result, 0 < result.len());
     print_file(result);
 }
 

@@ -2,6 +2,7 @@
 use crate::lent::lent;
 use frames::bytes::wide;
 use libc::STDOUT_FILENO;
+use model::Cap;
 use programs::dimacs::put_words;
 use programs::printing::Opened;
 use programs::printing::open_text;
@@ -12,19 +13,19 @@ ghost use Prim.Native.Nat.{_≤_, _<_};
 ghost use lib.ListN.{length};
 
 // The first line in `line`, and the words behind it, with as many words lent as the numbers say.
-fn opened(book: &[u8], numbers: &[u8], words: &mut [i32], line: &mut [u8]) -> Opened
+fn opened(cap: Cap, book: &[u8], numbers: &[u8], words: &mut [i32], line: &mut [u8]) -> Opened
     requires { ⌜ length (now line) ≡ 64 ⌝ }
     ensures { λ r. ⌜ r .words ≤ length (now (words .entry)) ⌝ }
 {
     let n = lent(numbers, 0, words.len());
-    open_text(book, false, &mut words[..n], line)
+    open_text(cap, book, false, &mut words[..n], line)
 }
 
 // What print_formula prints.
-pub fn print_formula(book: &[u8], numbers: &[u8]) {
+pub fn print_formula(cap: Cap, book: &[u8], numbers: &[u8]) {
     let mut words = [0i32; 16384];
     let mut line = [0u8; 64];
-    let text = opened(book, numbers, &mut words, &mut line);
+    let text = opened(cap, book, numbers, &mut words, &mut line);
     let n = text.words;
     print(&line, text.len);
     print_words(&words[..n]);
@@ -69,10 +70,10 @@ fn more_words(d: Digest, words: &[i32]) -> Digest
 }
 
 // The length and the checksum of what print_formula prints.
-pub fn print_digest(book: &[u8], numbers: &[u8]) {
+pub fn print_digest(cap: Cap, book: &[u8], numbers: &[u8]) {
     let mut words = [0i32; 16384];
     let mut line = [0u8; 64];
-    let text = opened(book, numbers, &mut words, &mut line);
+    let text = opened(cap, book, numbers, &mut words, &mut line);
     let n = text.words;
     let none = Digest { len: 0, sum: 0 };
     let first = more(none, &line, text.len);

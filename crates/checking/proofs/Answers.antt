@@ -1,7 +1,7 @@
 -- What the checks answer and leave in their outputs, from what their parts answer: room, the judgement, and what is then written.
 -- Assumes nothing.
-use mathlib.Core.Path.{_≡_, refl, sym, ap}
-use mathlib.Core.Bool.{Bool}
+use mathlib.Core.Path.{_≡_, refl, sym, ap, _∙_}
+use mathlib.Core.Bool.{Bool, true, false}
 use Prim.Native.Nat.{ℕ, _≤_, _<_}
 use native.Mathlib.Omega.{arith}
 use lib.ListN.{length}
@@ -10,12 +10,13 @@ use borrow.Author.Tests.{le-leb, lt-leb}
 use Rattle.spec.specs.Lists.{Bytes, Verdict, accepted, refused, andThen}
 use Rattle.spec.specs.Instance.{Instance}
 use Rattle.spec.specs.Plan.{Plan, planFits, planLength, planOf}
+use Rattle.spec.specs.Cap.{withinCap}
 use Rattle.spec.specs.Formula.{variables}
 use Rattle.spec.specs.Assignment.{assigned, decoded, decode, encode}
 use Rattle.spec.specs.Entry.{demand, overwrite, written, judgeAssignment, judgePlan, unpackedFor, encodedFor, admitPlan}
 use Rattle.demands.proofs.Encoding.{length-plan, length-encode}
-use Rattle.demands.proofs.Entries.{plan-iff}
-use Rattle.demands.proofs.Extra.{extra-length}
+use Rattle.demands.proofs.Entries.{plan-iff, ownCap}
+use Rattle.demands.proofs.Cap.{cap-length}
 use Rattle.reader.specs.declared.reading.Answer.{Answer}
 use Rattle.reader.specs.declared.reading.Answer.the-variants as judged
 use Rattle.reader.specs.BookAnswers.{answerOf}
@@ -23,7 +24,7 @@ use Rattle.plan_rules.proofs.Admitted.{after-refused, after-goes}
 use Rattle.reader.specs.declared.reading.OutputAnswer.{OutputAnswer}
 use Rattle.reader.specs.declared.reading.OutputAnswer.the-variants.{Wrote, Refused}
 use Rattle.reader.specs.OutputAnswers.{outputAnswer}
-use Rattle.reader.proofs.Outputs.{left-stopped, left-same}
+use Rattle.reader.proofs.Outputs.{left-stopped, left-written}
 
 -- ---- a row of checks
 
@@ -76,7 +77,7 @@ unfolding decode
 length-decode I s = length-plan I (decoded I (assigned s))
 
 pub length-assignment : (I : Instance) (p : Plan) → length (encode I p) ≡ variables I
-length-assignment I p = length-encode I p (extra-length I p)
+length-assignment I p = length-encode I p (cap-length I p)
 
 module _ (I : Instance) (s old : Bytes) where
   -- of an assignment: the output is the plan that it decodes to
@@ -103,11 +104,22 @@ module _ (I : Instance) (s old : Bytes) where
 
   pub encoded-refused : {n d : ℕ} → judged.Refused n d ≡ answerOf (admitPlan I s (variables I) (length old)) → Encoded (Refused n d) old
   unfolding encodedFor
-  encoded-refused e = left-stopped old (after-refused I s (variables I) (length old) (λ p. accepted (encode I p)) e)
+  encoded-refused e = left-stopped old (after-refused I s (variables I) (length old) (ownCap I) e)
 
-  pub encoded-accepted : {n : ℕ} {new : Bytes} → judged.Accepted ≡ answerOf (admitPlan I s (variables I) (length old))
-      → n ≡ length (encode I (planOf I s)) → new ≡ overwrite old (encode I (planOf I s)) → Encoded (Wrote n) new
-  unfolding encodedFor written
-  encoded-accepted e f g =
-      let goes = after-goes I s (variables I) (length old) e (λ p. accepted (encode I p)) in
-      left-same old (sym goes) (ap {B = OutputAnswer} Wrote f, g)
+  -- the plan is admitted, and the cap decides
+  module _ (e : judged.Accepted ≡ answerOf (admitPlan I s (variables I) (length old))) where
+    by-cap : {within : Bool} → withinCap I (planOf I s) ≡ within
+        → encodedFor I s (length old) ≡ (andThen (demand within 22) λ _. accepted (encode I (planOf I s)))
+    unfolding encodedFor
+    by-cap w =
+        after-goes I s (variables I) (length old) e (ownCap I)
+        ∙ ap (λ (within : Bool). andThen (demand within 22) λ _. accepted (encode I (planOf I s))) w
+
+    pub encoded-over : withinCap I (planOf I s) ≡ false → Encoded (Refused 22 0) old
+    unfolding demand andThen
+    encoded-over w = left-stopped old (by-cap w)
+
+    pub encoded-accepted : {n : ℕ} {new : Bytes} → withinCap I (planOf I s) ≡ true → n ≡ length (encode I (planOf I s))
+        → new ≡ overwrite old (encode I (planOf I s)) → Encoded (Wrote n) new
+    unfolding demand andThen
+    encoded-accepted w f g = left-written old (encode I (planOf I s)) (by-cap w) f g

@@ -1,1 +1,2 @@
+pub mod Uncapped
 pub mod Answers

@@ -5,36 +5,39 @@
 use mathlib.Core.Path.{_≡_, refl, sym, ap, _∙_, subst}
 use mathlib.Core.Logic.{_↔_, _⊎_}
 use mathlib.Core.Bool.{Bool, not, _&&_, Bool·not-not}
+use mathlib.Core.Option.{none}
 use Prim.Native.Nat.{ℕ, zero, suc, _+_, _*_, _≤_, _<_}
 use native.Mathlib.Omega.{arith}
 use mathlib.Core.List.{List, [], _∷_, _++_, map, List·Memᴰ, List·Memᴰ·head, List·Memᴰ·not-nil, Memᴰ·map, Memᴰ·of-map}
 use lib.ListN.{length, getD, take, set, length-set}
 use lib.Seq.{getD-set-same, getD-set-other, drop-set-lt}
 use lib.Dec.{T, leb, eqb, eqb-refl}
-use Rattle.spec.specs.Lists.{Bytes, all, upTo, each, pick, one, passes, _when_, accepted, refused}
+use Rattle.spec.specs.Lists.{Bytes, all, upTo, each, pick, one, passes, _when_, Verdict, accepted, refused}
 use Rattle.spec.specs.Numbers.{field, number}
 use Rattle.spec.specs.Book.{Book, nodeKindAt, greatestNodeKind, isExit, deniesBorder, forcesBorder}
 use Rattle.spec.specs.Read.{wellFormed, readBook}
-use Rattle.spec.specs.Instance.{Instance, instanceOf, compile, isFree, freeNodesOf}
+use Rattle.spec.specs.Instance.{Instance, instanceOf, compile, under, isFree, freeNodesOf}
 use Rattle.spec.specs.Plan.{Plan, planOf, moveAt, moveOf, isBit, IsPlan, planFits, rule1, absentBefore, departs, rule2, leavesRightly, rule3, runsOn, rule4, keepsCalls, servedBy, rule5, rule6, ruleFaults, keepsRules}
 use Rattle.spec.specs.Carriers.{firstPair, firstMeeting, cleared, carries, carriers, entry, carrierList, carrierRoom, carriersFor, listCarriers, carriersOutput}
 use Rattle.spec.specs.Formula.{variables}
 use Rattle.spec.specs.Assignment.{encode}
-use Rattle.spec.specs.Entry.{checkPlan, overwrite, written}
+use Rattle.spec.specs.Entry.{readInstance, checkPlan, overwrite, written}
 use Rattle.laws.proofs.Tests.{and-iff, not-iff, eqb-iff, leb-iff, all-upTo, all-at, upTo-mem, decide, true-of, bool-ext}
 use Rattle.laws.proofs.Picks.{mem-pick, pick-same, pick-numbers, pick-fewer}
 use Rattle.laws.proofs.Parts.{each-map, length-rows}
 pub use Rattle.demands.specs.Carriers.{Clears, SetKindOne, Carries, Entry, entryBytes, Listed}
 use Rattle.demands.specs.Claims.{Holds, nothing}
-use Rattle.demands.specs.Reasons.{Refusal, ofInput, PlanFault, ruleBroken, FirstHolds, Within}
+use Rattle.demands.specs.Reasons.{Refusal, ofInput, PlanFault, ruleBroken, planFault, FirstHolds, Within}
 use Rattle.demands.proofs.Wellformed.{parts}
 use Rattle.demands.proofs.RunLists.{upTo-rises, rising-pick, rising-map, rising-same}
 use Rattle.demands.proofs.Reading.{read-well-formed}
 use Rattle.demands.proofs.Pages.{few-intervals}
 use Rattle.demands.proofs.Moves.{Kept, kept, from-kept, means1, nodes-inside, fitting}
-use Rattle.demands.proofs.Entries.{plan-iff, plan-written, check-plan, read-of}
+use Rattle.demands.proofs.Entries.{result-is, plan-iff, plan-written, read-own}
 use Rattle.demands.proofs.Reasons.{written-number}
 use Rattle.demands.proofs.Refusals.{written-refused, plan-refused}
+use Rattle.demands.proofs.Uncapped.{none-under, fault-under, check-iff}
+use Rattle.demands.proofs.Demands.{no-cap}
 use Rattle.demands.proofs.Meetings.{Meet, FirstMeeting, first-meeting}
 
 -- ---- a border cleared
@@ -322,22 +325,22 @@ pub carriers-accepted : (book plan : Bytes) (b : Book) (n : ℕ) (out : Bytes) �
     → (listCarriers book plan n ≡ accepted out)
     ↔ ((carrierRoom (instanceOf b) ≤ n) × T (planFits (instanceOf b) plan) × T (keepsRules (instanceOf b) (planOf (instanceOf b) plan))
     × (carrierList (instanceOf b) (planOf (instanceOf b) plan) ≡ out))
-unfolding listCarriers carriersFor
+unfolding listCarriers carriersFor readInstance
 carriers-accepted book plan b n out read =
-    let w = plan-written book b read carrierRoom carrierList plan n out in (
-      (λ e. let h = w .0 e in let k = plan-iff (instanceOf b) plan .0 (h .1) in (h .0, k .0, k .1, h .2)),
-      (λ h. w .1 (h .0, plan-iff (instanceOf b) plan .1 (h .1, h .2), h .3)),
+    let w = plan-written instanceOf book b read carrierRoom (λ I p. accepted (carrierList I p)) plan n out in (
+      (λ e. let h = w .0 e in let k = plan-iff (instanceOf b) plan .0 (h .1) in (h .0, k .0, k .1, result-is (h .2))),
+      (λ h. w .1 (h .0, plan-iff (instanceOf b) plan .1 (h .1, h .2), ap {B = Verdict Bytes} accepted (h .3))),
     )
 
 -- "12 asks for an entry a kind 1 node, 15 and 16 a bad plan": it refuses exactly so. How long the entries are is `room-is`.
 pub carriers-refused : (book plan : Bytes) (n k d : ℕ)
-    → (listCarriers book plan n ≡ refused k d) ↔ Refusal book (λ I. n < carrierRoom I) (λ I. PlanFault I plan) k d
-unfolding listCarriers carriersFor
+    → (listCarriers book plan n ≡ refused k d) ↔ Refusal book (λ b. n < carrierRoom (instanceOf b)) (λ b. PlanFault (instanceOf b) plan) k d
+unfolding listCarriers carriersFor readInstance
 carriers-refused = written-refused carrierRoom carrierList
 
 pub carriers-number : (book plan : Bytes) (n k d : ℕ) → listCarriers book plan n ≡ refused k d → Within 1 12 k ⊎ Within 15 16 k
-unfolding listCarriers carriersFor
-carriers-number = written-number carrierRoom carrierList
+unfolding listCarriers carriersFor readInstance
+carriers-number = written-number instanceOf carrierRoom carrierList
 
 -- The check of a plan that keeps the rules, with the byte of a set kind 1 node cleared and as much lent as an assignment is long
 module _ (book plan : Bytes) (b : Book) (read : readBook book ≡ accepted b) (fits : T (planFits (instanceOf b) plan))
@@ -362,12 +365,15 @@ module _ (book plan : Bytes) (b : Book) (read : readBook book ≡ accepted b) (f
   fits-cleared : T (planFits K (set plan n 0))
   fits-cleared = cleared-fits K plan n there (nodes-inside K plan fits) fits
 
+  room : variables (under none K) ≤ m
+  room = subst (λ J. variables J ≤ m) (sym (none-under b)) lent
+
   -- refuses by rule 6 where the node carries the plan,
-  carrier-refused : Carries b s n → checkPlan book (set plan n 0) m ≡ refused 16 6
+  carrier-refused : Carries b s n → checkPlan none book (set plan n 0) m ≡ refused 16 6
   carrier-refused c =
-      plan-refused book (set plan n 0) m 16 6 .1 (ofInput b read (λ short. omega (arith, short, lent))
-      (ruleBroken fits-cleared (subst (λ (q : Plan). FirstHolds 6 (ruleFaults K q)) (sym same)
-      (cleared-breaks K s n free keeps (breaks-iff K s n .0 (c .breaks))))))
+      plan-refused none book (set plan n 0) m 16 6 .1 (ofInput b read (λ short. omega (arith, short, room))
+      (planFault (fault-under none K (ruleBroken fits-cleared (subst (λ (q : Plan). FirstHolds 6 (ruleFaults K q)) (sym same)
+      (cleared-breaks K s n free keeps (breaks-iff K s n .0 (c .breaks))))))))
 
   -- and accepts where it does not: "clearing a set kind 1 node that is absent leaves a plan that keeps all six"
   other-keeps : (Carries b s n → ⊥) → T (keepsRules K (cleared s n))
@@ -375,10 +381,15 @@ module _ (book plan : Bytes) (b : Book) (read : readBook book ≡ accepted b) (f
       cleared-keeps K s n free keeps
       (decide (rule6 K (cleared s n)) (λ h. h) (λ h. absurd (idle (record { one = one; breaks = breaks-iff K s n .1 h }))))
 
-  other-accepted : (Carries b s n → ⊥) → checkPlan book (set plan n 0) m ≡ accepted (encode K (cleared s n))
+  other-accepted : (Carries b s n → ⊥) → checkPlan none book (set plan n 0) m ≡ accepted (encode K (cleared s n))
   other-accepted idle =
-      check-plan book b read (set plan n 0) m (encode K (cleared s n)) .1
-      (lent, plan-iff K (set plan n 0) .1 (fits-cleared, rw same (other-keeps idle)), ap (encode K) same)
+      check-iff none book b read (set plan n 0) m (encode K (cleared s n)) .1 (
+        room,
+        fits-cleared,
+        rw same (other-keeps idle),
+        no-cap K (planOf K (set plan n 0)) .1,
+        ap (λ J. encode J (planOf K (set plan n 0))) (none-under b) ∙ ap (encode K) same,
+      )
 
 -- What was accepted is a book, a plan of it that keeps the rules, and the list of the nodes that carry it.
 pub carriers-listed : (book plan out : Bytes) (n : ℕ) → listCarriers book plan n ≡ accepted out
@@ -386,7 +397,7 @@ pub carriers-listed : (book plan out : Bytes) (n : ℕ) → listCarriers book pl
     × ((es : List Entry) × (out ≡ each es entryBytes) × Listed b (planOf (instanceOf b) plan) es)
 unfolding listCarriers
 carriers-listed book plan out n e =
-    let r = read-of book _ out e in
+    let r = read-own book _ out e in
     let h = carriers-accepted book plan (r .0) n out (r .1) .0 e in
     let formed = read-well-formed book (r .0) (r .1) in
     let p = planOf (instanceOf (r .0)) plan in
@@ -422,10 +433,10 @@ pub clearing-tells : (book plan out : Bytes) (n : ℕ) → listCarriers book pla
     → (b : Book) × (readBook book ≡ accepted b)
     × ((es : List Entry) → Listed b (planOf (instanceOf b) plan) es
     → (k : ℕ) → SetKindOne b (planOf (instanceOf b) plan) k → (m : ℕ) → variables (instanceOf b) ≤ m
-    → (((e : Entry) × List·Memᴰ e es × (e .node ≡ k)) → checkPlan book (set plan k 0) m ≡ refused 16 6)
+    → (((e : Entry) × List·Memᴰ e es × (e .node ≡ k)) → checkPlan none book (set plan k 0) m ≡ refused 16 6)
     × ((((e : Entry) × List·Memᴰ e es × (e .node ≡ k)) → ⊥)
     → ((q : Plan) → Clears (planOf (instanceOf b) plan) k q → T (keepsRules (instanceOf b) q))
-    × (checkPlan book (set plan k 0) m ≡ accepted (encode (instanceOf b) (cleared (planOf (instanceOf b) plan) k)))))
+    × (checkPlan none book (set plan k 0) m ≡ accepted (encode (instanceOf b) (cleared (planOf (instanceOf b) plan) k)))))
 clearing-tells book plan out n e =
     let a = carriers-listed book plan out n e in (
       a .0,
@@ -445,7 +456,7 @@ pub carriers-output : (book plan old : Bytes) → Holds (listCarriers book plan 
 unfolding carriersOutput overwrite written listCarriers
 carriers-output book plan old = (
   (λ out e.
-      let r = read-of book _ out e in
+      let r = read-own book _ out e in
       let h = carriers-accepted book plan (r .0) (length old) out (r .1) .0 e in
       let long = list-fits (instanceOf (r .0)) (planOf (instanceOf (r .0)) plan) in
       let same = ap length (h .3) in

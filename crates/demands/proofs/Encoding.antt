@@ -19,7 +19,7 @@ use Rattle.spec.specs.Numbers.{littleEndian, field}
 use Rattle.spec.specs.Instance.{Instance}
 use Rattle.spec.specs.Plan.{Plan, Move, run, absent, gone, absentCode, goneCode, isGone, runs, bit, isBit, isMove, moveCode, moveOf, moveAt, planBytes, planLength, planOf, planFits}
 use Rattle.spec.specs.Formula.{width, base, borderVar, runVar, goneVar, claimVar, ownVariables, variables, firstVar}
-use Rattle.spec.specs.Extra.{extraVariables, extraValues}
+use Rattle.spec.specs.Cap.{capVariables, capValues}
 use Rattle.spec.specs.Assignment.{assigned, encode, claims}
 use Rattle.demands.proofs.Coding.{Codes, Agree}
 use Rattle.demands.proofs.Moves.{aRun, isAway, hasLeft, which, run-true, true-run, gone-true, true-gone}
@@ -30,12 +30,12 @@ part-move {ℓ} : {A : Type ℓ} {xs ys : List A} {n m : ℕ} → n ≡ m → Pa
 part-move {xs = xs} {ys = ys} e p = subst (λ (k : ℕ). Part xs k ys) e p
 
 -- a bit is 1 exactly where the test holds
-bit-one : (b : Bool) → eqb (bit b) 1 ≡ b
+pub bit-one : (b : Bool) → eqb (bit b) 1 ≡ b
 unfolding bit
 bit-one true = refl
 bit-one false = refl
 
-is-bit : (b : Bool) → T (isBit (bit b))
+pub is-bit : (b : Bool) → T (isBit (bit b))
 unfolding isBit bit
 is-bit true = tt
 is-bit false = tt
@@ -63,17 +63,17 @@ module _ (I : Instance) (p : Plan) where
   length-borders = length-map (upTo (I .nodes)) _ ∙ length-upTo (I .nodes)
 
   -- an assignment has a byte a variable
-  pub length-encode : length (extraValues I p) ≡ extraVariables I → length (encode I p) ≡ variables I
+  pub length-encode : length (capValues I p) ≡ capVariables I → length (encode I p) ≡ variables I
   unfolding encode variables ownVariables firstVar row
   length-encode extra =
       length-append (map (λ n. bit (p .border n)) (upTo (I .nodes))) _
       ∙ ap₂ _+_ length-borders
-      (length-append (each (upTo (I .trains)) λ i. each (upTo (I .intervals)) (row i)) (extraValues I p)
+      (length-append (each (upTo (I .trains)) λ i. each (upTo (I .intervals)) (row i)) (capValues I p)
       ∙ ap₂ _+_ (length-each (λ i. each (upTo (I .intervals)) (row i)) (λ i. I .intervals * width I i) length-rows (I .trains)) extra)
-      ∙ sym (add-assoc (I .nodes) _ (extraVariables I))
+      ∙ sym (add-assoc (I .nodes) _ (capVariables I))
 
   -- each of them 0 or 1
-  pub encode-bits : T (all isBit (extraValues I p)) → T (all isBit (encode I p))
+  pub encode-bits : T (all isBit (capValues I p)) → T (all isBit (encode I p))
   unfolding encode
   encode-bits extra =
       simp (rows, meaning)
@@ -85,9 +85,17 @@ module _ (I : Instance) (p : Plan) where
   part-row i l t h =
       part-move (ap₂ (λ (a b : ℕ). a + (0 + (sumTo (λ j. I .intervals * width I j) i + b))) length-borders (sum-constant (width I i) t) ∙ omega arith)
       (part-in (part-behind (map (λ n. bit (p .border n)) (upTo (I .nodes))) _)
-      (part-in (part-here (each (upTo (I .trains)) λ i. each (upTo (I .intervals)) (row i)) (extraValues I p))
+      (part-in (part-here (each (upTo (I .trains)) λ i. each (upTo (I .intervals)) (row i)) (capValues I p))
       (part-in (part-each (λ i. each (upTo (I .intervals)) (row i)) (λ i. I .intervals * width I i) length-rows (I .trains) i l)
       (part-each (row i) (λ _. width I i) (length-row i) (I .intervals) t h))))
+
+  -- where the cap's bytes stand
+  pub part-cap : Part (encode I p) (ownVariables I) (capValues I p)
+  unfolding encode ownVariables firstVar row
+  part-cap =
+      part-move (ap₂ _+_ length-borders (length-each (λ i. each (upTo (I .intervals)) (row i)) (λ i. I .intervals * width I i) length-rows (I .trains)))
+      (part-in (part-behind (map (λ n. bit (p .border n)) (upTo (I .nodes))) _)
+      (part-behind (each (upTo (I .trains)) λ i. each (upTo (I .intervals)) (row i)) (capValues I p)))
 
   -- what the assignment says of a variable of a train's interval
   assigned-row : (i : ℕ) → i < I .trains → (t : ℕ) → t < I .intervals → (j : ℕ) → j < width I i
@@ -207,6 +215,12 @@ module _ (I : Instance) (p : Plan) where
       (part-in (part-each (λ i. each (upTo (I .intervals)) (cell i)) (λ _. I .intervals * 2) length-cells (I .trains) i l)
       (part-each (cell i) (λ _. 2) (λ t. length-littleEndian 2 (moveCode (p .move i t))) (I .intervals) t h)))
 
+  pub border-byte : (n : ℕ) → n < I .nodes → getD (planBytes I p) n 0 ≡ bit (p .border n)
+  unfolding planBytes
+  border-byte n h =
+      List·getD-append (map (λ n. bit (p .border n)) (upTo (I .nodes))) _ 0 n (rw (length-borders I p) h)
+      ∙ map-at (λ n. bit (p .border n)) (I .nodes) n 0 h
+
   module _ (few : (i : ℕ) → i < I .trains → I .runs i ≤ 256)
       (moves : (i : ℕ) → i < I .trains → (t : ℕ) → t < I .intervals → T (isMove I i (p .move i t))) where
     move-read : (i : ℕ) → i < I .trains → (t : ℕ) → t < I .intervals → p .move i t ≡ planOf I (planBytes I p) .move i t
@@ -218,12 +232,6 @@ module _ (I : Instance) (p : Plan) where
         ∙ part-field (part-cell i l t h)
         ∙ number-littleEndian 2 (moveCode m) (code-fits I i (few i l) m (moves i l t h)))
         ∙ move-code I i (few i l) m (moves i l t h))
-
-    border-byte : (n : ℕ) → n < I .nodes → getD (planBytes I p) n 0 ≡ bit (p .border n)
-    unfolding planBytes
-    border-byte n h =
-        List·getD-append (map (λ n. bit (p .border n)) (upTo (I .nodes))) _ 0 n (rw (length-borders I p) h)
-        ∙ map-at (λ n. bit (p .border n)) (I .nodes) n 0 h
 
     -- the bytes stand for the plan
     pub agree-read : Agree I p (planOf I (planBytes I p))

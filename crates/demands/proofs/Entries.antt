@@ -10,14 +10,15 @@ use lib.ListN.{length}
 use lib.Dec.{T, leb}
 use Rattle.laws.proofs.Tests.{and-iff, leb-iff, true-of, decide, denied-of}
 use Rattle.spec.specs.Lists.{Bytes, all, Verdict, accepted, refused, andThen, faultless}
-use Rattle.spec.specs.Instance.{Instance, instanceOf}
+use Rattle.spec.specs.Instance.{Instance, instanceOf, under}
 use Rattle.spec.specs.Book.{Book}
 use Rattle.spec.specs.Read.{readBook}
 use Rattle.spec.specs.Plan.{Plan, planFits, planOf, planLength, ruleFaults, brokenRule, keepsRules}
+use Rattle.spec.specs.Cap.{withinCap}
 use Rattle.spec.specs.Formula.{Clause, formula, variables, wordsOf}
 use Rattle.spec.specs.Assignment.{satisfies, holds, firstFalse, assigned, assignmentFits, decode, encode}
 use Rattle.spec.specs.Refutation.{Lent, checkFile}
-use Rattle.spec.specs.Entry.{demand, findNone, readInstance, Written, formulaWritten, writeFormula, judgeAssignment, checkAssignment, unpackedFor, unpackPlan, judgePlan, encodedFor, afterPlan, checkPlan, checkRefutation, refutedFor, formulaFits, writtenFor}
+use Rattle.spec.specs.Entry.{demand, findNone, readInstance, readUnder, Written, formulaWritten, writeFormula, judgeAssignment, checkAssignment, unpackedFor, unpackPlan, judgePlan, encodedFor, afterPlan, checkPlan, checkRefutation, refutedFor, formulaFits, writtenFor}
 use Rattle.demands.proofs.Faults.{first-none, clear-first}
 
 -- ---- the parts of a check
@@ -25,6 +26,10 @@ use Rattle.demands.proofs.Faults.{first-none, clear-first}
 -- nothing is both accepted and refused
 pub accepted≢refused : {A : Type 0} {a : A} {n d : ℕ} {X : Type 0} → accepted a ≡ refused n d → X
 accepted≢refused p = let z : _≡_ {A = ℕ} 0 1 = cc in let no′ : ⊥ = omega arith in absurd no′
+
+-- what was accepted is one result
+pub result-is : {A : Type 0} {x y : A} → accepted x ≡ accepted y → x ≡ y
+result-is e = cc
 
 -- a row of checks accepts where its first does and the rest does
 pub then-accepted : {A B : Type 0} (v : Verdict A) (f : A → Verdict B) (b : B) → andThen v f ≡ accepted b
@@ -44,16 +49,38 @@ unfolding andThen
 then-assoc (accepted a) f g = refl
 then-assoc (refused n d) f g = refl
 
--- what is written of a plan, from the book's bytes, where it takes `need` bytes
-abbrev pub ofPlan : (need : Instance → ℕ) (result : Instance → Plan → Bytes) (book plan : Bytes) (n : ℕ) → Verdict Bytes
-ofPlan need result book plan n = andThen (readInstance book) λ I. afterPlan I plan (need I) n λ p. accepted (result I p)
+-- The book's instance as an entry point goes on from it: under a cap, or without one, which is the book's own.
+abbrev pub readAt : (Book → Instance) → Bytes → Verdict Instance
+readAt view book = andThen (readBook book) λ b. accepted (view b)
+
+pub read-under : (cap : Option ℕ) (book : Bytes) → readUnder cap book ≡ readAt (λ b. under cap (instanceOf b)) book
+unfolding readUnder readInstance andThen
+read-under cap book = then-assoc (readBook book) (λ b. accepted (instanceOf b)) (λ I. accepted (under cap I))
+
+pub under-is : {A : Type 0} (cap : Option ℕ) (book : Bytes) (f : Instance → Verdict A)
+    → andThen (readUnder cap book) f ≡ andThen (readAt (λ b. under cap (instanceOf b)) book) f
+under-is cap book f = ap (λ v. andThen v f) (read-under cap book)
+
+-- what is written of a plan, from the book's bytes, where it takes `need` bytes; `own` may refuse by a number of its own
+abbrev pub ofPlan : (Book → Instance) → (need : Instance → ℕ) (own : Instance → Plan → Verdict Bytes) (book plan : Bytes) (n : ℕ) → Verdict Bytes
+ofPlan view need own book plan n = andThen (readAt view book) λ I. afterPlan I plan (need I) n λ p. own I p
 
 -- the book, 12, the judgement, and the result
-pub plan-checked : (need : Instance → ℕ) (result : Instance → Plan → Bytes) (book plan : Bytes) (n : ℕ) → ofPlan need result book plan n
-    ≡ (andThen (readInstance book) λ I. andThen (demand (leb (need I) n) 12) λ _. andThen (judgePlan I plan) λ _. accepted (result I (planOf I plan)))
+pub plan-checked : (view : Book → Instance) (need : Instance → ℕ) (own : Instance → Plan → Verdict Bytes) (book plan : Bytes) (n : ℕ)
+    → ofPlan view need own book plan n
+    ≡ (andThen (readAt view book) λ I. andThen (demand (leb (need I) n) 12) λ _. andThen (judgePlan I plan) λ _. own I (planOf I plan))
 unfolding afterPlan
-plan-checked need result book plan n i =
-    andThen (readInstance book) (λ I. then-assoc (demand (leb (need I) n) 12) (λ _. judgePlan I plan) (λ _. accepted (result I (planOf I plan))) i)
+plan-checked view need own book plan n i =
+    andThen (readAt view book) (λ I. then-assoc (demand (leb (need I) n) 12) (λ _. judgePlan I plan) (λ _. own I (planOf I plan)) i)
+
+-- the assignment that a plan within the cap is written as
+abbrev pub ownCap : Instance → Plan → Verdict Bytes
+ownCap I p = andThen (demand (withinCap I p) 22) λ _. accepted (encode I p)
+
+pub plan-is : (cap : Option ℕ) (book plan : Bytes) (n : ℕ)
+    → checkPlan cap book plan n ≡ ofPlan (λ b. under cap (instanceOf b)) variables ownCap book plan n
+unfolding checkPlan encodedFor
+plan-is cap book plan n = ap (λ v. andThen v λ I. afterPlan I plan (variables I) n λ p. ownCap I p) (read-under cap book)
 
 pub demand-iff : (b : Bool) (n : ℕ) → (demand b n ≡ accepted tt) ↔ T b
 unfolding demand
@@ -119,70 +146,100 @@ row-iff {A} room judged out x = (
 )
 
 -- an accepted book's instance
-pub instance-read : (book : Bytes) (I : Instance) → readInstance book ≡ accepted I → (b : Book) × (readBook book ≡ accepted b) × (I ≡ instanceOf b)
-unfolding readInstance
-instance-read book I e =
-    let k = then-accepted (readBook book) (λ b. accepted (instanceOf b)) I e in
-    (k .0, k .1, let same : I ≡ instanceOf (k .0) = cc in same)
+pub instance-read : (view : Book → Instance) (book : Bytes) (I : Instance) → readAt view book ≡ accepted I
+    → (b : Book) × (readBook book ≡ accepted b) × (I ≡ view b)
+instance-read view book I e =
+    let k = then-accepted (readBook book) (λ b. accepted (view b)) I e in
+    (k .0, k .1, let same : I ≡ view (k .0) = cc in same)
 
-module _ (book : Bytes) (b : Book) (read : readBook book ≡ accepted b) where
-  pub read-instance : readInstance book ≡ accepted (instanceOf b)
-  unfolding readInstance
-  read-instance = then-goes _ read
+pub read-at : (view : Book → Instance) (book : Bytes) (b : Book) → readBook book ≡ accepted b → readAt view book ≡ accepted (view b)
+read-at view book b read = then-goes _ read
 
-  pub write-formula : (n : ℕ) (w : Written) → (writeFormula book n ≡ accepted w)
-      ↔ ((length (wordsOf (formula (instanceOf b))) ≤ n) × (formulaWritten (instanceOf b) ≡ w))
+-- what is written of a plan
+pub plan-written : (view : Book → Instance) (book : Bytes) (b : Book) (read : readBook book ≡ accepted b)
+    (need : Instance → ℕ) (own : Instance → Plan → Verdict Bytes) (s : Bytes) (n : ℕ) (out : Bytes)
+    → (ofPlan view need own book s n ≡ accepted out)
+    ↔ ((need (view b) ≤ n) × (judgePlan (view b) s ≡ accepted tt) × (own (view b) (planOf (view b) s) ≡ accepted out))
+plan-written view book b read need own s n out =
+    let e = plan-checked view need own book s n ∙ then-goes _ (read-at view book b read) in (
+      (λ h. let k = then-accepted (demand (leb (need (view b)) n) 12) _ out (sym e ∙ h) in
+          let j = then-accepted (judgePlan (view b) s) _ out (k .2) in
+          (leb-iff _ n .0 (demand-iff _ 12 .0 (k .1)), j .1, j .2)),
+      (λ h. e ∙ then-goes _ (demand-iff _ 12 .1 (leb-iff (need (view b)) n .1 (h .0))) ∙ then-goes _ (h .1) ∙ h .2),
+    )
+
+module _ (cap : Option ℕ) (book : Bytes) (b : Book) (read : readBook book ≡ accepted b) where
+  abbrev I : Instance
+  I = under cap (instanceOf b)
+
+  pub read-instance : readUnder cap book ≡ accepted (under cap (instanceOf b))
+  read-instance = read-under cap book ∙ read-at (λ b. under cap (instanceOf b)) book b read
+
+  pub write-formula : (n : ℕ) (w : Written) → (writeFormula cap book n ≡ accepted w)
+      ↔ ((length (wordsOf (formula (under cap (instanceOf b)))) ≤ n) × (formulaWritten (under cap (instanceOf b)) ≡ w))
   unfolding writeFormula writtenFor andThen
   write-formula n w =
-      let e : writeFormula book n ≡ _ = then-goes _ read-instance in
-      let k = row-iff (leb (length (wordsOf (formula (instanceOf b)))) n) (accepted tt) (formulaWritten (instanceOf b)) w in (
+      let e : writeFormula cap book n ≡ _ = then-goes _ read-instance in
+      let k = row-iff (leb (length (wordsOf (formula I))) n) (accepted tt) (formulaWritten I) w in (
         (λ h. let r = k .0 (sym e ∙ h) in (leb-iff _ n .0 (r .0), r .2)),
         (λ h. e ∙ k .1 (leb-iff _ n .1 (h .0), refl, h .1)),
       )
 
   -- judging from the book's bytes is judging for its instance
-  pub check-assignment : (s : Bytes) → checkAssignment book s ≡ judgeAssignment (instanceOf b) s
+  pub check-assignment : (s : Bytes) → checkAssignment cap book s ≡ judgeAssignment (under cap (instanceOf b)) s
   unfolding checkAssignment
   check-assignment s = then-goes _ read-instance
 
-  pub unpack-plan : (s : Bytes) (n : ℕ) (plan : Bytes) → (unpackPlan book s n ≡ accepted plan)
-      ↔ ((planLength (instanceOf b) ≤ n) × (judgeAssignment (instanceOf b) s ≡ accepted tt) × (decode (instanceOf b) s ≡ plan))
+  pub unpack-plan : (s : Bytes) (n : ℕ) (plan : Bytes) → (unpackPlan cap book s n ≡ accepted plan)
+      ↔ ((planLength (under cap (instanceOf b)) ≤ n) × (judgeAssignment (under cap (instanceOf b)) s ≡ accepted tt)
+      × (decode (under cap (instanceOf b)) s ≡ plan))
   unfolding unpackPlan unpackedFor
   unpack-plan s n plan =
-      let e : unpackPlan book s n ≡ _ = then-goes _ read-instance in
-      let k = row-iff (leb (planLength (instanceOf b)) n) (judgeAssignment (instanceOf b) s) (decode (instanceOf b) s) plan in (
+      let e : unpackPlan cap book s n ≡ _ = then-goes _ read-instance in
+      let k = row-iff (leb (planLength I) n) (judgeAssignment I s) (decode I s) plan in (
         (λ h. let r = k .0 (sym e ∙ h) in (leb-iff _ n .0 (r .0), r .1, r .2)),
         (λ h. e ∙ k .1 (leb-iff _ n .1 (h .0), h .1, h .2)),
       )
 
-  pub plan-written : (need : Instance → ℕ) (result : Instance → Plan → Bytes) (s : Bytes) (n : ℕ) (out : Bytes)
-      → (ofPlan need result book s n ≡ accepted out)
-      ↔ ((need (instanceOf b) ≤ n) × (judgePlan (instanceOf b) s ≡ accepted tt) × (result (instanceOf b) (planOf (instanceOf b) s) ≡ out))
-  plan-written need result s n out =
-      let e = plan-checked need result book s n ∙ then-goes _ read-instance in
-      let k = row-iff (leb (need (instanceOf b)) n) (judgePlan (instanceOf b) s) (result (instanceOf b) (planOf (instanceOf b) s)) out in (
-        (λ h. let r = k .0 (sym e ∙ h) in (leb-iff _ n .0 (r .0), r .1, r .2)),
-        (λ h. e ∙ k .1 (leb-iff _ n .1 (h .0), h .1, h .2)),
+  -- a plan is written as an assignment where it is within the cap
+  pub check-plan : (s : Bytes) (n : ℕ) (assignment : Bytes) → (checkPlan cap book s n ≡ accepted assignment)
+      ↔ ((variables (under cap (instanceOf b)) ≤ n) × (judgePlan (under cap (instanceOf b)) s ≡ accepted tt)
+      × T (withinCap (under cap (instanceOf b)) (planOf (under cap (instanceOf b)) s))
+      × (encode (under cap (instanceOf b)) (planOf (under cap (instanceOf b)) s) ≡ assignment))
+  check-plan s n assignment =
+      let e = plan-is cap book s n in
+      let w = plan-written (λ b. under cap (instanceOf b)) book b read variables ownCap s n assignment in
+      let p = planOf I s in (
+        (λ h. let k = w .0 (sym e ∙ h) in
+            let r = then-accepted (demand (withinCap I p) 22) _ assignment (k .2) in
+            let same : encode I p ≡ assignment = cc in
+            (k .0, k .1, demand-iff (withinCap I p) 22 .0 (r .1), same)),
+        (λ h. e ∙ w .1 (h .0, h .1, then-goes _ (demand-iff (withinCap I p) 22 .1 (h .2)) ∙ ap {B = Verdict Bytes} accepted (h .3))),
       )
 
-  pub check-plan : (s : Bytes) (n : ℕ) (assignment : Bytes) → (checkPlan book s n ≡ accepted assignment)
-      ↔ ((variables (instanceOf b) ≤ n) × (judgePlan (instanceOf b) s ≡ accepted tt) × (encode (instanceOf b) (planOf (instanceOf b) s) ≡ assignment))
-  unfolding checkPlan encodedFor
-  check-plan s n assignment = plan-written variables encode s n assignment
-
-  pub check-refutation : (s : Bytes) (lent : Lent) → (checkRefutation book s lent ≡ accepted tt)
-      ↔ (T (formulaFits lent (instanceOf b)) × (checkFile lent (variables (instanceOf b)) (formula (instanceOf b)) s ≡ accepted tt))
+  pub check-refutation : (s : Bytes) (lent : Lent) → (checkRefutation cap book s lent ≡ accepted tt)
+      ↔ (T (formulaFits lent (under cap (instanceOf b)))
+      × (checkFile lent (variables (under cap (instanceOf b))) (formula (under cap (instanceOf b))) s ≡ accepted tt))
   unfolding checkRefutation refutedFor
   check-refutation s lent =
-      let e : checkRefutation book s lent ≡ _ = then-goes _ read-instance in (
-        (λ h. let r = then-accepted (demand (formulaFits lent (instanceOf b)) 12) _ tt (sym e ∙ h) in (demand-iff _ 12 .0 (r .1), r .2)),
-        (λ h. e ∙ then-goes _ (demand-iff (formulaFits lent (instanceOf b)) 12 .1 (h .0)) ∙ h .1),
+      let e : checkRefutation cap book s lent ≡ _ = then-goes _ read-instance in (
+        (λ h. let r = then-accepted (demand (formulaFits lent I) 12) _ tt (sym e ∙ h) in (demand-iff _ 12 .0 (r .1), r .2)),
+        (λ h. e ∙ then-goes _ (demand-iff (formulaFits lent I) 12 .1 (h .0)) ∙ h .1),
       )
 
--- whatever is accepted, its book was read
-pub read-of : {A : Type 0} (book : Bytes) (f : Instance → Verdict A) (a : A) → andThen (readInstance book) f ≡ accepted a
+-- whatever is accepted, its book was read: without a cap,
+pub read-own : {A : Type 0} (book : Bytes) (f : Instance → Verdict A) (a : A) → andThen (readInstance book) f ≡ accepted a
     → (b : Book) × (readBook book ≡ accepted b)
-read-of book f a e =
+unfolding readInstance
+read-own book f a e =
     let k = then-accepted (readInstance book) f a e in
-    let r = instance-read book (k .0) (k .1) in
+    let r = instance-read instanceOf book (k .0) (k .1) in
+    (r .0, r .1)
+
+-- and under one
+pub read-of : {A : Type 0} (cap : Option ℕ) (book : Bytes) (f : Instance → Verdict A) (a : A) → andThen (readUnder cap book) f ≡ accepted a
+    → (b : Book) × (readBook book ≡ accepted b)
+read-of cap book f a e =
+    let k = then-accepted (readUnder cap book) f a e in
+    let r = instance-read (λ b. under cap (instanceOf b)) book (k .0) (sym (read-under cap book) ∙ k .1) in
     (r .0, r .1)

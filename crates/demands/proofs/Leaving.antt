@@ -3,7 +3,7 @@
 use mathlib.Core.Path.{_≡_, refl, sym, ap, _∙_, subst}
 use mathlib.Core.Logic.{_↔_, Iff·rfl, _⊎_, inl, inr}
 use mathlib.Core.Bool.{Bool, not, _&&_}
-use mathlib.Core.Option.{none, some}
+use mathlib.Core.Option.{Option, none, some}
 use Prim.Native.Nat.{ℕ, zero, suc, _+_, _-_, _≤_, _<_}
 use native.Mathlib.Omega.{arith}
 use mathlib.Core.List.{List, _++_, List·Memᴰ, List·Memᴰ·head, Memᴰ·append-left}
@@ -13,12 +13,13 @@ use Rattle.spec.specs.Lists.{Bytes, all, upTo, one, only, pick, has, lastOr, fi
 use Rattle.spec.specs.Book.{Book, Call, nodeKindAt, segmentAt, callsOf, noCall, goalOf, isExit, greatestNodeKind, shareNode, deniesBorder, segmentOf, endNode}
 use Rattle.spec.specs.Runs.{endPlace, contains}
 use Rattle.spec.specs.Read.{between, readBook, wellFormed, mayDivide}
-use Rattle.spec.specs.Instance.{Instance, instanceOf, compile, runLists, runAt, trainLength, placeServes, endsAtExit, mayLeave}
+use Rattle.spec.specs.Instance.{Instance, instanceOf, under, compile, runLists, runAt, trainLength, placeServes, endsAtExit, mayLeave}
 use Rattle.spec.specs.Plan.{Plan, Move, run, absent, gone, isGone, runs, isMove, IsPlan, planFits, planLength, planOf, ruleFaults, keepsRules, rule1, rule2, rule3, rule4, rule5, rule6}
+use Rattle.spec.specs.Cap.{allows, setCount}
 use Rattle.spec.specs.Formula.{not′, borderVar, runVar, goneVar, familyA, familyE, formula, variables}
 use Rattle.spec.specs.Assignment.{satisfies}
 use Rattle.spec.specs.Refutation.{Lent}
-use Rattle.spec.specs.Entry.{checkAssignment, unpackPlan, encodedFor, afterPlan, checkPlan, checkRefutation}
+use Rattle.spec.specs.Entry.{checkAssignment, unpackPlan, checkPlan, checkRefutation}
 use Rattle.laws.proofs.Tests.{meaning, not-iff, true-of, and-iff, any-iff, any-upTo, all-upTo, all-at, eqb-iff, ltb-iff, leb-iff, le-or-lt, upTo-mem}
 use Rattle.laws.proofs.Rows.{any-map}
 use Rattle.laws.proofs.Last.{last-append, last-split, last-drop, last-picked, picked-split}
@@ -30,9 +31,10 @@ use Rattle.demands.proofs.Reading.{read-well-formed}
 use Rattle.demands.proofs.Meaning.{meansA, meansE, families}
 use Rattle.demands.proofs.Moves.{means1, means2, means3, kept, from-kept, which, aRun, isAway, hasLeft, run-of, gone-of, is-run, is-gone, is-absent, fitting}
 use Rattle.demands.proofs.Rules.{run≢gone}
-use Rattle.demands.proofs.Entries.{check-plan, plan-iff, no-broken, read-of}
+use Rattle.demands.proofs.Entries.{no-broken, read-of}
 use Rattle.demands.proofs.Refusals.{plan-refused}
-use Rattle.demands.specs.Reasons.{ofInput, ruleBroken}
+use Rattle.demands.specs.Reasons.{ofInput, planFault, ruleBroken}
+use Rattle.demands.proofs.Uncapped.{fault-under, check-iff}
 use Rattle.demands.proofs.Demands.{accepted-assignment-is-plan, unpacked-plan-keeps, accepted-refutation-no-plan}
 
 -- ---- a run that gone may follow
@@ -238,12 +240,12 @@ module _ (book : Bytes) (b : Book) (read : readBook book ≡ accepted b) where
   -- assignment that satisfies the formula makes it true.
   pub exit-bare : (n : ℕ) → n < instanceOf b .nodes → nodeKindAt b n ≡ 3
       → ((p : Plan) → T (keepsRules (instanceOf b) p) → T (p .border n) → ⊥)
-      × ((α : ℕ → Bool) → T (satisfies α (formula (instanceOf b))) → T (α (borderVar (instanceOf b) n)) → ⊥)
-  unfolding instanceOf compile
+      × ((cap : Option ℕ) (α : ℕ → Bool) → T (satisfies α (formula (under cap (instanceOf b)))) → T (α (borderVar (instanceOf b) n)) → ⊥)
+  unfolding instanceOf compile borderVar
   exit-bare n h e =
       let denied = denied-iff (nodeKindAt b n) .1 (inr e) in (
         (λ p keeps. means1 (instanceOf b) p .0 (kept (instanceOf b) p keeps .one) n h .0 denied),
-        (λ α sat. meansA (instanceOf b) α .0 (families (instanceOf b) α sat .A) n h .0 denied),
+        (λ cap α sat. meansA (under cap (instanceOf b)) α .0 (families (under cap (instanceOf b)) α sat .A) n h .0 denied),
       )
 
   -- The formula has the clause of its denial.
@@ -316,63 +318,65 @@ module _ (book : Bytes) (b : Book) (read : readBook book ≡ accepted b) where
 -- ---- from arbitrary bytes: "both verdicts of the checker are about this rule"
 
 -- of the plan that an accepted assignment decodes to, whether it is judged alone
-pub assignment-stays : (book assignment : Bytes) → checkAssignment book assignment ≡ accepted tt
+pub assignment-stays : (cap : Option ℕ) (book assignment : Bytes) → checkAssignment cap book assignment ≡ accepted tt
     → (b : Book) × (readBook book ≡ accepted b) × ((plan : Bytes)
-    × ((planSlice : ℕ) → planLength (instanceOf b) ≤ planSlice → unpackPlan book assignment planSlice ≡ accepted plan)
+    × ((planSlice : ℕ) → planLength (instanceOf b) ≤ planSlice → unpackPlan cap book assignment planSlice ≡ accepted plan)
     × Stays b (planOf (instanceOf b) plan))
-assignment-stays book s e =
-    let a = accepted-assignment-is-plan book s e in
+assignment-stays cap book s e =
+    let a = accepted-assignment-is-plan cap book s e in
     let w = a .2 in
     let I = instanceOf (a .0) in
     (a .0, a .1, (w .0, w .1, keeping-stays book (a .0) (a .1) (planOf I (w .0)) (fitting I (w .0) (w .2)) (w .4)))
 
 -- or unpacked,
-pub unpacked-stays : (book assignment plan : Bytes) (planSlice : ℕ) → unpackPlan book assignment planSlice ≡ accepted plan
+pub unpacked-stays : (cap : Option ℕ) (book assignment plan : Bytes) (planSlice : ℕ) → unpackPlan cap book assignment planSlice ≡ accepted plan
     → (b : Book) × (readBook book ≡ accepted b) × Stays b (planOf (instanceOf b) plan)
-unpacked-stays book s plan n e =
-    let a = unpacked-plan-keeps book s plan n e in
+unpacked-stays cap book s plan n e =
+    let a = unpacked-plan-keeps cap book s plan n e in
     let I = instanceOf (a .0) in
     (a .0, a .1, keeping-stays book (a .0) (a .1) (planOf I plan) (fitting I plan (a .2)) (a .4))
 
 -- of a plan that is accepted,
-pub plan-stays : (book plan assignment : Bytes) (assignmentSlice : ℕ) → checkPlan book plan assignmentSlice ≡ accepted assignment
+pub plan-stays : (cap : Option ℕ) (book plan assignment : Bytes) (assignmentSlice : ℕ) → checkPlan cap book plan assignmentSlice ≡ accepted assignment
     → (b : Book) × (readBook book ≡ accepted b) × Stays b (planOf (instanceOf b) plan)
-unfolding checkPlan encodedFor afterPlan
-plan-stays book plan a n e =
-    let r = read-of book _ a e in
+unfolding checkPlan
+plan-stays cap book plan a n e =
+    let r = read-of cap book _ a e in
     let I = instanceOf (r .0) in
-    let j = plan-iff I plan .0 (check-plan book (r .0) (r .1) plan n a .0 e .1) in
-    (r .0, r .1, keeping-stays book (r .0) (r .1) (planOf I plan) (fitting I plan (j .0)) (j .1))
+    let k = check-iff cap book (r .0) (r .1) plan n a .0 e in
+    (r .0, r .1, keeping-stays book (r .0) (r .1) (planOf I plan) (fitting I plan (k .1)) (k .2))
 
 none≢some : {n : ℕ} → none ≡ some n → ⊥
 none≢some e = let z : _≡_ {A = ℕ} 0 1 = cc in omega arith
 
--- and of an accepted refutation: no plan in which every train leaves as the text has it keeps the other five rules
-pub refutation-stays : (book refutation : Bytes) (lent : Lent) → checkRefutation book refutation lent ≡ accepted tt
+-- and of an accepted refutation: no plan within its cap in which every train leaves as the text has it keeps the other five rules
+pub refutation-stays : (cap : Option ℕ) (book refutation : Bytes) (lent : Lent) → checkRefutation cap book refutation lent ≡ accepted tt
     → (b : Book) × (readBook book ≡ accepted b) × ((p : Plan) → IsPlan (instanceOf b) p
+    → T (allows cap (setCount (instanceOf b) (p .border)))
     → T (rule1 (instanceOf b) p) → T (rule2 (instanceOf b) p) → ((i : ℕ) → i < instanceOf b .trains → LeavesRightly b i (p .move i))
     → T (rule4 (instanceOf b) p) → T (rule5 (instanceOf b) p) → T (rule6 (instanceOf b) p) → ⊥)
-refutation-stays book r lent e =
-    let a = accepted-refutation-no-plan book r lent e in (
+refutation-stays cap book r lent e =
+    let a = accepted-refutation-no-plan cap book r lent e in (
       a .0,
       a .1,
-      λ p moves one two leaving four five six.
+      λ p moves few one two leaving four five six.
           let three = rule-three book (a .0) (a .1) p moves .1 leaving in
           let keeps = from-kept (instanceOf (a .0)) p (record { one = one; two = two; three = three; four = four; five = five; six = six }) in
           let fine = no-broken (instanceOf (a .0)) p .1 keeps in
-          let broken = a .2 p moves .1 in
+          let broken = a .2 p moves few .1 in
           none≢some (sym fine ∙ broken),
     )
 
 -- "16 with detail 1": a border byte 1 at an exit is a value of a plan, and breaks rule 1
-pub exit-border-refused : (book plan : Bytes) (assignmentSlice : ℕ) (b : Book) → readBook book ≡ accepted b
-    → variables (instanceOf b) ≤ assignmentSlice → T (planFits (instanceOf b) plan)
+pub exit-border-refused : (cap : Option ℕ) (book plan : Bytes) (assignmentSlice : ℕ) (b : Book) → readBook book ≡ accepted b
+    → variables (under cap (instanceOf b)) ≤ assignmentSlice → T (planFits (instanceOf b) plan)
     → (n : ℕ) → n < instanceOf b .nodes → nodeKindAt b n ≡ 3 → T (planOf (instanceOf b) plan .border n)
-    → checkPlan book plan assignmentSlice ≡ refused 16 1
+    → checkPlan cap book plan assignmentSlice ≡ refused 16 1
 unfolding ruleFaults firstFault instanceOf compile
-exit-border-refused book plan size b read room fits n h e set =
+exit-border-refused cap book plan size b read room fits n h e set =
     let I = instanceOf b in
     let p = planOf I plan in
     let breaks = not-iff (rule1 I p) .1 (λ k. means1 I p .0 k n h .0 (denied-iff (nodeKindAt b n) .1 (inr e)) set) in
     let first : firstFault (ruleFaults I p) ≡ some 1 = rw (true-of (not (rule1 I p)) breaks) refl in
-    plan-refused book plan size 16 1 .1 (ofInput b read (λ short. omega (arith, room, short)) (ruleBroken fits (first-some 1 (ruleFaults I p) first)))
+    plan-refused cap book plan size 16 1 .1 (ofInput b read (λ short. omega (arith, room, short))
+    (planFault (fault-under cap I (ruleBroken fits (first-some 1 (ruleFaults I p) first)))))

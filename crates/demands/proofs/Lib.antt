@@ -15,7 +15,8 @@ pub mod Moves
 pub mod Rules
 pub mod Satisfied
 pub mod Encoding
-pub mod Extra
+pub mod Counting
+pub mod Cap
 pub mod Plans
 -- Refutations
 pub mod Refuting
@@ -26,7 +27,11 @@ pub mod Words
 pub mod Variables
 pub mod Reasons
 pub mod Refusals
+-- what a cap leaves alone
+pub mod Uncapped
 pub mod Demands
+-- the fewest borders
+pub mod Fewest
 -- The requests: old books rewritten, the train graph, speeds
 pub mod Widening
 pub mod Upgrading
@@ -36,5 +41,7 @@ pub mod Leaving
 -- which borders carry a plan
 pub mod Meetings
 pub mod Carriers
+-- the formula under a cap
+pub mod Capping
 -- judging apart from unpacking
 pub mod Unpacking

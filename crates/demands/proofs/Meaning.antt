@@ -4,13 +4,14 @@ use mathlib.Core.Logic.{_↔_, Iff·rfl, _⊎_}
 use mathlib.Core.Bool.{Bool, true, false, not, _&&_}
 use Prim.Native.Nat.{ℕ, _+_, _-_, _≤_, _<_}
 use mathlib.Core.List.{List·Memᴰ}
-use lib.Dec.{T}
+use lib.ListN.{getD}
+use lib.Dec.{T, ltb}
 use Rattle.laws.proofs.Tests.{meaning, and-iff, or-iff, all-iff}
 use Rattle.laws.proofs.Rows.{rows, all-append}
 use Rattle.spec.specs.Lists.{any, upTo}
-use Rattle.spec.specs.Instance.{Instance, inWindow, servedAtDeparture}
+use Rattle.spec.specs.Instance.{Instance, freeNodesOf, inWindow, servedAtDeparture}
 use Rattle.spec.specs.Formula.{is, not′, borderVar, runVar, goneVar, claimVar, clausesB, clausesC, clausesD, clausesE, clauseE, followersE, serversF, clausesG, claimsG, clausesH, clausesI, familyA, familyB, familyC, familyD, familyE, familyF, familyG, familyH, familyI, ownVariables, formula}
-use Rattle.spec.specs.Extra.{extraClauses}
+use Rattle.spec.specs.Cap.{counterOf, countVar, countClause, carryClause, capClauses}
 use Rattle.spec.specs.Assignment.{truth, deny, isYes, valueOf, isTrue, holds, satisfies}
 
 module _ (α : ℕ → Bool) where
@@ -95,6 +96,13 @@ module _ (I : Instance) (α : ℕ → Bool) where
   unfolding satisfies holds familyI clausesI
   meansI = simp taken Iff·rfl
 
+  -- The cap: where a node is set, what was counted before it is counted by one more, up to the cap; and what is counted stays so.
+  pub meansCap : (first : ℕ) → T (satisfies α (capClauses I first)) ↔ ((j : ℕ) → j < counterOf I .most + 1 → (k : ℕ) → k < counterOf I .spare
+      → (T (α (getD (freeNodesOf I) (j + k) 0)) → T (ltb 0 j && not (α (countVar I first (j - 1) k))) ⊎ T (ltb j (counterOf I .most) && α (countVar I first j k)))
+      × (T (ltb j (counterOf I .most) && ltb 0 k) → T (α (countVar I first j (k - 1))) → T (α (countVar I first j k))))
+  unfolding satisfies holds capClauses countClause carryClause
+  meansCap first = simp taken (simp or-iff Iff·rfl)
+
   -- the whole formula, family by family
   pub record Families : Type 0 where
     pub A : T (satisfies α (familyA I))
@@ -106,7 +114,7 @@ module _ (I : Instance) (α : ℕ → Bool) where
     pub G : T (satisfies α (familyG I))
     pub H : T (satisfies α (familyH I))
     pub J : T (satisfies α (familyI I))
-    pub extra : T (satisfies α (extraClauses I (ownVariables I)))
+    pub extra : T (satisfies α (capClauses I (ownVariables I)))
 
   pub families : T (satisfies α (formula I)) → Families
   unfolding satisfies formula

@@ -9,7 +9,7 @@ use native.Mathlib.Nat.{mul-comm}
 use mathlib.Core.List.{List, [], _∷_, _++_, map, List·Memᴰ, List·Memᴰ·head}
 use lib.ListN.{length, getD, take, drop, replicate, length-append, length-replicate, getD-replicate}
 use lib.Dec.{T}
-use Rattle.spec.specs.Lists.{Bytes, all, each, upTo, one, lastOr, accepted, refused}
+use Rattle.spec.specs.Lists.{Bytes, all, each, upTo, one, lastOr, Verdict, accepted, refused}
 use Rattle.spec.specs.Numbers.{inDigits, decimal, aligned}
 use Rattle.spec.specs.Held.{padded}
 use Rattle.spec.specs.Book.{Book, segmentOf, trainAt, speedInSegments}
@@ -17,7 +17,7 @@ use Rattle.spec.specs.Read.{between, headFits, wellFormed, readBook}
 use Rattle.spec.specs.Runs.{startPlace, endPlace}
 use Rattle.spec.specs.Instance.{Instance, instanceOf, compile, runLists, runAt, trainLength}
 use Rattle.spec.specs.Plan.{Plan, Move, run, absent, gone, isMove, IsPlan, planFits, planOf, keepsRules}
-use Rattle.spec.specs.Entry.{overwrite, written}
+use Rattle.spec.specs.Entry.{readInstance, overwrite, written}
 use Rattle.spec.specs.Page.{blank, newline, Shown, shownRun, shownAbsent, shownGone, shownMove, shownOf, marked, cell, cells, pageLine, page, pageBytes, pageFor, printGraph, pageOutput}
 use Rattle.laws.proofs.Tests.{and-iff, ltb-iff, leb-iff, all-iff, le-or-lt}
 use Rattle.laws.proofs.Rows.{all-append, all-each}
@@ -31,7 +31,7 @@ use Rattle.demands.proofs.Wellformed.{parts, sound}
 use Rattle.demands.proofs.RunLists.{train-reach, run-moves}
 use Rattle.demands.proofs.Reading.{read-well-formed}
 use Rattle.demands.proofs.Moves.{fitting}
-use Rattle.demands.proofs.Entries.{plan-iff, plan-written, read-of}
+use Rattle.demands.proofs.Entries.{result-is, plan-iff, plan-written, read-own}
 use Rattle.demands.proofs.Reasons.{written-number}
 use Rattle.demands.proofs.Refusals.{written-refused}
 
@@ -370,22 +370,22 @@ pub graph-accepted : (book plan : Bytes) (b : Book) (n : ℕ) (out : Bytes) → 
     → (printGraph book plan n ≡ accepted out)
     ↔ ((81 * instanceOf b .intervals ≤ n) × T (planFits (instanceOf b) plan) × T (keepsRules (instanceOf b) (planOf (instanceOf b) plan))
     × (page (instanceOf b) (planOf (instanceOf b) plan) ≡ out))
-unfolding printGraph pageFor pageBytes
+unfolding printGraph pageFor pageBytes readInstance
 graph-accepted book plan b n out read =
-    let w = plan-written book b read pageBytes page plan n out in (
-      (λ e. let h = w .0 e in let k = plan-iff (instanceOf b) plan .0 (h .1) in (h .0, k .0, k .1, h .2)),
-      (λ h. w .1 (h .0, plan-iff (instanceOf b) plan .1 (h .1, h .2), h .3)),
+    let w = plan-written instanceOf book b read pageBytes (λ I p. accepted (page I p)) plan n out in (
+      (λ e. let h = w .0 e in let k = plan-iff (instanceOf b) plan .0 (h .1) in (h .0, k .0, k .1, result-is (h .2))),
+      (λ h. w .1 (h .0, plan-iff (instanceOf b) plan .1 (h .1, h .2), ap {B = Verdict Bytes} accepted (h .3))),
     )
 
 -- "12 also covers a short page, 15 and 16 a bad plan": it refuses exactly so.
 pub graph-refused : (book plan : Bytes) (n k d : ℕ)
-    → (printGraph book plan n ≡ refused k d) ↔ Refusal book (λ I. n < 81 * I .intervals) (λ I. PlanFault I plan) k d
-unfolding printGraph pageFor pageBytes
+    → (printGraph book plan n ≡ refused k d) ↔ Refusal book (λ b. n < 81 * instanceOf b .intervals) (λ b. PlanFault (instanceOf b) plan) k d
+unfolding printGraph pageFor pageBytes readInstance
 graph-refused = written-refused pageBytes page
 
 pub graph-number : (book plan : Bytes) (n k d : ℕ) → printGraph book plan n ≡ refused k d → Within 1 12 k ⊎ Within 15 16 k
-unfolding printGraph pageFor
-graph-number = written-number pageBytes page
+unfolding printGraph pageFor readInstance
+graph-number = written-number instanceOf pageBytes page
 
 -- what was accepted: the book, and what it says of the plan
 graph-of : (book plan out : Bytes) (n : ℕ) → printGraph book plan n ≡ accepted out
@@ -393,7 +393,7 @@ graph-of : (book plan out : Bytes) (n : ℕ) → printGraph book plan n ≡ acce
     × (page (instanceOf b) (planOf (instanceOf b) plan) ≡ out)
 unfolding printGraph
 graph-of book plan out n e =
-    let r = read-of book _ out e in
+    let r = read-own book _ out e in
     let h = graph-accepted book plan (r .0) n out (r .1) .0 e in
     (r .0, r .1, h .0, fitting (instanceOf (r .0)) plan (h .1), h .3)
 

@@ -15,29 +15,30 @@ use Rattle.spec.specs.Lists.{Bytes, all, empty, Fault, firstFault, Verdict, acc
 use Rattle.spec.specs.Frames.{Format, bookFormat, Kind, headKind, nodeKind, segmentKind, joinKind, trainKind, callKind, unbreakableKind, endKind, kindField, kindOrder, findKind, payloadOf, behind, cutShort}
 use Rattle.spec.specs.Book.{Book}
 use Rattle.spec.specs.Read.{between, readAs, readBook, frameFaults, kindFaults, contentFaults, bookFaults}
-use Rattle.spec.specs.Instance.{Instance, instanceOf}
+use Rattle.spec.specs.Instance.{Instance, instanceOf, under}
 use Rattle.spec.specs.Plan.{Plan, planFits, planOf, planLength, brokenRule}
+use Rattle.spec.specs.Cap.{withinCap}
 use Rattle.spec.specs.Formula.{Clause, formula, variables, wordsOf}
 use Rattle.spec.specs.Assignment.{holds, firstFalse, assigned, assignmentFits, encode}
 use Rattle.spec.specs.Refutation.{Lent, clauseAt, stepFaults, checkSteps, checkFile, isBad}
-use Rattle.spec.specs.Entry.{demand, findNone, readInstance, writeFormula, formulaText, judgeAssignment, checkAssignment, unpackedFor, unpackPlan, judgePlan, encodedFor, checkPlan, checkRefutation, refutedFor, formulaFits, writtenFor}
-pub use Rattle.demands.specs.Reasons.{Refusal, ofBook, ofRoom, ofInput, LeastFalse, AssignmentFault, assignmentUnfit, clauseFalse, PlanFault, planUnfit, ruleBroken, StepsTo, firstStep, nextStep, RefutationFault, stepFault, noEnding, bytesAfter, Within}
+use Rattle.spec.specs.Entry.{demand, findNone, readInstance, readUnder, writeFormula, formulaText, judgeAssignment, checkAssignment, unpackedFor, unpackPlan, judgePlan, encodedFor, checkPlan, checkRefutation, refutedFor, formulaFits, writtenFor}
+pub use Rattle.demands.specs.Reasons.{Refusal, ofBook, ofRoom, ofInput, LeastFalse, AssignmentFault, assignmentUnfit, clauseFalse, PlanFault, planUnfit, ruleBroken, AskedFault, planFault, ownFault, OverCap, overCap, Nothing, StepsTo, firstStep, nextStep, RefutationFault, stepFault, noEnding, bytesAfter, Within}
 use Rattle.demands.proofs.Faults.{passes, FirstHolds, first-none, first-some, first-passes}
 use Rattle.demands.proofs.Reading.{as-refused, refusal-has-reason}
 use Rattle.demands.proofs.Refuting.{stepAt, added}
-use Rattle.demands.proofs.Entries.{accepted≢refused, demand-iff, instance-read, ofPlan, plan-checked}
+use Rattle.demands.proofs.Entries.{accepted≢refused, demand-iff, plan-iff, readAt, read-under, under-is, instance-read, ofPlan, plan-checked, ownCap, plan-is}
 
 -- ---- the parts of a check
 
 -- a row of checks refuses where its first does, or where that accepts and the rest refuses
-then-refused : {A B : Type 0} {k d : ℕ} (v : Verdict A) (f : A → Verdict B) → andThen v f ≡ refused k d
+pub then-refused : {A B : Type 0} {k d : ℕ} (v : Verdict A) (f : A → Verdict B) → andThen v f ≡ refused k d
     → (v ≡ refused k d) ⊎ ((a : A) × (v ≡ accepted a) × (f a ≡ refused k d))
 unfolding andThen
 then-refused (accepted a) f e = inr (a, refl, e)
 then-refused (refused n d) f e = inl (cc)
 
 -- a test that refuses has its number and detail 0, and does not hold
-demand-refused : {k d : ℕ} (b : Bool) (n : ℕ) → demand b n ≡ refused k d → T (not b) × (k ≡ n) × (d ≡ 0)
+pub demand-refused : {k d : ℕ} (b : Bool) (n : ℕ) → demand b n ≡ refused k d → T (not b) × (k ≡ n) × (d ≡ 0)
 unfolding demand
 demand-refused true n e = accepted≢refused e
 demand-refused false n e = (tt, cc, cc)
@@ -58,32 +59,31 @@ short-iff m n = (nleb→lt m n, λ h. not-T (leb m n) (λ t. let l = leb→le m 
 
 -- ---- the order of the entry points
 
-module _ (book : Bytes) (Short : Instance → Type 0) (Input : Instance → ℕ → ℕ → Type 0) where
+module _ (view : Book → Instance) (book : Bytes) (Short : Book → Type 0) (Input : Book → ℕ → ℕ → Type 0) where
   -- a refused book, with detail 0
-  instance-refused : {k d : ℕ} → readInstance book ≡ refused k d → Refusal book Short Input k d
-  unfolding readInstance
+  instance-refused : {k d : ℕ} → readAt view book ≡ refused k d → Refusal book Short Input k d
   instance-refused {k} {d} e =
       elim (then-refused (readBook book) _ e)
       [ inl r ↦ (let z = refusal-has-reason book k d r .0 in rw z (ofBook (rw z at r))) | inr r ↦ accepted≢refused (r .2) ]
 
   -- the book, the room, and the rest
-  in-order : {A : Type 0} (room : Instance → Bool) (rest : Instance → Verdict A) {k d : ℕ}
-      → ((I : Instance) → T (not (room I)) ↔ Short I) → ((I : Instance) → rest I ≡ refused k d → Input I k d)
-      → (andThen (readInstance book) λ I. andThen (demand (room I) 12) λ _. rest I) ≡ refused k d → Refusal book Short Input k d
+  pub in-order : {A : Type 0} (room : Instance → Bool) (rest : Instance → Verdict A) {k d : ℕ}
+      → ((b : Book) → T (not (room (view b))) ↔ Short b) → ((b : Book) → rest (view b) ≡ refused k d → Input b k d)
+      → (andThen (readAt view book) λ I. andThen (demand (room I) 12) λ _. rest I) ≡ refused k d → Refusal book Short Input k d
   in-order room rest {k} {d} short input e =
-      elim (then-refused (readInstance book) _ e) [
+      elim (then-refused (readAt view book) _ e) [
         | inl r ↦ instance-refused r
-        | inr r ↦ (let i = instance-read book (r .0) (r .1) in behind-book (i .0) (i .1) (rw (i .2) at (r .2)))
+        | inr r ↦ (let i = instance-read view book (r .0) (r .1) in behind-book (i .0) (i .1) (rw (i .2) at (r .2)))
       ]
     where
       behind-book : (b : Book) → readBook book ≡ accepted b
-          → (andThen (demand (room (instanceOf b)) 12) λ _. rest (instanceOf b)) ≡ refused k d → Refusal book Short Input k d
+          → (andThen (demand (room (view b)) 12) λ _. rest (view b)) ≡ refused k d → Refusal book Short Input k d
       behind-book b read e =
-          elim (then-refused (demand (room (instanceOf b)) 12) _ e) [
-            | inl r ↦ (let q = demand-refused (room (instanceOf b)) 12 r in rw (q .1, q .2) (ofRoom b read (short (instanceOf b) .0 (q .0))))
+          elim (then-refused (demand (room (view b)) 12) _ e) [
+            | inl r ↦ (let q = demand-refused (room (view b)) 12 r in rw (q .1, q .2) (ofRoom b read (short b .0 (q .0))))
             | inr r ↦
-                ofInput b read (λ h. T-not (room (instanceOf b)) (short (instanceOf b) .1 h) (demand-iff (room (instanceOf b)) 12 .0 (r .1)))
-                (input (instanceOf b) (r .2))
+                ofInput b read (λ h. T-not (room (view b)) (short b .1 h) (demand-iff (room (view b)) 12 .0 (r .1)))
+                (input b (r .2))
           ]
 
 -- a judgement, and what is then written
@@ -103,22 +103,22 @@ judge-refused fits found m n e =
 -- ---- writing the formula
 
 -- Refused only by the book, or by 12 where the formula has more words than the slice; the detail is 0.
-pub formula-refusal : (book : Bytes) (n k d : ℕ) → writeFormula book n ≡ refused k d
-    → Refusal book (λ I. n < length (wordsOf (formula I))) (λ I k d. ⊥) k d
+pub formula-refusal : (cap : Option ℕ) (book : Bytes) (n k d : ℕ) → writeFormula cap book n ≡ refused k d
+    → Refusal book (λ b. n < length (wordsOf (formula (under cap (instanceOf b))))) (λ b k d. ⊥) k d
 unfolding writeFormula writtenFor
-formula-refusal book n k d e =
-    in-order book _ _ (λ I. leb (length (wordsOf (formula I))) n) _ (λ I. short-iff (length (wordsOf (formula I))) n)
-    (λ I r. accepted≢refused r) e
+formula-refusal cap book n k d e =
+    in-order (λ b. under cap (instanceOf b)) book _ _ (λ I. leb (length (wordsOf (formula I))) n) _ (λ b. short-iff _ n)
+    (λ b r. accepted≢refused r) (sym (under-is cap book _) ∙ e)
 
 -- The formula's text is refused only so too.
-pub text-refusal : (book : Bytes) (n k d : ℕ) → formulaText book n ≡ refused k d
-    → Refusal book (λ I. n < length (wordsOf (formula I))) (λ I k d. ⊥) k d
+pub text-refusal : (cap : Option ℕ) (book : Bytes) (n k d : ℕ) → formulaText cap book n ≡ refused k d
+    → Refusal book (λ b. n < length (wordsOf (formula (under cap (instanceOf b))))) (λ b k d. ⊥) k d
 unfolding formulaText
-text-refusal book n k d e =
-    elim (then-refused (writeFormula book n) _ e) [
-      | inl r ↦ formula-refusal book n k d r
-      | inr r ↦ elim (then-refused (readInstance book) _ (r .2))
-          [ inl q ↦ instance-refused book _ _ q | inr q ↦ accepted≢refused (q .2) ]
+text-refusal cap book n k d e =
+    elim (then-refused (writeFormula cap book n) _ e) [
+      | inl r ↦ formula-refusal cap book n k d r
+      | inr r ↦ elim (then-refused (readUnder cap book) _ (r .2))
+          [ inl q ↦ instance-refused (λ b. under cap (instanceOf b)) book _ _ (sym (read-under cap book) ∙ q) | inr q ↦ accepted≢refused (q .2) ]
     ]
 
 -- ---- checking an assignment
@@ -155,18 +155,20 @@ assignment-fault {d = d} I s e =
     [ inl r ↦ rw (r .1, r .2) (assignmentUnfit (r .0)) | inr r ↦ rw (r .2) (clauseFalse (r .0) (least-false (assigned s) (formula I) d (r .1))) ]
 
 -- Refused only by the book, or for what is wrong with the assignment: no slice is lent that could be short.
-pub assignment-refusal : (book assignment : Bytes) (k d : ℕ) → checkAssignment book assignment ≡ refused k d
-    → Refusal book (λ I. ⊥) (λ I. AssignmentFault I assignment) k d
+pub assignment-refusal : (cap : Option ℕ) (book assignment : Bytes) (k d : ℕ) → checkAssignment cap book assignment ≡ refused k d
+    → Refusal book (λ b. ⊥) (λ b. AssignmentFault (under cap (instanceOf b)) assignment) k d
 unfolding checkAssignment demand andThen
-assignment-refusal book s k d e = in-order book _ _ (λ I. true) _ (λ I. (λ h. h, λ h. h)) (λ I r. assignment-fault I s r) e
+assignment-refusal cap book s k d e =
+    in-order (λ b. under cap (instanceOf b)) book _ _ (λ I. true) (λ I. judgeAssignment I s) (λ b. (λ h. h, λ h. h)) (λ b r. assignment-fault _ s r)
+    (sym (under-is cap book (λ I. judgeAssignment I s)) ∙ e)
 
 -- Refused only by the book, by 12 where the plan is longer than the slice, or for what is wrong with the assignment.
-pub unpacking-refusal : (book assignment : Bytes) (n k d : ℕ) → unpackPlan book assignment n ≡ refused k d
-    → Refusal book (λ I. n < planLength I) (λ I. AssignmentFault I assignment) k d
-unfolding unpackPlan unpackedFor
-unpacking-refusal book s n k d e =
-    in-order book _ _ (λ I. leb (planLength I) n) _ (λ I. short-iff (planLength I) n)
-    (λ I r. assignment-fault I s (judged-refused (judgeAssignment I s) _ r)) e
+pub unpacking-refusal : (cap : Option ℕ) (book assignment : Bytes) (n k d : ℕ) → unpackPlan cap book assignment n ≡ refused k d
+    → Refusal book (λ b. n < planLength (instanceOf b)) (λ b. AssignmentFault (under cap (instanceOf b)) assignment) k d
+unfolding unpackPlan unpackedFor planLength
+unpacking-refusal cap book s n k d e =
+    in-order (λ b. under cap (instanceOf b)) book _ _ (λ I. leb (planLength I) n) _ (λ b. short-iff _ n)
+    (λ b r. assignment-fault _ s (judged-refused (judgeAssignment (under cap (instanceOf b)) s) _ r)) (sym (under-is cap book _) ∙ e)
 
 -- ---- checking a plan
 
@@ -177,18 +179,33 @@ plan-fault {d = d} I s e =
     elim (judge-refused (planFits I s) (brokenRule I (planOf I s)) 15 16 e)
     [ inl r ↦ rw (r .1, r .2) (planUnfit (r .0)) | inr r ↦ rw (r .2) (ruleBroken (r .0) (first-some d _ (r .1))) ]
 
--- What is written of a plan is refused only by the book, by 12 where it is longer than the slice, or for what is wrong with the plan.
-pub written-refusal : (need : Instance → ℕ) (result : Instance → Plan → Bytes) (book plan : Bytes) (n k d : ℕ)
-    → ofPlan need result book plan n ≡ refused k d → Refusal book (λ I. n < need I) (λ I. PlanFault I plan) k d
-written-refusal need result book s n k d e =
-    in-order book _ _ (λ I. leb (need I) n) _ (λ I. short-iff (need I) n)
-    (λ I r. plan-fault I s (judged-refused (judgePlan I s) _ r)) (sym (plan-checked need result book s n) ∙ e)
+-- What is asked of a plan is refused only by the book, by 12 where the result is longer than the slice, for what is wrong with the plan, or
+-- by a number of its own.
+pub written-refusal : (view : Book → Instance) (need : Instance → ℕ) (own : Instance → Plan → Verdict Bytes)
+    (Own : Book → Plan → ℕ → ℕ → Type 0) (book plan : Bytes) (n k d : ℕ)
+    → ((b : Book) (p : Plan) → own (view b) p ≡ refused k d → Own b p k d)
+    → ofPlan view need own book plan n ≡ refused k d → Refusal book (λ b. n < need (view b)) (λ b. AskedFault (view b) plan (Own b)) k d
+written-refusal view need own Own book s n k d owns e =
+    in-order view book _ _ (λ I. leb (need I) n) (λ I. andThen (judgePlan I s) λ _. own I (planOf I s)) (λ b. short-iff (need (view b)) n)
+    (λ b r. elim (then-refused (judgePlan (view b) s) _ r) [
+      | inl q ↦ planFault (plan-fault (view b) s q)
+      | inr q ↦ (let j = plan-iff (view b) s .0 (q .1) in ownFault (j .0) (j .1) (owns b _ (q .2)))
+    ]) (sym (plan-checked view need own book s n) ∙ e)
 
--- So its assignment.
-pub plan-refusal : (book plan : Bytes) (n k d : ℕ) → checkPlan book plan n ≡ refused k d
-    → Refusal book (λ I. n < variables I) (λ I. PlanFault I plan) k d
-unfolding checkPlan encodedFor
-plan-refusal = written-refusal variables encode
+-- 22: the plan sets more than the cap
+pub cap-refused : (I : Instance) (p : Plan) (k d : ℕ) → ownCap I p ≡ refused k d → OverCap I p k d
+cap-refused I p k d r = elim (then-refused (demand (withinCap I p) 22) _ r) [
+  | inl q ↦ (let z = demand-refused (withinCap I p) 22 q in rw (z .1, z .2) (overCap (z .0)))
+  | inr q ↦ accepted≢refused (q .2)
+]
+
+-- So its assignment, by 22.
+pub plan-refusal : (cap : Option ℕ) (book plan : Bytes) (n k d : ℕ) → checkPlan cap book plan n ≡ refused k d
+    → Refusal book (λ b. n < variables (under cap (instanceOf b)))
+    (λ b. AskedFault (under cap (instanceOf b)) plan (OverCap (under cap (instanceOf b)))) k d
+plan-refusal cap book s n k d e =
+    written-refusal (λ b. under cap (instanceOf b)) variables ownCap (λ b. OverCap (under cap (instanceOf b))) book s n k d
+    (λ b p r. cap-refused (under cap (instanceOf b)) p k d r) (sym (plan-is cap book s n) ∙ e)
 
 -- ---- checking a refutation
 
@@ -228,13 +245,21 @@ module _ (lent : Lent) (vars : ℕ) (cs₀ : List Clause) (file : Bytes) where
           (λ b. same-refusal Wrong (rw (true-of isLast t, denied-of (empty (behind s)) b) at r) (bytesAfter c clear t b)))
           (λ t. next (omega arith) (nextStep c clear t) (rw (denied-of isLast t) at r))
 
+-- A file of steps is refused only for what is wrong with it.
+pub file-fault : (lent : Lent) (vars : ℕ) (cs : List Clause) (file : Bytes) (k d : ℕ) → checkFile lent vars cs file ≡ refused k d
+    → RefutationFault lent vars cs file k d
+unfolding checkFile
+file-fault lent vars cs file k d e = steps-fault lent vars cs file (suc (length file)) 1 cs file (omega arith) firstStep e
+
 -- Refused only by the book, by 12 where the formula does not fit the slices, or for what is wrong with the refutation.
-pub refutation-refusal : (book refutation : Bytes) (lent : Lent) (k d : ℕ) → checkRefutation book refutation lent ≡ refused k d
-    → Refusal book (λ I. T (not (formulaFits lent I))) (λ I. RefutationFault lent (variables I) (formula I) refutation) k d
-unfolding checkRefutation refutedFor checkFile
-refutation-refusal book s lent k d e =
-    in-order book _ _ (formulaFits lent) _ (λ I. (λ h. h, λ h. h))
-    (λ I r. steps-fault lent (variables I) (formula I) s (suc (length s)) 1 (formula I) s (omega arith) firstStep r) e
+pub refutation-refusal : (cap : Option ℕ) (book refutation : Bytes) (lent : Lent) (k d : ℕ) → checkRefutation cap book refutation lent ≡ refused k d
+    → Refusal book (λ b. T (not (formulaFits lent (under cap (instanceOf b)))))
+    (λ b. RefutationFault lent (variables (under cap (instanceOf b))) (formula (under cap (instanceOf b))) refutation) k d
+unfolding checkRefutation refutedFor
+refutation-refusal cap book s lent k d e =
+    in-order (λ b. under cap (instanceOf b)) book _ _ (formulaFits lent) _ (λ b. (λ h. h, λ h. h))
+    (λ b r. let I = under cap (instanceOf b) in file-fault lent (variables I) (formula I) s k d r)
+    (sym (under-is cap book _) ∙ e)
 
 -- ---- the numbers of refusals
 
@@ -271,15 +296,15 @@ unfolding readBook
 read-number book k d e = as-number bookFormat book k d e
 
 -- by book and room: 1 to 12; the rest is the second input's
-number-of : {book : Bytes} {Short : Instance → Type 0} {Input : Instance → ℕ → ℕ → Type 0} {k d : ℕ} → Refusal book Short Input k d
-    → Within 1 12 k ⊎ ((I : Instance) × Input I k d)
+pub number-of : {book : Bytes} {Short : Book → Type 0} {Input : Book → ℕ → ℕ → Type 0} {k d : ℕ} → Refusal book Short Input k d
+    → Within 1 12 k ⊎ ((b : Book) × Input b k d)
 number-of {book} (ofBook {k} e) = let r = read-number book k 0 e in inl (omega arith, omega arith)
 number-of (ofRoom b read h) = inl (omega arith, omega arith)
-number-of (ofInput b read h f) = inr (instanceOf b, f)
+number-of (ofInput b read h f) = inr (b, f)
 
 -- Writing the formula is refused by 1 to 12.
-pub formula-number : (book : Bytes) (n k d : ℕ) → writeFormula book n ≡ refused k d → Within 1 12 k
-formula-number book n k d e = elim (number-of (formula-refusal book n k d e)) [ inl w ↦ w | inr f ↦ absurd (f .1) ]
+pub formula-number : (cap : Option ℕ) (book : Bytes) (n k d : ℕ) → writeFormula cap book n ≡ refused k d → Within 1 12 k
+formula-number cap book n k d e = elim (number-of (formula-refusal cap book n k d e)) [ inl w ↦ w | inr f ↦ absurd (f .1) ]
 
 -- what is wrong with an assignment is 13 or 14
 pub fault-number : {I : Instance} {s : Bytes} {k d : ℕ} → AssignmentFault I s k d → Within 13 14 k
@@ -287,44 +312,59 @@ fault-number (assignmentUnfit h) = (omega arith, omega arith)
 fault-number (clauseFalse h f) = (omega arith, omega arith)
 
 -- An assignment that is judged is refused by 1 to 11, 13 or 14: never by 12.
-pub assignment-number : (book assignment : Bytes) (k d : ℕ) → checkAssignment book assignment ≡ refused k d → Within 1 11 k ⊎ Within 13 14 k
-assignment-number book s k d e = elim (assignment-refusal book s k d e) [
+pub assignment-number : (cap : Option ℕ) (book assignment : Bytes) (k d : ℕ) → checkAssignment cap book assignment ≡ refused k d
+    → Within 1 11 k ⊎ Within 13 14 k
+assignment-number cap book s k d e = elim (assignment-refusal cap book s k d e) [
   | ofBook {k} r ↦ inl (read-number book k 0 r)
   | ofRoom b read h ↦ absurd h
   | ofInput b read h f ↦ inr (fault-number f)
 ]
 
 -- A plan's unpacking is refused by 1 to 14.
-pub unpacking-number : (book assignment : Bytes) (n k d : ℕ) → unpackPlan book assignment n ≡ refused k d → Within 1 14 k
-unpacking-number book s n k d e =
-    elim (number-of (unpacking-refusal book s n k d e)) [
+pub unpacking-number : (cap : Option ℕ) (book assignment : Bytes) (n k d : ℕ) → unpackPlan cap book assignment n ≡ refused k d → Within 1 14 k
+unpacking-number cap book s n k d e =
+    elim (number-of (unpacking-refusal cap book s n k d e)) [
       | inl w ↦ (omega arith, omega arith)
       | inr f ↦ (let w = fault-number (f .1) in (omega arith, omega arith))
     ]
 
--- What is written of a plan is refused by 1 to 12, 15 or 16.
-pub written-number : (need : Instance → ℕ) (result : Instance → Plan → Bytes) (book plan : Bytes) (n k d : ℕ)
-    → ofPlan need result book plan n ≡ refused k d → Within 1 12 k ⊎ Within 15 16 k
-written-number need result book s n k d e =
-    elim (number-of (written-refusal need result book s n k d e)) [ inl w ↦ inl w | inr f ↦ inr (own (f .1)) ]
+-- what is wrong with a plan is 15 or 16
+plan-fault-number : {I : Instance} {s : Bytes} {k d : ℕ} → PlanFault I s k d → Within 15 16 k
+plan-fault-number (planUnfit h) = (omega arith, omega arith)
+plan-fault-number (ruleBroken h f) = (omega arith, omega arith)
+
+-- What is written of a plan and has no number of its own is refused by 1 to 12, 15 or 16.
+pub written-number : (view : Book → Instance) (need : Instance → ℕ) (result : Instance → Plan → Bytes) (book plan : Bytes) (n k d : ℕ)
+    → ofPlan view need (λ I p. accepted (result I p)) book plan n ≡ refused k d → Within 1 12 k ⊎ Within 15 16 k
+written-number view need result book s n k d e =
+    elim (number-of (written-refusal view need (λ I p. accepted (result I p)) (λ b. Nothing) book s n k d (λ b p r. accepted≢refused r) e))
+    [ inl w ↦ inl w | inr f ↦ inr (own (f .1)) ]
   where
-    own : {I : Instance} {k d : ℕ} → PlanFault I s k d → Within 15 16 k
-    own (planUnfit h) = (omega arith, omega arith)
-    own (ruleBroken h f) = (omega arith, omega arith)
+    own : {I : Instance} {k d : ℕ} → AskedFault I s Nothing k d → Within 15 16 k
+    own (planFault f) = plan-fault-number f
+    own (ownFault fits keeps none₀) = absurd none₀
 
-pub plan-number : (book plan : Bytes) (n k d : ℕ) → checkPlan book plan n ≡ refused k d → Within 1 12 k ⊎ Within 15 16 k
-unfolding checkPlan encodedFor
-plan-number = written-number variables encode
+-- A plan that is written as an assignment is refused by 1 to 12, 15, 16 or 22.
+pub plan-number : (cap : Option ℕ) (book plan : Bytes) (n k d : ℕ) → checkPlan cap book plan n ≡ refused k d
+    → Within 1 12 k ⊎ (Within 15 16 k ⊎ (k ≡ 22))
+plan-number cap book s n k d e = elim (number-of (plan-refusal cap book s n k d e)) [ inl w ↦ inl w | inr f ↦ inr (own (f .0) (f .1)) ]
+  where
+    own : (b : Book) {k d : ℕ} → AskedFault (under cap (instanceOf b)) s (OverCap (under cap (instanceOf b))) k d → Within 15 16 k ⊎ (k ≡ 22)
+    own b (planFault f) = inl (plan-fault-number f)
+    own b (ownFault fits keeps (overCap h)) = inr refl
 
--- A refutation is refused by 1 to 12 or 17 to 21.
-pub refutation-number : (book refutation : Bytes) (lent : Lent) (k d : ℕ) → checkRefutation book refutation lent ≡ refused k d
+-- what is wrong with a file of steps is 1 to 12 or 17 to 21
+pub file-number : {lent : Lent} {vars : ℕ} {cs : List Clause} {file : Bytes} {k d : ℕ} → RefutationFault lent vars cs file k d
     → Within 1 12 k ⊎ Within 17 21 k
 unfolding stepFaults all between
-refutation-number book s lent k d e = elim (number-of (refutation-refusal book s lent k d e)) [ inl w ↦ inl w | inr f ↦ own (f .1) ]
-  where
-    own : {vars : ℕ} {cs : List Clause} {k d : ℕ} → RefutationFault lent vars cs s k d → Within 1 12 k ⊎ Within 17 21 k
-    own (stepFault {k} c h f) =
-        elim (or-iff (between 1 12 k) (between 17 21 k) .0 (numbered (λ n. between 1 12 n || between 17 21 n) k _ tt f))
-        [ inl t ↦ inl (simp (and-iff, leb-iff) at t) | inr t ↦ inr (simp (and-iff, leb-iff) at t) ]
-    own (noEnding c h) = inr (omega arith, omega arith)
-    own (bytesAfter c h t b) = inr (omega arith, omega arith)
+file-number (stepFault {k} c h f) =
+    elim (or-iff (between 1 12 k) (between 17 21 k) .0 (numbered (λ n. between 1 12 n || between 17 21 n) k _ tt f))
+    [ inl t ↦ inl (simp (and-iff, leb-iff) at t) | inr t ↦ inr (simp (and-iff, leb-iff) at t) ]
+file-number (noEnding c h) = inr (omega arith, omega arith)
+file-number (bytesAfter c h t b) = inr (omega arith, omega arith)
+
+-- A refutation is refused by 1 to 12 or 17 to 21.
+pub refutation-number : (cap : Option ℕ) (book refutation : Bytes) (lent : Lent) (k d : ℕ) → checkRefutation cap book refutation lent ≡ refused k d
+    → Within 1 12 k ⊎ Within 17 21 k
+refutation-number cap book s lent k d e =
+    elim (number-of (refutation-refusal cap book s lent k d e)) [ inl w ↦ inl w | inr f ↦ file-number (f .1) ]

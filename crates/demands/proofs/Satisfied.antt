@@ -13,7 +13,7 @@ use Rattle.spec.specs.Instance.{Instance, inWindow}
 use Rattle.spec.specs.Sections.{together}
 use Rattle.spec.specs.Plan.{Plan, Move, run, absent, gone, isAbsent, isGone, runs, ifRun, ofRun, servedBy}
 use Rattle.spec.specs.Formula.{runVar, goneVar, claimVar, ownVariables, formula, familyA, familyB, familyC, familyD, familyE, familyF, familyG, familyH, familyI}
-use Rattle.spec.specs.Extra.{extraClauses}
+use Rattle.spec.specs.Cap.{capClauses}
 use Rattle.spec.specs.Assignment.{satisfies, claims}
 use Rattle.demands.proofs.Sections.{neighbours-iff, together-refl, together-sym, together-trans, together-step}
 use Rattle.demands.proofs.Meaning.{from-families, meansA, meansB, meansC, meansD, meansE, meansF, meansG, meansH, meansI}
@@ -166,7 +166,7 @@ module _ (I : Instance) (α : ℕ → Bool) (p : Plan) (code : Codes I α p) (ru
           ),
         )
 
-    pub kept-satisfies : T (satisfies α (extraClauses I (ownVariables I))) → T (satisfies α (formula I))
+    pub kept-satisfies : T (satisfies α (capClauses I (ownVariables I))) → T (satisfies α (formula I))
     kept-satisfies extra =
         from-families I α
         (record {

@@ -5,7 +5,7 @@
 use mathlib.Core.Path.{_≡_, refl, sym, ap, ap₂, _∙_}
 use mathlib.Core.Logic.{_≢_, _↔_, _⊎_, inl, inr}
 use mathlib.Core.Bool.{Bool, true, false, _&&_}
-use mathlib.Core.Option.{some}
+use mathlib.Core.Option.{Option, some}
 use Prim.Native.Nat.{ℕ, _+_, _*_, _^_, _≤_, _<_}
 use native.Mathlib.Omega.{arith}
 use mathlib.Core.List.{List, _++_}
@@ -17,15 +17,15 @@ use Rattle.spec.specs.Frames.{Format, bookFormat, oldFormat, frame, cutShort, h
 use Rattle.spec.specs.Book.{Book}
 use Rattle.spec.specs.Read.{frameFaults, kindFaults, outOfOrder, unknownKind, isHead, isEnd, readingStart, readAs, readBook}
 use Rattle.spec.specs.BookFile.{headPayload, framesThen, bookFile}
-use Rattle.spec.specs.Instance.{instanceOf}
-use Rattle.spec.specs.Entry.{demand, readInstance, writtenFor, writeFormula, overwrite, written}
+use Rattle.spec.specs.Instance.{instanceOf, under}
+use Rattle.spec.specs.Entry.{demand, writtenFor, writeFormula, overwrite, written}
 use Rattle.spec.specs.Upgrade.{upgraded, upgradeBook, upgradeOutput}
 use Rattle.laws.proofs.Tests.{eqb-iff, leb-iff, false-of, denied-of, from-true, from-denied}
 use Rattle.laws.proofs.Numbers.{bytes}
 use Rattle.laws.proofs.Frames.{payloadOf-frame, kindField-frame, whole-frame}
 use Rattle.demands.proofs.Wellformed.{parts}
 use Rattle.demands.proofs.Faults.{first-some}
-use Rattle.demands.proofs.Entries.{accepted≢refused}
+use Rattle.demands.proofs.Entries.{accepted≢refused, then-goes, read-instance}
 use Rattle.demands.proofs.Reading.{start, frame as frame′, read-iff, as-iff, as-refused}
 use Rattle.demands.proofs.Reasons.{Within, as-number}
 use Rattle.demands.specs.Claims.{Holds}
@@ -81,11 +81,11 @@ upgraded-read s b y e =
     let h = as-exact oldFormat s b old-apt y .0 e in
     ap readBook (ap upgraded (h .1) ∙ file-rewritten b (parts b (h .2)) (h .5) (h .0) .same) ∙ read-built b (h .0) (h .2) (h .3) (h .4)
 
--- "the rewritten book must have the same formula, clause for clause, as the old one had"
-pub upgraded-formula : (s : Bytes) (b : Book) (n : ℕ) → T (bytes s) → readAs oldFormat s ≡ accepted b
-    → writeFormula (upgraded s) n ≡ writtenFor (instanceOf b) n
-unfolding writeFormula readInstance andThen
-upgraded-formula s b n y e = rw (upgraded-read s b y e, andThen) refl
+-- "the rewritten book must have the same formula, clause for clause, as the old one had": under every cap, and without one
+pub upgraded-formula : (cap : Option ℕ) (s : Bytes) (b : Book) (n : ℕ) → T (bytes s) → readAs oldFormat s ≡ accepted b
+    → writeFormula cap (upgraded s) n ≡ writtenFor (under cap (instanceOf b)) n
+unfolding writeFormula
+upgraded-formula cap s b n y e = then-goes _ (read-instance cap (upgraded s) b (upgraded-read s b y e))
 
 -- The rewriter accepts exactly where the old reader does and the output has room, and then writes the rewritten book.
 pub upgrade-accepted : (s t : Bytes) (n : ℕ)
@@ -102,10 +102,11 @@ upgrade-accepted s t n = go (readAs oldFormat s) (leb (length (upgraded s)) n) r
     go (refused k d) r e f = (λ h. accepted≢refused (sym h), λ h. accepted≢refused (sym (h .1) ∙ e))
 
 -- What it writes: from any bytes, where the entry point accepts, they are the old file of a book, and the output is the new file of
--- the same book, with the same formula whatever room it is given.
+-- the same book, with the same formula whatever cap and room it is given.
 pub upgrade-keeps : (s t : Bytes) (n : ℕ) → T (bytes s) → upgradeBook s n ≡ accepted t
     → (b : Book) × (ttds : List ℕ) × (s ≡ bookFile oldFormat b ttds) × (t ≡ bookFile bookFormat b ttds)
-    × (readAs oldFormat s ≡ accepted b) × (readBook t ≡ accepted b) × ((m : ℕ) → writeFormula t m ≡ writtenFor (instanceOf b) m)
+    × (readAs oldFormat s ≡ accepted b) × (readBook t ≡ accepted b)
+    × ((cap : Option ℕ) (m : ℕ) → writeFormula cap t m ≡ writtenFor (under cap (instanceOf b)) m)
 upgrade-keeps s t n y e =
     let a = upgrade-accepted s t n .0 e in
     let f = upgraded-file s (a .0) y (a .1) in (
@@ -115,7 +116,7 @@ upgrade-keeps s t n y e =
       a .3 ∙ f .2,
       a .1,
       ap readBook (a .3) ∙ upgraded-read s (a .0) y (a .1),
-      λ m. ap (λ (u : Bytes). writeFormula u m) (a .3) ∙ upgraded-formula s (a .0) m y (a .1),
+      λ cap m. ap (λ (u : Bytes). writeFormula cap u m) (a .3) ∙ upgraded-formula cap s (a .0) m y (a .1),
     )
 
 -- It refuses exactly where the old reader does, with its number and detail, or by 12 where the output is too short.

@@ -4,6 +4,7 @@ use mathlib.Core.Path.{_≡_, refl}
 use mathlib.Core.Logic.{_↔_, _⊎_, inl, inr}
 use mathlib.Core.Bool.{Bool, true, false, not, _&&_, cond}
 use Prim.Native.Nat.{ℕ, zero, suc, _+_, _*_, _-_, _/_, _%_, _≤_, _<_}
+use mathlib.Core.Option.{Option}
 use native.Mathlib.Nat.{not-suc-le-zero, le-of-suc-le-suc}
 use native.Mathlib.Omega.{arith}
 use mathlib.Core.List.{List, [], _∷_, _++_, map, List·Memᴰ, Memᴰ·of-map}
@@ -14,7 +15,7 @@ use Rattle.spec.specs.Frames.{bookFormat}
 use Rattle.spec.specs.Book.{Book, Train, greatestNodeKind, nodeKindAt, segmentAt, trainAt, callsOf, noCall, isExit, deniesBorder, forcesBorder, segmentOf, endNode, lengthInSegments}
 use Rattle.spec.specs.Runs.{directed, goesOn, extend, pathsOf, runsOf}
 use Rattle.spec.specs.Read.{wellFormed, growing, bookFaults, headFits, segmentFits, joinFits, joinsOnce, trainFits, reachFits, placeFits, trainAllFits, callFits, between, maxNodes, maxSegments, maxJoins, maxTrains, maxCalls, maxRuns}
-use Rattle.spec.specs.Instance.{Instance, instanceOf, compile, runLists, runAt, callAt}
+use Rattle.spec.specs.Instance.{Instance, instanceOf, under, compile, runLists, runAt, callAt}
 use Rattle.laws.proofs.Tests.{and-iff, or-iff, neither-iff, eqb-iff, ltb-iff, leb-iff, all-iff, all-upTo, all-at}
 use Rattle.demands.proofs.Growing.{Few, growing-parts, none-iff, all-weaken, not-above}
 use Rattle.laws.proofs.Rows.{all-append, all-cons, all-each}
@@ -33,6 +34,17 @@ pub record Sound (I : Instance) : Type 0 where
   pub windows : (i c : ℕ) → i < I .trains → c < I .calls i → I .last i c ≤ I .intervals
   -- no node's border is both denied and forced
   pub kinds : (n : ℕ) → n < I .nodes → T (I .denied n) → T (I .forced n) → ⊥
+
+-- A cap changes none of it.
+pub sound-under : {I : Instance} (cap : Option ℕ) → Sound I → Sound (under cap I)
+sound-under cap s = record {
+  departs = s .departs;
+  fewRuns = s .fewRuns;
+  inside = s .inside;
+  ordered = s .ordered;
+  windows = s .windows;
+  kinds = s .kinds;
+}
 
 -- What well-formedness says, part by part.
 pub record Parts (b : Book) : Type 0 where

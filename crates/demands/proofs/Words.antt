@@ -3,7 +3,7 @@
 use mathlib.Core.Path.{_≡_, refl, sym, ap, ap₂, _∙_}
 use mathlib.Core.Logic.{_↔_, inl, inr}
 use mathlib.Core.Bool.{Bool, _&&_}
-use Prim.Native.Nat.{ℕ, zero, suc, _+_, _*_, _≤_, _<_}
+use Prim.Native.Nat.{ℕ, zero, suc, _+_, _*_, _-_, _≤_, _<_}
 use native.Mathlib.Omega.{arith}
 use mathlib.Core.List.{List, [], _∷_, _++_, append-nil}
 use lib.ListN.{length, getD, length-append}
@@ -14,16 +14,12 @@ use Rattle.laws.proofs.Tests.{meaning, and-iff, leb-iff, le-or-lt, all-iff}
 use Rattle.laws.proofs.Rows.{rows, all-append, all-cons}
 use Rattle.laws.proofs.Parts.{each-append}
 use Rattle.spec.specs.Lists.{all, each, one, sumTo}
-use Rattle.spec.specs.Instance.{Instance}
+use Rattle.spec.specs.Instance.{Instance, freeNodesOf}
 use Rattle.spec.specs.Formula.{Literal, Clause, is, not′, width, firstVar, base, borderVar, runVar, goneVar, claimVar, ownVariables, variables, clausesB, clausesC, clausesD, clausesE, clauseE, followersE, serversF, clausesG, claimsG, clausesH, clausesI, familyA, familyB, familyC, familyD, familyE, familyF, familyG, familyH, familyI, formula, wordsOf}
-use Rattle.spec.specs.Extra.{extraClauses}
+use Rattle.spec.specs.Cap.{counterOf, capVariables, countVar, countClause, carryClause, capClauses}
 use Rattle.spec.specs.Refutation.{variableOf, withWord, clausesOf, inRange}
 use Rattle.demands.proofs.Wellformed.{Sound}
-
--- the clauses behind family I keep to the variables; they are none today
-pub extra-in-range : (I : Instance) → T (inRange (variables I) (extraClauses I (ownVariables I)))
-unfolding extraClauses all
-extra-in-range I = tt
+use Rattle.demands.proofs.Cap.{free-inside, counter-whole}
 
 -- ---- literals of n variables
 
@@ -150,12 +146,28 @@ module _ (I : Instance) where
   unfolding Kept familyI clausesI
   keptI = simp tested (λ t h i l j _ m s k. (claim-below i l t h s k, claim-below j m t h s k))
 
+  -- the cap's: borders of nodes of kind 1, and its own variables, which follow all others
+  count-below : (j : ℕ) → j < counterOf I .most → (k : ℕ) → k < counterOf I .spare → countVar I (ownVariables I) j k < variables I
+  unfolding countVar variables capVariables
+  count-below j l k h = omega (arith, digits-lt l h)
+
+  keptCap : Kept (capClauses I (ownVariables I))
+  unfolding Kept capClauses countClause carryClause counterOf borderVar
+  keptCap = simp tested (λ j l k h.
+      let inside = let w = counter-whole (I .cap) (length (freeNodesOf I)) in free-inside I (j + k) (omega (arith, w, l, h)) in (
+        (
+          border-below _ inside,
+          ((λ p. count-below (j - 1) (omega (arith, p, l)) k h), λ p. count-below j p k h),
+        ),
+        λ p. (count-below j (p .0) (k - 1) (omega (arith, h)), count-below j (p .0) k h),
+      ))
+
   -- every literal of the formula is of one of its variables
   pub formula-in-range : Sound I → T (inRange (variables I) (formula I))
   unfolding formula Kept within
   formula-in-range sound =
       simp (all-append, and-iff)
-      (keptA, (keptB sound, (keptC, (keptD sound, (keptE, (keptF, (keptG sound, (keptH, (keptI, extra-in-range I)))))))))
+      (keptA, (keptB sound, (keptC, (keptD sound, (keptE, (keptF, (keptG sound, (keptH, (keptI, keptCap)))))))))
 
 -- ---- the words of clauses
 

@@ -2,7 +2,8 @@
 use mathlib.Core.Path.{_≡_}
 use mathlib.Core.Logic.{_⊎_}
 use mathlib.Core.Bool.{Bool}
-use Prim.Native.Nat.{ℕ, _+_, _*_, _-_, _≤_, _<_}
+use mathlib.Core.Option.{some}
+use Prim.Native.Nat.{ℕ, zero, suc, _+_, _*_, _-_, _≤_, _<_}
 use mathlib.Core.List.{List, [], _∷_, _++_, map, List·Memᴰ}
 use lib.ListN.{length, getD, drop}
 use lib.Dec.{T, eqb}
@@ -13,7 +14,7 @@ use Rattle.spec.specs.Instance.{Instance, trainLength, runLists, runAt}
 use Rattle.spec.specs.Plan.{Plan, Move, run, gone, isGone, runs, isMove}
 use Rattle.spec.specs.Formula.{borderVar, runVar, goneVar, formula, variables}
 use Rattle.spec.specs.Refutation.{ProofStep, Lent, fileOf, InFields, GoodSteps, clausesFit}
-use Rattle.spec.specs.Entry.{formulaFits}
+use Rattle.spec.specs.Entry.{formulaFits, checkRefutation}
 use Rattle.demands.specs.Reasons.{Within}
 
 -- ---- outputs, assignments, refutations
@@ -45,6 +46,12 @@ LongEnough I file lent =
     T (formulaFits lent I)
     × ((steps : List ProofStep) → file ≡ fileOf steps → ((st : ProofStep) → List·Memᴰ st steps → InFields st)
     → T (clausesFit lent (formula I ++ map (λ st. st .literals) steps)))
+
+-- P7, that there are no fewer than n: "a refutation of the formula under cap n minus 1"; "With n = 0 there is no lower cap, the refutation must be
+-- empty".
+unfoldable pub FewerRefuted : Bytes → ℕ → Bytes → Lent → Type 0
+FewerRefuted book zero refutation lent = refutation ≡ []
+FewerRefuted book (suc m) refutation lent = checkRefutation (some m) book refutation lent ≡ accepted tt
 
 -- ---- l and k
 

@@ -2,6 +2,7 @@
 use mathlib.Core.Path.{_≡_}
 use mathlib.Core.Bool.{Bool, true, not}
 use Prim.Native.Nat.{ℕ, suc, _≤_, _<_}
+use mathlib.Core.Option.{some}
 use mathlib.Core.List.{List, _∷_, _++_}
 use lib.ListN.{length}
 use lib.Dec.{T}
@@ -9,10 +10,11 @@ use Rattle.spec.specs.Lists.{Bytes, all, empty, one, Fault, _when_, Verdict, ac
 use Rattle.spec.specs.Book.{Book}
 use Rattle.spec.specs.Frames.{Format, kindField, payloadOf, behind}
 use Rattle.spec.specs.Read.{Reading, readingStart, isEnd, frameFaults, bookFaults, more, readFrame, readBook}
-use Rattle.spec.specs.Instance.{Instance, instanceOf}
-use Rattle.spec.specs.Plan.{planFits, planOf, ruleFaults}
-use Rattle.spec.specs.Formula.{Clause, formula}
-use Rattle.spec.specs.Assignment.{assignmentFits, assigned, holds}
+use Rattle.spec.specs.Instance.{Instance, under}
+use Rattle.spec.specs.Plan.{Plan, planFits, planOf, ruleFaults, keepsRules}
+use Rattle.spec.specs.Cap.{withinCap, setCount}
+use Rattle.spec.specs.Formula.{Clause, formula, variables}
+use Rattle.spec.specs.Assignment.{assignmentFits, assigned, holds, satisfies, decode}
 use Rattle.spec.specs.Refutation.{ProofStep, Lent, stepIn, clauseAt, stepFaults, stepDetail}
 
 -- ---- tables of refusals
@@ -44,12 +46,11 @@ pub data Ends (f : Format) (r : Reading) (s : Bytes) (v : Verdict Book) : Type 0
 -- ---- the order of the entry points
 
 -- "then the book; then 12; then the second input": why an entry point refuses with a number and a detail, where `Short` is that
--- a lent slice is too short and `Input` says what is wrong with the second input.
-pub data Refusal (book : Bytes) (Short : Instance → Type 0) (Input : Instance → ℕ → ℕ → Type 0) : ℕ → ℕ → Type 0 where
+-- a lent slice is too short for the book and `Input` says what is wrong with the second input.
+pub data Refusal (book : Bytes) (Short : Book → Type 0) (Input : Book → ℕ → ℕ → Type 0) : ℕ → ℕ → Type 0 where
   ofBook : {k : ℕ} → readBook book ≡ refused k 0 → Refusal book Short Input k 0
-  ofRoom : (b : Book) → readBook book ≡ accepted b → Short (instanceOf b) → Refusal book Short Input 12 0
-  ofInput : {k d : ℕ} (b : Book) → readBook book ≡ accepted b → (Short (instanceOf b) → ⊥) → Input (instanceOf b) k d
-      → Refusal book Short Input k d
+  ofRoom : (b : Book) → readBook book ≡ accepted b → Short b → Refusal book Short Input 12 0
+  ofInput : {k d : ℕ} (b : Book) → readBook book ≡ accepted b → (Short b → ⊥) → Input b k d → Refusal book Short Input k d
 
 -- ---- an assignment
 
@@ -71,6 +72,19 @@ pub data AssignmentFault (I : Instance) (s : Bytes) : ℕ → ℕ → Type 0 whe
 pub data PlanFault (I : Instance) (s : Bytes) : ℕ → ℕ → Type 0 where
   planUnfit : T (not (planFits I s)) → PlanFault I s 15 0
   ruleBroken : {d : ℕ} → T (planFits I s) → FirstHolds d (ruleFaults I (planOf I s)) → PlanFault I s 16 d
+
+-- What is wrong with what is asked of a plan: what is wrong with the plan, or, of one that keeps the rules, a number of the question's own.
+pub data AskedFault (I : Instance) (s : Bytes) (Own : Plan → ℕ → ℕ → Type 0) : ℕ → ℕ → Type 0 where
+  planFault : {k d : ℕ} → PlanFault I s k d → AskedFault I s Own k d
+  ownFault : {k d : ℕ} → T (planFits I s) → T (keepsRules I (planOf I s)) → Own (planOf I s) k d → AskedFault I s Own k d
+
+-- P7: 22 "where a plan to be written as an assignment sets more than the cap"
+pub data OverCap (I : Instance) (p : Plan) : ℕ → ℕ → Type 0 where
+  overCap : T (not (withinCap I p)) → OverCap I p 22 0
+
+-- nothing further
+abbrev pub Nothing : Plan → ℕ → ℕ → Type 0
+Nothing p k d = ⊥
 
 -- ---- a refutation
 
@@ -99,6 +113,23 @@ pub data RefutationFault (lent : Lent) (vars : ℕ) (cs₀ : List Clause) (file 
   bytesAfter : {step : ℕ} {cs : List Clause} {s : Bytes} → StepsTo lent vars cs₀ file step cs s
       → T (all passes (stepFaults lent vars cs s)) → T (empty (stepAt s .literals)) → T (not (empty (behind s)))
       → RefutationFault lent vars cs₀ file 21 0
+
+-- ---- the combined verdict, P7
+
+-- What is wrong with the refutation of fewer than n: under cap n minus 1 what is wrong with a refutation; with n = 0 it "must be empty": 21.
+pub data FewerFault (I : Instance) (lent : Lent) (file : Bytes) : ℕ → ℕ → ℕ → Type 0 where
+  notEmpty : T (not (empty file)) → FewerFault I lent file 0 21 0
+  lowerCap : {m k d : ℕ} → RefutationFault lent (variables (under (some m) I)) (formula (under (some m) I)) file k d
+      → FewerFault I lent file (suc m) k d
+
+-- What is wrong with what the combined verdict takes: what is wrong with the assignment; "22 after the assignment is accepted, where its plan
+-- sets another count of kind 1 nodes than n"; "then" what is wrong with the refutation.
+pub data FewestFault (I : Instance) (n : ℕ) (s file : Bytes) (lent : Lent) : ℕ → ℕ → Type 0 where
+  assignmentFault : {k d : ℕ} → AssignmentFault I s k d → FewestFault I n s file lent k d
+  otherCount : T (assignmentFits I s) → T (satisfies (assigned s) (formula I))
+      → (setCount I (planOf I (decode I s) .border) ≡ n → ⊥) → FewestFault I n s file lent 22 0
+  refutationFault : {k d : ℕ} → T (assignmentFits I s) → T (satisfies (assigned s) (formula I))
+      → setCount I (planOf I (decode I s) .border) ≡ n → FewerFault I lent file n k d → FewestFault I n s file lent k d
 
 -- ---- numbers
 

@@ -2,6 +2,7 @@ pub mod Rest
 pub mod Meeting
 pub mod Chain
 pub mod Shapes
+pub mod Capped
 pub mod Size
 pub mod Trains
 pub mod Totals

@@ -1,16 +1,17 @@
 -- The formula of an instance with few of each has far fewer words than the counters hold. Assumes nothing.
 use mathlib.Core.Path.{_≡_, refl, ap, _∙_, subst}
-use mathlib.Core.Bool.{Bool, true, false, not}
+use mathlib.Core.Bool.{Bool, true, false, not, _&&_}
 use Prim.Native.Nat.{ℕ, zero, suc, _+_, _*_, _-_, _≤_, _<_}
 use native.Mathlib.Nat.{le-refl, le-trans, suc-mul}
 use native.Mathlib.Omega.{arith}
 use mathlib.Core.List.{List, [], _∷_, _++_, map, List·Memᴰ, List·Memᴰ·head, List·Memᴰ·tail}
-use lib.ListN.{length, length-append, length-map}
+use lib.ListN.{length, getD, length-append, length-map}
 use lib.IntN.{ℤ, pos}
+use lib.Dec.{ltb}
 use Rattle.spec.specs.Lists.{upTo, range, each, only, one}
-use Rattle.spec.specs.Instance.{Instance, inWindow, servedAtDeparture}
-use Rattle.spec.specs.Formula.{Clause, is, not′, width, base, borderVar, familyA, formula, wordsOf, clausesB, clausesC, clausesI, clausesD, followersE, clauseE, clausesE, serversF, claimsG, clausesG, clausesH}
-use Rattle.spec.specs.Extra.{extraClauses}
+use Rattle.spec.specs.Instance.{Instance, inWindow, servedAtDeparture, freeNodesOf}
+use Rattle.spec.specs.Formula.{Clause, is, not′, width, base, borderVar, ownVariables, familyA, formula, wordsOf, clausesB, clausesC, clausesI, clausesD, followersE, clauseE, clausesE, serversF, claimsG, clausesG, clausesH}
+use Rattle.spec.specs.Cap.{counterOf, countVar, countClause, carryClause, capClauses}
 use Rattle.laws.proofs.Tests.{upTo-mem}
 use Rattle.laws.proofs.Parts.{length-count, length-upTo}
 use Rattle.clauses.specs.Walked.{most}
@@ -19,6 +20,7 @@ use Rattle.formula.specs.declared.walk.Family.{Family}
 use Rattle.formula.specs.declared.walk.Family.the-variants.{B, C, D, E, G, H}
 use Rattle.formula.specs.Families.{fromBy, toBy, blockClauses, trainClauses, familyClauses, callRuns, callClauses, pairsBehind}
 use Rattle.tables.proofs.Small.{Few}
+use Rattle.formula.proofs.Capped.{counter-few}
 use Rattle.formula.proofs.Shapes.{shape-b, shape-c, shape-d, shape-e, shape-f, shape-g, shape-h, shape-i}
 
 -- how many words clauses have
@@ -228,13 +230,42 @@ module _ (I : Instance) (few : Few I) where
       size-each (range (i + 1) (I .trains)) _ 8 (64 * 3) (below _ _ _ (few .trains)) (λ j _.
       size-map (upTo (I .segments)) _ 64 3 (up _ _ (few .segments)) (λ s _. le-refl 3))))
 
+  -- what a cap adds
+  module _ (first j k : ℕ) where
+    count-small : size (one (countClause I first j k)) ≤ 4
+    unfolding countClause
+    count-small =
+        let before = only (ltb 0 j) (one (not′ (countVar I first (j - 1) k))) in
+        let counted = only (ltb j (counterOf I .most)) (one (is (countVar I first j k))) in
+        omega (
+          arith,
+          size-one (not′ (getD (freeNodesOf I) (j + k) 0) ∷ (before ++ counted)),
+          length-append before counted,
+          length-only (ltb 0 j) (one (not′ (countVar I first (j - 1) k))) 1 (le-refl 1),
+          length-only (ltb j (counterOf I .most)) (one (is (countVar I first j k))) 1 (le-refl 1),
+        )
+
+    carry-small : size (carryClause I first j k) ≤ 3
+    unfolding carryClause
+    carry-small =
+        let c = not′ (countVar I first j (k - 1)) ∷ one (is (countVar I first j k)) in
+        omega (arith, size-only (ltb j (counterOf I .most) && ltb 0 k) (one c), size-one c)
+
+  sizeCap : (first : ℕ) → size (capClauses I first) ≤ 97 * (96 * 7)
+  unfolding capClauses
+  sizeCap first =
+      let c = counter-few I (few .nodes) in
+      size-each (upTo (counterOf I .most + 1)) _ 97 (96 * 7) (up _ _ (omega (arith, c))) (λ j _.
+      size-each (upTo (counterOf I .spare)) _ 96 7 (up _ _ (omega (arith, c))) (λ k _.
+      omega (arith, size-append (one (countClause I first j k)) (carryClause I first j k), count-small first j k, carry-small first j k)))
+
   pub formula-small : size (formula I) ≤ most
-  unfolding formula extraClauses wordsOf each
+  unfolding formula
   formula-small =
       let first : Sized (familyA I) (96 * 4) = record { most′ = sizeA } in
       let all =
       first ⊕ (by B (shape-b I) ⊕ (by C (shape-c I) ⊕ (by D (shape-d I) ⊕ (by E (shape-e I)
-      ⊕ (same (shape-f I) sizeF ⊕ (by G (shape-g I) ⊕ (by H (shape-h I) ⊕ (same (shape-i I) sizeI ⊕ nothing)))))))) in
+      ⊕ (same (shape-f I) sizeF ⊕ (by G (shape-g I) ⊕ (by H (shape-h I) ⊕ (same (shape-i I) sizeI ⊕ end)))))))) in
       le-trans (all .most′) (omega arith)
     where
       same : {cs ds : List Clause} {m : ℕ} → cs ≡ ds → size cs ≤ m → Sized ds m
@@ -243,5 +274,5 @@ module _ (I : Instance) (few : Few I) where
       by : {cs : List Clause} (f : Family) → familyClauses I f ≡ cs → Sized cs 824633720832
       by f e = same e (family-small f)
 
-      nothing : Sized [] 0
-      nothing = record { most′ = le-refl 0 }
+      end : Sized (capClauses I (ownVariables I)) (97 * (96 * 7))
+      end = record { most′ = sizeCap (ownVariables I) }

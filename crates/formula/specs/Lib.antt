@@ -1,3 +1,4 @@
 pub mod Chained
+pub mod Counting
 pub mod Families
 pub mod Ready

@@ -1,6 +1,7 @@
-// The formula of a book: one walk over its families, in their order, that measures, writes and judges
-// (`clauses::Walk`). Families B, C, D, E, G and H go by train and interval through the same two
+// The formula of a book: one walk over its families, in their order, and what a cap adds, that measures,
+// writes and judges (`clauses::Walk`). Families B, C, D, E, G and H go by train and interval through the same two
 // loops. Assumes nothing.
+use crate::counting::cap_clauses;
 use crate::families::clauses_b;
 use crate::families::clauses_c;
 use crate::families::clauses_d;
@@ -20,6 +21,7 @@ use layout::numbering::first_claim;
 use listing::TRAIN_BYTES;
 use model::Book;
 use model::Call;
+use model::Cap;
 use model::Counts;
 use network::calls::call_at;
 use network::calls::calls_of;
@@ -30,9 +32,9 @@ ghost use mathlib.Core.Path.{_≡_};
 ghost use mathlib.Core.List.{_++_};
 ghost use Prim.Native.Nat.{_<_};
 ghost use Rattle.spec.specs.Lists.{upTo, each};
-ghost use Rattle.spec.specs.Instance.{instanceOf, callAt};
+ghost use Rattle.spec.specs.Instance.{instanceOf, under, callAt};
 ghost use Rattle.spec.specs.Formula.{familyB, familyC, familyD, familyE, familyF, familyG, familyH, familyI, formula, wordsOf};
-ghost use Rattle.spec.specs.Held.{held};
+ghost use Rattle.spec.specs.Held.{held, heldCap};
 ghost use Rattle.clauses.specs.Walked.{Walks, start};
 ghost use Rattle.tables.specs.Ready.{Counted, RunsHeld, ChainsHeld, RunsReady, ChainsReady, MeetsReady};
 ghost use Rattle.layout.specs.Blocks.{BlockHeld, intervalsMost};
@@ -397,10 +399,11 @@ fn families_g_to_i(
     family_i(b, counts, wh, values, out)
 }
 
-// The whole formula: what the walk passed, and the output.
+// The whole formula under a cap, or without one: what the walk passed, and the output.
 pub fn walk_formula(
     b: Book,
     counts: Counts,
+    cap: Cap,
     runs: &[u8],
     chains: &[usize],
     meets: &[u8],
@@ -408,10 +411,13 @@ pub fn walk_formula(
     out: &mut [i32],
 ) -> Walk
     requires { ⌜ RunsReady b counts (now runs) × ChainsReady b (now chains) × MeetsReady b (now meets) ⌝ }
-    ensures { λ r. ⌜ Walks (now (values .entry)) (wordsOf (formula (instanceOf (held b)))) start (now (out .entry)) r (now (out .exit)) ⌝ }
+    ensures { λ r. ⌜ Walks (now (values .entry))
+        (wordsOf (formula (under (heldCap cap) (instanceOf (held b)))))
+        start (now (out .entry)) r (now (out .exit)) ⌝ }
 {
     let wa = family_a(b, begin(), values, out);
     let wd = families_b_to_d(b, counts, wa, runs, chains, meets, values, out);
     let wf = families_e_and_f(b, counts, wd, runs, chains, meets, values, out);
-    families_g_to_i(b, counts, wf, runs, chains, meets, values, out)
+    let wi = families_g_to_i(b, counts, wf, runs, chains, meets, values, out);
+    cap_clauses(b, counts, cap, wi, values, out)
 }

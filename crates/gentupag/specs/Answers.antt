@@ -1,5 +1,7 @@
 -- What the library's structs say of each verdict: a refusal's number and detail with zeros behind, or 0, 0 and the result; and
 -- the same by the cases of the entry points' answers. Assumes nothing.
+use mathlib.Core.Option.{Option, none, some}
+use Prim.Native.Nat.{ℕ, zero, suc}
 use lib.ListN.{length, replicate}
 use Rattle.spec.specs.Lists.{Bytes, Verdict, accepted, refused}
 use Rattle.spec.specs.Entry as entry
@@ -66,9 +68,16 @@ runAnswer (accepted (library.shown n l ds)) = record
 runAnswer (refused n d) = record { number = n; detail = d; missing = 0; runs = 0; place = 0; length = 0; path = noPath }
 
 abbrev pub variableAnswer : Verdict library.Meaning → Variable
-variableAnswer (accepted library.noVariable) = record { number = 0; detail = 0; kind = 0; train = 0; interval = 0; item = 0 }
-variableAnswer (accepted (library.border n)) = record { number = 0; detail = 0; kind = 1; train = 0; interval = 0; item = n }
-variableAnswer (accepted (library.run i t r)) = record { number = 0; detail = 0; kind = 2; train = i; interval = t; item = r }
-variableAnswer (accepted (library.gone i t)) = record { number = 0; detail = 0; kind = 3; train = i; interval = t; item = 0 }
-variableAnswer (accepted (library.claim i t s)) = record { number = 0; detail = 0; kind = 4; train = i; interval = t; item = s }
-variableAnswer (refused n d) = record { number = n; detail = d; kind = 0; train = 0; interval = 0; item = 0 }
+variableAnswer (accepted library.noVariable) = record { number = 0; detail = 0; kind = 0; train = 0; interval = 0; item = 0; count = 0 }
+variableAnswer (accepted (library.border n)) = record { number = 0; detail = 0; kind = 1; train = 0; interval = 0; item = n; count = 0 }
+variableAnswer (accepted (library.run i t r)) = record { number = 0; detail = 0; kind = 2; train = i; interval = t; item = r; count = 0 }
+variableAnswer (accepted (library.gone i t)) = record { number = 0; detail = 0; kind = 3; train = i; interval = t; item = 0; count = 0 }
+variableAnswer (accepted (library.claim i t s)) = record { number = 0; detail = 0; kind = 4; train = i; interval = t; item = s; count = 0 }
+variableAnswer (accepted (library.counted n k)) = record { number = 0; detail = 0; kind = 5; train = 0; interval = 0; item = n; count = k }
+variableAnswer (refused n d) = record { number = n; detail = d; kind = 0; train = 0; interval = 0; item = 0; count = 0 }
+
+-- ---- the cap that a caller asks for, by two numbers: "'No cap' is not a number that could be meant"
+
+abbrev pub capAsked : ℕ → ℕ → Option ℕ
+capAsked zero cap = none
+capAsked (suc _) cap = some cap

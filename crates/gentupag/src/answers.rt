@@ -73,8 +73,11 @@ pub const IS_GONE: usize = 3;
 
 pub const IS_CLAIM: usize = 4;
 
+pub const IS_COUNT: usize = 5;
+
 // What a variable stands for. `item` is the node of a border, the number of a run or the segment of a
-// claim; a border has no train and no interval.
+// claim, and of a count, which a cap adds, a node of kind 1: of the nodes of kind 1 up to it at least `count`
+// are set. A border and a count have no train and no interval, and only a count has a `count`.
 #[repr(C)]
 pub struct Variable {
     pub number: usize,
@@ -83,4 +86,5 @@ pub struct Variable {
     pub train: usize,
     pub interval: usize,
     pub item: usize,
+    pub count: usize,
 }

@@ -17,8 +17,10 @@ use carriers::list_carriers;
 use checking::check_assignment;
 use checking::check_plan;
 use checking::unpack_plan;
+use fewest::check_fewest;
 use graph::print_graph;
 use labels::label_book;
+use model::Cap;
 use reader::reading::Answer;
 use reader::reading::OutputAnswer;
 use reader::reading::read_book;
@@ -33,13 +35,14 @@ ghost use mathlib.Core.Path.{_≡_};
 ghost use lib.ListN.{length};
 ghost use lib.IntN.{pos};
 ghost use Rattle.spec.specs.Read.{readBook};
-ghost use Rattle.spec.specs.Entry.{zeroed, writeFormula, formulaOutput, checkAssignment, unpackPlan, planOutput, checkPlan, assignmentOutput, checkRefutation};
+ghost use Rattle.spec.specs.Held.{heldCap};
+ghost use Rattle.spec.specs.Entry.{zeroed, writeFormula, formulaOutput, checkAssignment, unpackPlan, planOutput, checkPlan, assignmentOutput, checkRefutation, checkFewest};
 ghost use Rattle.spec.specs.Upgrade.{upgradeBook, upgradeOutput};
 ghost use Rattle.spec.specs.Page.{printGraph, pageOutput};
 ghost use Rattle.spec.specs.Carriers.{listCarriers, carriersOutput};
 ghost use Rattle.spec.specs.Library.{measureBook, labelSections, labelsOutput, askRun, askVariable};
 ghost use Rattle.refutations.specs.Lent.{lengths};
-ghost use Rattle.gentupag.specs.Answers.{verdictShown, outputShown, totalsShown, verdictOf, outputOf, totalsOf, sizesAnswer, runAnswer, variableAnswer};
+ghost use Rattle.gentupag.specs.Answers.{verdictShown, outputShown, totalsShown, verdictOf, outputOf, totalsOf, sizesAnswer, runAnswer, variableAnswer, capAsked};
 
 // A verdict as a struct.
 fn verdict_from(answer: Answer) -> Verdict
@@ -98,6 +101,16 @@ fn totals_from(answer: FormulaAnswer) -> Totals
     }
 }
 
+// The cap that a caller asks for by two numbers: none where the first is 0.
+fn cap_from(capped: usize, cap: usize) -> Cap
+    ensures { λ r. ⌜ heldCap r ≡ capAsked capped cap ⌝ }
+{
+    if capped == 0 {
+        return Cap::No;
+    }
+    Cap::AtMost(cap)
+}
+
 // Whether the bytes are a book.
 #[no_mangle]
 pub extern "C" fn gentupag_read_book(book: &[u8]) -> Verdict
@@ -110,54 +123,78 @@ pub extern "C" fn gentupag_read_book(book: &[u8]) -> Verdict
 
 // The sizes of a book: what it counts, and how much its outputs need.
 #[no_mangle]
-pub extern "C" fn gentupag_measure_book(book: &[u8]) -> Sizes
-    ensures { λ r. ⌜ r ≡ sizesAnswer (measureBook (now (book .entry))) ⌝ }
+pub extern "C" fn gentupag_measure_book_under(capped: usize, cap: usize, book: &[u8]) -> Sizes
+    ensures { λ r. ⌜ r ≡ sizesAnswer (measureBook (capAsked capped cap) (now (book .entry))) ⌝ }
 {
-    measure_book(book)
+    measure_book(cap_from(capped, cap), book)
 }
 
 // The formula of a book, written into the output.
 #[no_mangle]
-pub extern "C" fn gentupag_write_formula(book: &[u8], out: &mut [i32]) -> Totals
-    ensures { λ r. ⌜ (r ≡ totalsOf (writeFormula (now (book .entry)) (length (now (out .entry)))))
-        × (now (out .exit) ≡ formulaOutput (now (book .entry)) (now (out .entry))) ⌝ }
+pub extern "C" fn gentupag_write_formula_under(
+    capped: usize,
+    cap: usize,
+    book: &[u8],
+    out: &mut [i32],
+) -> Totals
+    ensures { λ r. ⌜ (r ≡ totalsOf (writeFormula (capAsked capped cap) (now (book .entry)) (length (now (out .entry)))))
+        × (now (out .exit) ≡ formulaOutput (capAsked capped cap) (now (book .entry)) (now (out .entry))) ⌝ }
 {
-    let answer = write_formula(book, out);
+    let answer = write_formula(cap_from(capped, cap), book, out);
     totals_from(answer)
 }
 
 // The verdict on an assignment.
 #[no_mangle]
-pub extern "C" fn gentupag_judge_assignment(book: &[u8], values: &[u8]) -> Verdict
-    ensures { λ r. ⌜ r ≡ verdictOf (checkAssignment (now (book .entry)) (now (values .entry))) ⌝ }
+pub extern "C" fn gentupag_judge_assignment_under(
+    capped: usize,
+    cap: usize,
+    book: &[u8],
+    values: &[u8],
+) -> Verdict
+    ensures { λ r. ⌜ r ≡ verdictOf (checkAssignment (capAsked capped cap) (now (book .entry)) (now (values .entry))) ⌝ }
 {
-    let answer = check_assignment(book, values);
+    let answer = check_assignment(cap_from(capped, cap), book, values);
     verdict_from(answer)
 }
 
 // The verdict on an assignment, its plan in the output.
 #[no_mangle]
-pub extern "C" fn gentupag_unpack_plan(book: &[u8], values: &[u8], out: &mut [u8]) -> Output
-    ensures { λ r. ⌜ (r ≡ outputOf (unpackPlan (now (book .entry)) (now (values .entry)) (length (now (out .entry)))))
-        × (now (out .exit) ≡ planOutput (now (book .entry)) (now (values .entry)) (now (out .entry))) ⌝ }
+pub extern "C" fn gentupag_unpack_plan_under(
+    capped: usize,
+    cap: usize,
+    book: &[u8],
+    values: &[u8],
+    out: &mut [u8],
+) -> Output
+    ensures { λ r. ⌜ (r ≡ outputOf (unpackPlan (capAsked capped cap) (now (book .entry)) (now (values .entry)) (length (now (out .entry)))))
+        × (now (out .exit) ≡ planOutput (capAsked capped cap) (now (book .entry)) (now (values .entry)) (now (out .entry))) ⌝ }
 {
-    let answer = unpack_plan(book, values, out);
+    let answer = unpack_plan(cap_from(capped, cap), book, values, out);
     output_from(answer)
 }
 
 // The verdict on a plan, its assignment in the output.
 #[no_mangle]
-pub extern "C" fn gentupag_check_plan(book: &[u8], plan: &[u8], out: &mut [u8]) -> Output
-    ensures { λ r. ⌜ (r ≡ outputOf (checkPlan (now (book .entry)) (now (plan .entry)) (length (now (out .entry)))))
-        × (now (out .exit) ≡ assignmentOutput (now (book .entry)) (now (plan .entry)) (now (out .entry))) ⌝ }
+pub extern "C" fn gentupag_check_plan_under(
+    capped: usize,
+    cap: usize,
+    book: &[u8],
+    plan: &[u8],
+    out: &mut [u8],
+) -> Output
+    ensures { λ r. ⌜ (r ≡ outputOf (checkPlan (capAsked capped cap) (now (book .entry)) (now (plan .entry)) (length (now (out .entry)))))
+        × (now (out .exit) ≡ assignmentOutput (capAsked capped cap) (now (book .entry)) (now (plan .entry)) (now (out .entry))) ⌝ }
 {
-    let answer = check_plan(book, plan, out);
+    let answer = check_plan(cap_from(capped, cap), book, plan, out);
     output_from(answer)
 }
 
 // The verdict on a refutation; all four slices are zero after it.
 #[no_mangle]
-pub extern "C" fn gentupag_check_refutation(
+pub extern "C" fn gentupag_check_refutation_under(
+    capped: usize,
+    cap: usize,
     book: &[u8],
     refutation: &[u8],
     words: &mut [i32],
@@ -165,14 +202,54 @@ pub extern "C" fn gentupag_check_refutation(
     values: &mut [u8],
     trail: &mut [usize],
 ) -> Verdict
-    ensures { λ a. ⌜ (a ≡ verdictOf (checkRefutation (now (book .entry)) (now (refutation .entry))
+    ensures { λ a. ⌜ (a ≡ verdictOf (checkRefutation (capAsked capped cap) (now (book .entry)) (now (refutation .entry))
         (lengths (now (words .entry)) (now (clauses .entry)) (now (values .entry)) (now (trail .entry)))))
         × (now (words .exit) ≡ zeroed (pos 0) (length (now (words .entry))))
         × (now (clauses .exit) ≡ zeroed 0 (length (now (clauses .entry))))
         × (now (values .exit) ≡ zeroed 0 (length (now (values .entry))))
         × (now (trail .exit) ≡ zeroed 0 (length (now (trail .entry)))) ⌝ }
 {
-    let answer = check_refutation(book, refutation, words, clauses, values, trail);
+    let answer = check_refutation(
+        cap_from(capped, cap),
+        book,
+        refutation,
+        words,
+        clauses,
+        values,
+        trail,
+    );
+    verdict_from(answer)
+}
+
+// The combined verdict on n; all four slices are zero after it.
+#[no_mangle]
+pub extern "C" fn gentupag_check_fewest(
+    book: &[u8],
+    n: usize,
+    assignment: &[u8],
+    refutation: &[u8],
+    words: &mut [i32],
+    clauses: &mut [usize],
+    values: &mut [u8],
+    trail: &mut [usize],
+) -> Verdict
+    ensures { λ a. ⌜ (a ≡ verdictOf (checkFewest (now (book .entry)) n (now (assignment .entry)) (now (refutation .entry))
+        (lengths (now (words .entry)) (now (clauses .entry)) (now (values .entry)) (now (trail .entry)))))
+        × (now (words .exit) ≡ zeroed (pos 0) (length (now (words .entry))))
+        × (now (clauses .exit) ≡ zeroed 0 (length (now (clauses .entry))))
+        × (now (values .exit) ≡ zeroed 0 (length (now (values .entry))))
+        × (now (trail .exit) ≡ zeroed 0 (length (now (trail .entry)))) ⌝ }
+{
+    let answer = check_fewest(
+        book,
+        n,
+        assignment,
+        refutation,
+        words,
+        clauses,
+        values,
+        trail,
+    );
     verdict_from(answer)
 }
 
@@ -195,10 +272,15 @@ pub extern "C" fn gentupag_show_run(book: &[u8], train: usize, run: usize) -> Ru
 
 // What a variable stands for, counted from 1 as in the formula's text.
 #[no_mangle]
-pub extern "C" fn gentupag_explain_variable(book: &[u8], variable: usize) -> Variable
-    ensures { λ r. ⌜ r ≡ variableAnswer (askVariable (now (book .entry)) variable) ⌝ }
+pub extern "C" fn gentupag_explain_variable_under(
+    capped: usize,
+    cap: usize,
+    book: &[u8],
+    variable: usize,
+) -> Variable
+    ensures { λ r. ⌜ r ≡ variableAnswer (askVariable (capAsked capped cap) (now (book .entry)) variable) ⌝ }
 {
-    variable_of(book, variable)
+    variable_of(cap_from(capped, cap), book, variable)
 }
 
 // An old book rewritten in the format in force, in the output.

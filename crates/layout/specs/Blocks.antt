@@ -28,6 +28,10 @@ firstMost = maxNodes + maxTrains * (intervalsMost * widthMost)
 abbrev pub baseMost : ℕ
 baseMost = firstMost + intervalsMost * widthMost
 
+-- and so many variables a formula has at most, with those of a counter
+abbrev pub variablesMost : ℕ
+variablesMost = firstMost + maxNodes * maxNodes
+
 -- what is known of a block before its interval is: the train's numbers, and a first variable that leaves room for the block
 pub record BlockHeld (b : BookStruct) (k : Block) : Type 0 where
   pub passed : Passed b

@@ -1,17 +1,20 @@
 // The numbering of the formula's variables, counted from 0: the nodes' borders, then by train and
 // interval its runs, gone, and one claim a segment. So of an interval whose first variable is `base`, of
 // a train with n runs, run r is at base + r, gone at base + n, and the claims lie from base + n + 1 on.
+// The variables of a cap's counter follow all these.
 // Assumes nothing.
+use crate::counter::counter_of;
 use model::Book;
+use model::Cap;
 use model::Counts;
 ghost use mathlib.Core.Path.{_≡_};
 ghost use Prim.Native.Nat.{_+_, _*_, _^_, _≤_, _<_};
 ghost use Rattle.spec.specs.Read.{maxSegments, maxRuns};
-ghost use Rattle.spec.specs.Instance.{instanceOf};
-ghost use Rattle.spec.specs.Formula.{firstVar, base, claimVar, variables};
-ghost use Rattle.spec.specs.Held.{held};
+ghost use Rattle.spec.specs.Instance.{instanceOf, under};
+ghost use Rattle.spec.specs.Formula.{firstVar, base, claimVar, ownVariables, variables};
+ghost use Rattle.spec.specs.Held.{held, heldCap};
 ghost use Rattle.tables.specs.Ready.{Counted};
-ghost use Rattle.layout.specs.Blocks.{intervalsMost, firstMost, baseMost, blockRoom};
+ghost use Rattle.layout.specs.Blocks.{intervalsMost, firstMost, baseMost, blockRoom, variablesMost};
 
 // Gone's variable in the interval whose first variable is `base`, of a train with n runs.
 pub fn gone_variable(base: usize, n: usize) -> usize
@@ -68,12 +71,22 @@ pub fn first_variable(b: Book, counts: Counts, train: usize) -> usize
     first
 }
 
-// How many variables the formula has: those before a train behind the last.
-pub fn variable_count(b: Book, counts: Counts) -> usize
+// How many variables the formula has without a cap, and so where the cap's begin: those before a train
+// behind the last.
+pub fn own_variables(b: Book, counts: Counts) -> usize
     requires { ⌜ Counted b counts ⌝ }
-    ensures { λ r. ⌜ r ≡ variables (instanceOf (held b)) ⌝ }
+    ensures { λ r. ⌜ (r ≡ ownVariables (instanceOf (held b))) × (r ≤ firstMost) ⌝ }
 {
     first_variable(b, counts, b.train_count)
+}
+
+// How many variables the formula has under a cap: the counter's follow all others.
+pub fn variable_count(b: Book, counts: Counts, cap: Cap) -> usize
+    requires { ⌜ Counted b counts ⌝ }
+    ensures { λ r. ⌜ (r ≡ variables (under (heldCap cap) (instanceOf (held b)))) × (r ≤ variablesMost) ⌝ }
+{
+    let c = counter_of(b, cap);
+    own_variables(b, counts) + c.most * c.spare
 }
 
 // The first variable of a train's interval.

@@ -25,6 +25,12 @@ pub const MAX_REACH: usize = 8;
 
 pub const MAX_RUNS: usize = 256;
 
+// P7: at most how many nodes of kind 1 may be set, or no cap.
+pub enum Cap {
+    No,
+    AtMost(usize),
+}
+
 // A number for each train.
 pub type Counts = [usize; MAX_TRAINS];
 

@@ -7,8 +7,7 @@ use Rattle.model.specs.declared.Book.{Book as BookStruct}
 use Rattle.spec.specs.Lists.{Bytes}
 use Rattle.spec.specs.Instance.{Instance, instanceOf}
 use Rattle.spec.specs.Plan.{moveCode}
-use Rattle.spec.specs.Extra.{extraVariables}
-use Rattle.spec.specs.Formula.{width, firstVar, base, runVar, goneVar, variables, ownVariables}
+use Rattle.spec.specs.Formula.{width, firstVar, base, runVar, goneVar, ownVariables}
 use Rattle.spec.specs.Assignment.{assigned, decoded}
 use Rattle.spec.specs.Held.{held}
 use Rattle.demands.proofs.Words.{sum-below}
@@ -26,14 +25,14 @@ module _ (I : Instance) (i : ℕ) where
   interval-next : (t : ℕ) → base I i (t + 1) ≡ base I i t + width I i
   interval-next t = omega (arith, interval-place t, interval-place (t + 1), suc-mul t (width I i))
 
-  -- the intervals end by the next train's first variable, and the trains by the count
+  -- the intervals end by the next train's first variable, and the trains by the count of them all
   pub interval-fits : (t : ℕ) → t < I .intervals → base I i (t + 1) ≤ firstVar I (i + 1)
   interval-fits t h =
       let turn : suc t * width I i ≤ I .intervals * width I i = mul-le-mul-right (width I i) h in
       omega (arith, interval-next t, interval-place t, suc-mul t (width I i), first-next I i)
 
-  pub train-fits : i < I .trains → firstVar I (i + 1) ≤ variables I
-  unfolding variables ownVariables extraVariables firstVar
+  pub train-fits : i < I .trains → firstVar I (i + 1) ≤ ownVariables I
+  unfolding ownVariables firstVar
   train-fits l = omega (arith, first-next I i, sum-below (λ j. I .intervals * width I j) (I .trains) i l)
 
 -- a block of a train that goes by another name

@@ -2,20 +2,20 @@
 -- assignment are. Assumes nothing.
 use mathlib.Core.Path.{_≡_, refl, sym, ap, ap₂, _∙_, subst}
 use mathlib.Core.Bool.{Bool, _||_}
+use mathlib.Core.Option.{Option}
 use Prim.Native.Nat.{ℕ, _+_, _*_, _≤_, _<_}
-use native.Mathlib.Nat.{zero-add}
 use native.Mathlib.Omega.{arith}
-use mathlib.Core.List.{List, _++_, map, append-nil, List·Memᴰ}
-use lib.ListN.{length, getD, drop, replicate, length-append, length-map, length-replicate}
-use lib.Seq.{sets, sets-eq, append-snoc}
+use mathlib.Core.List.{List, _∷_, _++_, map, List·Memᴰ}
+use lib.ListN.{length, getD, replicate, length-append, length-map, length-replicate}
+use lib.Seq.{sets, append-snoc}
 use lib.Dec.{T, eqb, ltb}
 use Rattle.model.specs.declared.Book.{Book as BookStruct}
 use Rattle.spec.specs.Lists.{Bytes, all, any, has, upTo, each, one}
-use Rattle.spec.specs.Instance.{Instance, instanceOf}
+use Rattle.spec.specs.Instance.{Instance, instanceOf, under}
 use Rattle.spec.specs.Sections.{together}
-use Rattle.spec.specs.Plan.{Plan, Move, runs, isGone, bit, planOf}
-use Rattle.spec.specs.Extra.{extraValues}
-use Rattle.spec.specs.Formula.{width, firstVar, variables}
+use Rattle.spec.specs.Plan.{Plan, Move, runs, ofRun, isGone, bit, planOf}
+use Rattle.spec.specs.Cap.{capValues}
+use Rattle.spec.specs.Formula.{width, firstVar, ownVariables, variables}
 use Rattle.spec.specs.Assignment.{claims, encode}
 use Rattle.spec.specs.Entry.{overwrite}
 use Rattle.spec.specs.Held.{held}
@@ -23,15 +23,16 @@ use Rattle.laws.proofs.Tests.{bool-ext, any-iff, eqb-sym}
 use Rattle.laws.proofs.Rows.{any-map}
 use Rattle.laws.proofs.Parts.{length-each, length-upTo, map-same, each-same}
 use Rattle.demands.proofs.Encoding.{length-encode}
-use Rattle.demands.proofs.Extra.{extra-length}
-use Rattle.laws.proofs.Stores.{sets-append}
-use Rattle.tables.proofs.Small.{segments-is, all-variables}
+use Rattle.demands.proofs.Cap.{cap-length}
+use Rattle.laws.proofs.Stores.{sets-append, stored-first}
+use Rattle.tables.proofs.Small.{segments-is, own-variables}
 use Rattle.plan_rules.specs.declared.apart.Stretch.{Stretch}
 use Rattle.plan_rules.specs.Marks.{PlanLabelled, stretchOf, labelsOf, isMarked, marking, touched}
 use Rattle.plan_rules.proofs.Marking.{marked-by, unmarked}
 use Rattle.plan_rules.proofs.Sharing.{here-known, labels-here, labels-few}
 use Rattle.plan_coding.specs.Encoded.{borderBytes, moveBytes, claimBytes, intervalBytes, trainBytes}
 use Rattle.plan_coding.proofs.Rows.{rows-length}
+use Rattle.demands.proofs.Uncapped.{together-same}
 
 -- ---- claims
 
@@ -109,8 +110,8 @@ module _ (I : Instance) (p : Plan) where
   train-place i = ap (λ (n : ℕ). I .nodes + n) (sym (length-each (trainBytes I p) (λ j. I .intervals * width I j) length-train i))
 
   -- all trains' variables are behind the borders
-  pub length-parts : I .nodes + length (each (upTo (I .trains)) (trainBytes I p)) ≡ variables I
-  length-parts = sym (train-place (I .trains)) ∙ all-variables I
+  pub length-parts : I .nodes + length (each (upTo (I .trains)) (trainBytes I p)) ≡ ownVariables I
+  length-parts = sym (train-place (I .trains)) ∙ own-variables I
 
   -- ---- an interval is its move and its claims
 
@@ -122,33 +123,46 @@ module _ (I : Instance) (p : Plan) where
       ∙ sym (sets-append out at (moveBytes m n) (claimBytes I p i t))
       ∙ ap₂ (λ (k : ℕ) (o : Move). sets out at (moveBytes o k ++ claimBytes I p i t)) e f
 
--- ---- an assignment is its borders and its trains
-
-pub encode-parts : (I : Instance) (p : Plan) → borderBytes I p ++ each (upTo (I .trains)) (trainBytes I p) ≡ encode I p
-unfolding encode borderBytes trainBytes intervalBytes moveBytes claimBytes extraValues
-encode-parts I p =
-    ap (λ (bytes : Bytes). map (λ n. bit (p .border n)) (upTo (I .nodes)) ++ bytes)
-    (each-same (trainBytes I p) _ (I .trains) (λ i _. each-same (intervalBytes I p i) _ (I .intervals) (λ t _.
-    append-snoc (map (λ r. bit (runs (p .move i t) (eqb r))) (upTo (I .runs i))) (bit (isGone (p .move i t))) (claimBytes I p i t)))
-    ∙ sym (append-nil _))
-
 pub length-borders : (I : Instance) (p : Plan) → length (borderBytes I p) ≡ I .nodes
 unfolding borderBytes
 length-borders I p = length-map (upTo (I .nodes)) _ ∙ length-upTo (I .nodes)
 
--- the borders from the start on, then the trains behind them
-pub assignment-written : (I : Instance) (p : Plan) (out : Bytes) → variables I ≤ length out
-    → sets (sets out 0 (borderBytes I p)) (I .nodes) (each (upTo (I .trains)) (trainBytes I p)) ≡ overwrite out (encode I p)
-unfolding overwrite
-assignment-written I p out fits =
-    let trains = each (upTo (I .trains)) (trainBytes I p) in
-    let place : I .nodes ≡ 0 + length (borderBytes I p) = omega (arith, length-borders I p) in
-    let size : 0 + length (encode I p) ≤ length out = omega (arith, length-encode I p (extra-length I p)) in
-    ap (λ (k : ℕ). sets (sets out 0 (borderBytes I p)) k trains) place
-    ∙ sym (sets-append out 0 (borderBytes I p) trains)
-    ∙ ap (sets out 0) (encode-parts I p)
-    ∙ sets-eq (encode I p) out 0 size
-    ∙ ap (λ (k : ℕ). encode I p ++ drop k out) (zero-add (length (encode I p)))
+-- ---- an assignment is its borders, its trains and its counter
+
+module _ (cap : Option ℕ) (I : Instance) (p : Plan) where
+  abbrev J : Instance
+  J = under cap I
+
+  -- a cap changes no claim
+  claims-same : (i t : ℕ) → map (λ s. bit (claims I p i t s)) (upTo (I .segments)) ≡ map (λ s. bit (claims J p i t s)) (upTo (I .segments))
+  unfolding claims
+  claims-same i t =
+      map-same _ _ (I .segments) (λ s l. ap bit (sym (λ j. any (λ u. together-same cap I (p .border) u s j) (ofRun (p .move i t) (λ r. I .path i r)))))
+
+  encode-parts : borderBytes I p ++ (each (upTo (I .trains)) (trainBytes I p) ++ capValues J p) ≡ encode J p
+  unfolding encode borderBytes trainBytes intervalBytes moveBytes claimBytes
+  encode-parts =
+      ap (λ (bytes : Bytes). map (λ n. bit (p .border n)) (upTo (I .nodes)) ++ (bytes ++ capValues J p))
+      (each-same (trainBytes I p) _ (I .trains) (λ i _. each-same (intervalBytes I p i) _ (I .intervals) (λ t _.
+      append-snoc (map (λ r. bit (runs (p .move i t) (eqb r))) (upTo (I .runs i))) (bit (isGone (p .move i t))) (claimBytes I p i t)
+      ∙ ap (λ (bytes : Bytes). map (λ r. bit (runs (p .move i t) (eqb r))) (upTo (I .runs i)) ++ (bit (isGone (p .move i t)) ∷ bytes))
+      (claims-same i t))))
+
+  -- the borders from the start on, then the trains behind them, then the counter's values
+  pub assignment-written : (out : Bytes) → variables (under cap I) ≤ length out
+      → sets (sets (sets out 0 (borderBytes I p)) (I .nodes) (each (upTo (I .trains)) (trainBytes I p))) (ownVariables I) (capValues (under cap I) p)
+      ≡ overwrite out (encode (under cap I) p)
+  assignment-written out fits =
+      let trains = each (upTo (I .trains)) (trainBytes I p) in
+      let place : I .nodes ≡ 0 + length (borderBytes I p) = omega (arith, length-borders I p) in
+      let behind : ownVariables I ≡ I .nodes + length trains = sym (length-parts I p) in
+      let size : length (encode J p) ≤ length out = omega (arith, length-encode J p (cap-length J p), fits) in
+      ap (λ (k : ℕ). sets (sets (sets out 0 (borderBytes I p)) (I .nodes) trains) k (capValues J p)) behind
+      ∙ sym (sets-append (sets out 0 (borderBytes I p)) (I .nodes) trains (capValues J p))
+      ∙ ap (λ (k : ℕ). sets (sets out 0 (borderBytes I p)) k (trains ++ capValues J p)) place
+      ∙ sym (sets-append out 0 (borderBytes I p) (trains ++ capValues J p))
+      ∙ ap (sets out 0) encode-parts
+      ∙ stored-first out (encode J p) size
 
 -- the borders of a plan's bytes
 pub borders-of : (I : Instance) (plan : Bytes) → map (λ k. bit (eqb (getD plan k 0) 1)) (upTo (I .nodes)) ≡ borderBytes I (planOf I plan)

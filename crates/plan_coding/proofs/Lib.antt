@@ -3,3 +3,4 @@ pub mod Codes
 pub mod Rows
 pub mod Writing
 pub mod Claims
+pub mod Counts

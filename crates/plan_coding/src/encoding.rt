@@ -1,6 +1,7 @@
 // A plan written as an assignment: a byte 0 or 1 a variable, each at its variable's number. A train
 // claims exactly the sections that its run touches: the run's labels are marked, and a segment is
-// claimed where its label is. Assumes nothing.
+// claimed where its label is. A counter's values follow (`counting`). Assumes nothing.
+use crate::counting::write_counter;
 use layout::blocks::Block;
 use layout::blocks::block_at;
 use layout::blocks::train_block;
@@ -10,6 +11,7 @@ use layout::moves::move_at;
 use layout::numbering::claims_from;
 use layout::numbering::gone_variable;
 use model::Book;
+use model::Cap;
 use model::Counts;
 use model::MAX_SEGMENTS;
 use plan_rules::apart::mark;
@@ -22,12 +24,12 @@ ghost use lib.Seq.{sets};
 ghost use lib.Dec.{eqb};
 ghost use Rattle.spec.specs.Lists.{upTo};
 ghost use Rattle.spec.specs.Read.{maxSegments};
-ghost use Rattle.spec.specs.Instance.{instanceOf};
+ghost use Rattle.spec.specs.Instance.{instanceOf, under};
 ghost use Rattle.spec.specs.Plan as plans;
 ghost use Rattle.spec.specs.Formula.{firstVar, base, variables};
 ghost use Rattle.spec.specs.Assignment as assignment;
 ghost use Rattle.spec.specs.Entry.{overwrite};
-ghost use Rattle.spec.specs.Held.{held};
+ghost use Rattle.spec.specs.Held.{held, heldCap};
 ghost use Rattle.layout.specs.Moves.{heldMove};
 ghost use Rattle.layout.specs.Blocks.{BlockOf};
 ghost use Rattle.plan_rules.specs.Marks.{PlanLabelled, isMarked};
@@ -134,11 +136,20 @@ fn write_train(
     }
 }
 
-// Writes the assignment of a plan over the start of the output.
-pub fn encode(b: Book, counts: Counts, runs: &[u8], labels: &[usize], plan: &[u8], out: &mut [u8])
-    requires { ⌜ PlanLabelled b counts (now runs) (now labels) (now plan) × (variables (instanceOf (held b)) ≤ length (now out)) ⌝ }
+// Writes the assignment of a plan over the start of the output, for the formula under a cap.
+pub fn encode(
+    b: Book,
+    counts: Counts,
+    cap: Cap,
+    runs: &[u8],
+    labels: &[usize],
+    plan: &[u8],
+    out: &mut [u8],
+)
+    requires { ⌜ PlanLabelled b counts (now runs) (now labels) (now plan)
+        × (variables (under (heldCap cap) (instanceOf (held b))) ≤ length (now out)) ⌝ }
     ensures { λ _. ⌜ now (out .exit) ≡ overwrite (now (out .entry))
-        (assignment.encode (instanceOf (held b)) (plans.planOf (instanceOf (held b)) (now (plan .entry)))) ⌝ }
+        (assignment.encode (under (heldCap cap) (instanceOf (held b))) (plans.planOf (instanceOf (held b)) (now (plan .entry)))) ⌝ }
 {
     write_borders(b.node_count, plan, out);
     let trains = b.train_count;
@@ -147,4 +158,5 @@ pub fn encode(b: Book, counts: Counts, runs: &[u8], labels: &[usize], plan: &[u8
         write_train(b, counts, i, runs, labels, plan, out);
         i += 1;
     }
+    write_counter(b, counts, cap, plan, out);
 }

@@ -3,6 +3,8 @@
 use borrow.Author.Tests.{ltb-false}
 use mathlib.Core.Path.{_≡_, refl, ap, ap₂}
 use mathlib.Core.Bool.{Bool, true, false}
+use mathlib.Core.Option.{Option}
+use Prim.Native.Nat.{ℕ}
 use lib.ListN.{length, take}
 use lib.Seq.{take-all}
 use Rattle.spec.specs.Lists.{Bytes, Verdict, refused}
@@ -37,8 +39,8 @@ pub words-lent : 16384 ≡ sliceOf 4
 unfolding sliceOf sliceBytes
 words-lent = refl
 
-pub formula-printed : (s : Bytes) → printed (λ t. t) (unlessLong (isLong s) (formulaText (held s) 16384)) ≡ printFormula s
+pub formula-printed : (cap : Option ℕ) (s : Bytes) → printed (λ t. t) (unlessLong (isLong s) (formulaText cap (held s) 16384)) ≡ printFormula cap s
 unfolding printFormula
-formula-printed s =
+formula-printed cap s =
     ap (λ (v : Verdict Bytes). printed (λ (t : Bytes). t) v)
-    (unless-same (isLong s) λ h. ap₂ formulaText (held-whole s h) words-lent)
+    (unless-same (isLong s) λ h. ap₂ (formulaText cap) (held-whole s h) words-lent)

@@ -6,3 +6,4 @@ pub mod FormulaProgram
 pub mod Texts
 pub mod Lines
 pub mod CheckPrograms
+pub mod Figures

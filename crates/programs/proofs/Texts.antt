@@ -2,6 +2,7 @@
 -- refusal (`refusal-text`), and of a formula that was written (`formula-text`). Assumes nothing.
 use mathlib.Core.Path.{_≡_, refl, sym, ap, ap₂, _∙_, subst}
 use mathlib.Core.Bool.{Bool, true, false}
+use mathlib.Core.Option.{Option}
 use Prim.Native.Nat.{ℕ, zero, suc, _+_, _≤_, _<_}
 use native.Mathlib.Nat.{zero-add}
 use native.Mathlib.Omega.{arith}
@@ -13,14 +14,14 @@ use lib.Seq.{sets, length-sets, sets-eq, take-append-seam}
 use Rattle.spec.specs.Lists.{Bytes, Verdict, accepted, refused, andThen, each}
 use Rattle.spec.specs.Book.{Book}
 use Rattle.spec.specs.Read.{readBook}
-use Rattle.spec.specs.Instance.{Instance, instanceOf}
+use Rattle.spec.specs.Instance.{Instance, instanceOf, under}
 use Rattle.spec.specs.Formula.{formula, variables, wordsOf, dimacsText}
-use Rattle.spec.specs.Entry.{Written, demand, readInstance, formulaWritten, writtenFor, writeFormula, wordsAfter, formulaText, formulaOutput, overwrite, written}
+use Rattle.spec.specs.Entry.{Written, demand, readUnder, formulaWritten, writtenFor, writeFormula, wordsAfter, formulaText, formulaOutput, overwrite, written}
 use Rattle.spec.specs.Programs.{unlessLong, printed, refusalLine}
 use Rattle.laws.proofs.Tests.{leb-iff}
-use Rattle.demands.proofs.Entries.{then-accepted, then-goes, demand-iff, instance-read, read-instance}
+use Rattle.demands.proofs.Entries.{then-accepted, then-goes, demand-iff, instance-read, read-instance, read-under}
 use Rattle.demands.proofs.Reading.{read-well-formed}
-use Rattle.demands.proofs.Wellformed.{sound}
+use Rattle.demands.proofs.Wellformed.{sound, sound-under}
 use Rattle.demands.proofs.Words.{formula-in-range, range-proper, proper}
 use Rattle.programs.specs.Text.{wordsText, taken, headerText}
 use Rattle.programs.proofs.Text.{text-words, taken-some, taken-le}
@@ -75,58 +76,59 @@ pub long-words : {long : Bool} (old : List ℤ) (v : Verdict Written) → long �
 unfolding wordsAfter andThen written overwrite
 long-words old v h = ap (wordsAfter old) (sym (is-long v h))
 
-pub output-words : {long : Bool} (s : Bytes) (old : List ℤ) → long ≡ false
-    → formulaOutput s old ≡ wordsAfter old (unlessLong long (writeFormula s (length old)))
+pub output-words : {long : Bool} (cap : Option ℕ) (s : Bytes) (old : List ℤ) → long ≡ false
+    → formulaOutput cap s old ≡ wordsAfter old (unlessLong long (writeFormula cap s (length old)))
 unfolding formulaOutput
-output-words s old h = ap (wordsAfter old) (sym (not-long (writeFormula s (length old)) h))
+output-words cap s old h = ap (wordsAfter old) (sym (not-long (writeFormula cap s (length old)) h))
 
 -- ---- a refusal
 
-pub refusal-text : (s : Bytes) (room : ℕ) {n d : ℕ} → writeFormula s room ≡ refused n d
-    → refusalLine n d ++ wordsText [] ≡ printed (λ t. t) (formulaText s room)
+pub refusal-text : (cap : Option ℕ) (s : Bytes) (room : ℕ) {n d : ℕ} → writeFormula cap s room ≡ refused n d
+    → refusalLine n d ++ wordsText [] ≡ printed (λ t. t) (formulaText cap s room)
 unfolding formulaText andThen printed wordsText each
-refusal-text s room {n} {d} e =
+refusal-text cap s room {n} {d} e =
     append-nil (refusalLine n d)
     ∙ ap (λ (v : Verdict Written). printed (λ (t : Bytes). t) (andThen v λ _. textOf s)) (sym e)
   where
     textOf : Bytes → Verdict Bytes
-    textOf s = andThen (readInstance s) λ I. accepted (dimacsText (variables I) (formula I))
+    textOf s = andThen (readUnder cap s) λ I. accepted (dimacsText (variables I) (formula I))
 
 -- ---- a formula
 
-written-book : (s : Bytes) (room : ℕ) (w : Written) → writeFormula s room ≡ accepted w
-    → (b : Book) × (readBook s ≡ accepted b) × (w ≡ formulaWritten (instanceOf b)) × (length (wordsOf (formula (instanceOf b))) ≤ room)
+written-book : (cap : Option ℕ) (s : Bytes) (room : ℕ) (w : Written) → writeFormula cap s room ≡ accepted w
+    → (b : Book) × (readBook s ≡ accepted b) × (w ≡ formulaWritten (under cap (instanceOf b)))
+    × (length (wordsOf (formula (under cap (instanceOf b)))) ≤ room)
 unfolding writeFormula writtenFor
-written-book s room w e =
-    let k = then-accepted (readInstance s) _ w e in
-    let r = instance-read s (k .0) (k .1) in
+written-book cap s room w e =
+    let k = then-accepted (readUnder cap s) _ w e in
+    let r = instance-read (λ b. under cap (instanceOf b)) s (k .0) (sym (read-under cap s) ∙ k .1) in
     let j = then-accepted (demand (leb (length (wordsOf (formula (k .0)))) room) 12) _ w (k .2) in
     let fits = leb-iff _ room .0 (demand-iff _ 12 .0 (j .1)) in
-    let same : w ≡ formulaWritten (instanceOf (r .0)) = cc in
+    let same : w ≡ formulaWritten (under cap (instanceOf (r .0))) = cc in
     (r .0, r .1, same, subst (λ (I : Instance). length (wordsOf (formula I)) ≤ room) (r .2) fits)
 
-module _ (s : Bytes) (old : List ℤ) (w : Written) (e : writeFormula s (length old) ≡ accepted w) where
+module _ (cap : Option ℕ) (s : Bytes) (old : List ℤ) (w : Written) (e : writeFormula cap s (length old) ≡ accepted w) where
   abbrev I : Instance
-  I = instanceOf (written-book s (length old) w e .0)
+  I = under cap (instanceOf (written-book cap s (length old) w e .0))
 
   abbrev words : List ℤ
   words = wordsOf (formula I)
 
   is-proper : T (proper (formula I))
   is-proper =
-      let b = written-book s (length old) w e in
-      range-proper (variables I) (formula I) (formula-in-range I (sound (b .0) (read-well-formed s (b .0) (b .1))))
+      let b = written-book cap s (length old) w e in
+      range-proper (variables I) (formula I) (formula-in-range I (sound-under cap (sound (b .0) (read-well-formed s (b .0) (b .1)))))
 
   is-written : w ≡ formulaWritten I
-  is-written = written-book s (length old) w e .2
+  is-written = written-book cap s (length old) w e .2
 
   -- the text that the program prints
-  text-is : formulaText s (length old) ≡ accepted (dimacsText (variables I) (formula I))
+  text-is : formulaText cap s (length old) ≡ accepted (dimacsText (variables I) (formula I))
   unfolding formulaText
   text-is =
-      then-goes _ e ∙ then-goes _ (read-instance s (written-book s (length old) w e .0) (written-book s (length old) w e .1))
+      then-goes _ e ∙ then-goes _ (read-instance cap s (written-book cap s (length old) w e .0) (written-book cap s (length old) w e .1))
 
-  output-is : formulaOutput s old ≡ overwrite old words
+  output-is : formulaOutput cap s old ≡ overwrite old words
   unfolding formulaOutput wordsAfter andThen written formulaWritten
   output-is =
       ap (λ (v : Verdict Written). overwrite old (written (andThen v λ w. accepted (w .words)))) e
@@ -137,9 +139,9 @@ module _ (s : Bytes) (old : List ℤ) (w : Written) (e : writeFormula s (length 
   count-is = ap (λ (w : Written). w .wordCount) is-written
 
   pub count-fits : w .wordCount ≤ length old
-  count-fits = omega (arith, count-is, written-book s (length old) w e .3)
+  count-fits = omega (arith, count-is, written-book cap s (length old) w e .3)
 
-  output-front : take (w .wordCount) (formulaOutput s old) ≡ words
+  output-front : take (w .wordCount) (formulaOutput cap s old) ≡ words
   unfolding overwrite
   output-front =
       ap₂ (λ (n : ℕ) (l : List ℤ). take n l) count-is output-is ∙ take-append-seam words (drop (length words) old)
@@ -148,8 +150,8 @@ module _ (s : Bytes) (old : List ℤ) (w : Written) (e : writeFormula s (length 
   unfolding formulaWritten
   header-is = ap (λ (w : Written). headerText (w .variableCount) (w .clauseCount)) is-written
 
-  pub formula-text : headerText (w .variableCount) (w .clauseCount) ++ wordsText (take (w .wordCount) (formulaOutput s old))
-      ≡ printed (λ t. t) (formulaText s (length old))
+  pub formula-text : headerText (w .variableCount) (w .clauseCount) ++ wordsText (take (w .wordCount) (formulaOutput cap s old))
+      ≡ printed (λ t. t) (formulaText cap s (length old))
   unfolding printed
   formula-text =
       ap₂ (λ (h : Bytes) (ls : List ℤ). h ++ wordsText ls) header-is output-front

@@ -2,3 +2,4 @@ pub mod Text
 pub mod Opening
 pub mod Lines
 pub mod Verdicts
+pub mod Arguments

@@ -1,6 +1,7 @@
 -- The verdict of each program over the checks, and what the program says of it. Assumes nothing.
 use mathlib.Core.Path.{_≡_}
 use mathlib.Core.Bool.{Bool, true, false, cond}
+use mathlib.Core.Option.{Option}
 use Prim.Native.Nat.{ℕ, _≤_}
 use mathlib.Core.List.{[]}
 use lib.ListN.{length}
@@ -19,13 +20,13 @@ use Rattle.programs.specs.Lines.{answerLine, wasAccepted, resultLength}
 unfoldable pub bare : Verdict (Unit {0}) → Verdict Bytes
 bare v = andThen v λ _. accepted []
 
--- the verdict on a book and a second input, with this much room for a result
-unfoldable pub verdictOf : Check → Bytes → Bytes → ℕ → Verdict Bytes
-verdictOf Assignment book s room = bare (checkAssignment book s)
-verdictOf Unpacking book s room = unpackPlan book s room
-verdictOf Plan book s room = checkPlan book s room
-verdictOf Refutation book s room = bare (checkRefutation book s programLent)
-verdictOf Carriers book s room = listCarriers book s room
+-- the verdict on a book and a second input, under a cap or none, with this much room for a result; a plan's carriers know no cap
+unfoldable pub verdictOf : Check → Option ℕ → Bytes → Bytes → ℕ → Verdict Bytes
+verdictOf Assignment cap book s room = bare (checkAssignment cap book s)
+verdictOf Unpacking cap book s room = unpackPlan cap book s room
+verdictOf Plan cap book s room = checkPlan cap book s room
+verdictOf Refutation cap book s room = bare (checkRefutation cap book s programLent)
+verdictOf Carriers cap book s room = listCarriers book s room
 
 -- whether what is accepted has a result
 unfoldable pub hasResult : Check → Bool

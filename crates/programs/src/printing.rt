@@ -6,6 +6,7 @@ use crate::dimacs::put_header;
 use crate::dimacs::put_refusal;
 use crate::dimacs::put_words;
 use libc::STDOUT_FILENO;
+use model::Cap;
 use writing::FormulaAnswer;
 use writing::write_formula;
 ghost use mathlib.Core.Path.{_≡_};
@@ -15,6 +16,7 @@ ghost use Prim.Native.Nat.{_≤_};
 ghost use lib.ListN.{length, take};
 ghost use lib.Seq.{sets};
 ghost use Rattle.io.specs.Counts.{Counts};
+ghost use Rattle.spec.specs.Held.{heldCap};
 ghost use Rattle.spec.specs.Entry.{writeFormula, wordsAfter, formulaText};
 ghost use Rattle.spec.specs.Programs.{unlessLong, printed};
 ghost use Rattle.programs.specs.Text.{wordsText};
@@ -26,19 +28,19 @@ pub struct Opened {
     pub words: usize,
 }
 
-// Makes the text of the formula that the book's bytes hold: its first line, or the line of the
+// Makes the text of the formula, under a cap or none, that the book's bytes hold: its first line, or the line of the
 // refusal, in `line`, and the words whose text follows it in `words`. Where the book is too long, `long`,
 // its bytes are not looked at, and the refusal is 12.
-pub fn open_text(book: &[u8], long: bool, words: &mut [i32], line: &mut [u8]) -> Opened
+pub fn open_text(cap: Cap, book: &[u8], long: bool, words: &mut [i32], line: &mut [u8]) -> Opened
     requires { ⌜ length (now line) ≡ 64 ⌝ }
     ensures { λ r. ⌜ (take (r .len) (now (line .exit)) ++ wordsText (take (r .words) (now (words .exit)))
-        ≡ printed (λ t. t) (unlessLong long (formulaText (now (book .entry)) (length (now (words .entry))))))
-        × (now (line .exit) ≡ sets (now (line .entry)) 0 (firstLine (unlessLong long (writeFormula (now (book .entry)) (length (now (words .entry)))))))
+        ≡ printed (λ t. t) (unlessLong long (formulaText (heldCap cap) (now (book .entry)) (length (now (words .entry))))))
+        × (now (line .exit) ≡ sets (now (line .entry)) 0 (firstLine (unlessLong long (writeFormula (heldCap cap) (now (book .entry)) (length (now (words .entry)))))))
         × (r .len ≤ 64)
-        × (now (words .exit) ≡ wordsAfter (now (words .entry)) (unlessLong long (writeFormula (now (book .entry)) (length (now (words .entry))))))
+        × (now (words .exit) ≡ wordsAfter (now (words .entry)) (unlessLong long (writeFormula (heldCap cap) (now (book .entry)) (length (now (words .entry))))))
         × (r .words ≤ length (now (words .entry)))
-        × (r .len ≡ length (firstLine (unlessLong long (writeFormula (now (book .entry)) (length (now (words .entry)))))))
-        × (r .words ≡ wordsBehind (unlessLong long (writeFormula (now (book .entry)) (length (now (words .entry)))))) ⌝ }
+        × (r .len ≡ length (firstLine (unlessLong long (writeFormula (heldCap cap) (now (book .entry)) (length (now (words .entry)))))))
+        × (r .words ≡ wordsBehind (unlessLong long (writeFormula (heldCap cap) (now (book .entry)) (length (now (words .entry)))))) ⌝ }
 {
     if long {
         return Opened {
@@ -46,7 +48,7 @@ pub fn open_text(book: &[u8], long: bool, words: &mut [i32], line: &mut [u8]) ->
             words: 0,
         };
     }
-    let r = write_formula(book, words);
+    let r = write_formula(cap, book, words);
     match r {
         FormulaAnswer::Refused(number, detail) => Opened {
             len: put_refusal(line, number, detail),
@@ -119,26 +121,26 @@ pub fn print_words(words: &[i32]) {
     }
 }
 
-// Prints the formula of the book that the bytes hold, or its refusal, which is 12 where the book is too
+// Prints the formula, under a cap or none, of the book that the bytes hold, or its refusal, which is 12 where the book is too
 // long. The words have 64 KiB.
-fn print_formula_text(book: &[u8], long: bool) {
+fn print_formula_text(cap: Cap, book: &[u8], long: bool) {
     let mut words = [0i32; 16384];
     let mut line = [0u8; 64];
-    let opened = open_text(book, long, &mut words, &mut line);
+    let opened = open_text(cap, book, long, &mut words, &mut line);
     let n = opened.words;
     if print(&line, opened.len) {
         print_words(&words[..n]);
     }
 }
 
-// Reads a book from an open file and prints its formula, or its refusal; answers whether the book could
+// Reads a book from an open file and prints its formula under a cap or none, or its refusal; answers whether the book could
 // be read.
-pub fn print_formula_from(fd: i32) -> bool {
+pub fn print_formula_from(cap: Cap, fd: i32) -> bool {
     let mut book = io::large_buffer();
     let loaded = load_from(fd, &mut book);
     let n = loaded.len;
     if loaded.read {
-        print_formula_text(&book[..n], loaded.long);
+        print_formula_text(cap, &book[..n], loaded.long);
     }
     loaded.read
 }

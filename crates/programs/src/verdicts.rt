@@ -11,8 +11,10 @@ use carriers::list_carriers;
 use checking::check_assignment;
 use checking::check_plan;
 use checking::unpack_plan;
+use fewest::check_fewest;
 use frames::bytes::put_bytes;
 use graph::print_graph;
+use model::Cap;
 use reader::reading::Answer;
 use reader::reading::OutputAnswer;
 use refutations::check_refutation;
@@ -23,7 +25,8 @@ ghost use lib.ListN.{length};
 ghost use lib.Seq.{sets};
 ghost use lib.IntN.{pos};
 ghost use Rattle.io.specs.Counts.{Counts};
-ghost use Rattle.spec.specs.Entry.{overwrite, written, zeroed, checkAssignment, unpackPlan, checkPlan, checkRefutation};
+ghost use Rattle.spec.specs.Held.{heldCap};
+ghost use Rattle.spec.specs.Entry.{overwrite, written, zeroed, checkAssignment, unpackPlan, checkPlan, checkRefutation, checkFewest};
 ghost use Rattle.spec.specs.Upgrade.{upgradeBook};
 ghost use Rattle.spec.specs.Page.{printGraph};
 ghost use Rattle.spec.specs.Carriers.{listCarriers};
@@ -69,7 +72,7 @@ pub fn say(answer: OutputAnswer, line: &mut [u8]) -> Said
 }
 
 // Stores the line of an answer that has no result.
-fn say_plain(answer: Answer, line: &mut [u8]) -> Said
+pub fn say_plain(answer: Answer, line: &mut [u8]) -> Said
     requires { ⌜ length (now line) ≡ 64 ⌝ }
     ensures { λ r. ⌜ Says (plainAnswer answer) (now (line .entry)) (now (line .exit)) r ⌝ }
 {
@@ -80,35 +83,35 @@ fn say_plain(answer: Answer, line: &mut [u8]) -> Said
 }
 
 // The line of the verdict on an assignment that is judged alone: nothing is lent for a plan.
-fn assignment_text(book: &[u8], values: &[u8], line: &mut [u8]) -> Said
+fn assignment_text(cap: Cap, book: &[u8], values: &[u8], line: &mut [u8]) -> Said
     requires { ⌜ length (now line) ≡ 64 ⌝ }
-    ensures { λ r. ⌜ Tells (bare (checkAssignment (now (book .entry)) (now (values .entry)))) (now (line .entry)) (now (line .exit)) r ⌝ }
+    ensures { λ r. ⌜ Tells (bare (checkAssignment (heldCap cap) (now (book .entry)) (now (values .entry)))) (now (line .entry)) (now (line .exit)) r ⌝ }
 {
-    let answer = check_assignment(book, values);
+    let answer = check_assignment(cap, book, values);
     say_plain(answer, line)
 }
 
 // The line of the verdict on an assignment, and its plan.
-fn unpacking_text(book: &[u8], values: &[u8], plan: &mut [u8], line: &mut [u8]) -> Said
+fn unpacking_text(cap: Cap, book: &[u8], values: &[u8], plan: &mut [u8], line: &mut [u8]) -> Said
     requires { ⌜ length (now line) ≡ 64 ⌝ }
-    ensures { λ r. ⌜ Tells (unpackPlan (now (book .entry)) (now (values .entry)) (length (now (plan .entry))))
+    ensures { λ r. ⌜ Tells (unpackPlan (heldCap cap) (now (book .entry)) (now (values .entry)) (length (now (plan .entry))))
         (now (line .entry)) (now (line .exit)) r
         × (now (plan .exit) ≡ overwrite (now (plan .entry))
-        (written (unpackPlan (now (book .entry)) (now (values .entry)) (length (now (plan .entry)))))) ⌝ }
+        (written (unpackPlan (heldCap cap) (now (book .entry)) (now (values .entry)) (length (now (plan .entry)))))) ⌝ }
 {
-    let answer = unpack_plan(book, values, plan);
+    let answer = unpack_plan(cap, book, values, plan);
     say(answer, line)
 }
 
 // The line of the verdict on a plan, and its assignment.
-fn plan_text(book: &[u8], plan: &[u8], values: &mut [u8], line: &mut [u8]) -> Said
+fn plan_text(cap: Cap, book: &[u8], plan: &[u8], values: &mut [u8], line: &mut [u8]) -> Said
     requires { ⌜ length (now line) ≡ 64 ⌝ }
-    ensures { λ r. ⌜ Tells (checkPlan (now (book .entry)) (now (plan .entry)) (length (now (values .entry))))
+    ensures { λ r. ⌜ Tells (checkPlan (heldCap cap) (now (book .entry)) (now (plan .entry)) (length (now (values .entry))))
         (now (line .entry)) (now (line .exit)) r
         × (now (values .exit) ≡ overwrite (now (values .entry))
-        (written (checkPlan (now (book .entry)) (now (plan .entry)) (length (now (values .entry)))))) ⌝ }
+        (written (checkPlan (heldCap cap) (now (book .entry)) (now (plan .entry)) (length (now (values .entry)))))) ⌝ }
 {
-    let answer = check_plan(book, plan, values);
+    let answer = check_plan(cap, book, plan, values);
     say(answer, line)
 }
 
@@ -126,6 +129,7 @@ fn carriers_text(book: &[u8], plan: &[u8], list: &mut [u8], line: &mut [u8]) -> 
 
 // The line of the verdict on a refutation, which has no result.
 pub fn refutation_text(
+    cap: Cap,
     book: &[u8],
     r: &[u8],
     words: &mut [i32],
@@ -135,27 +139,28 @@ pub fn refutation_text(
     line: &mut [u8],
 ) -> Said
     requires { ⌜ length (now line) ≡ 64 ⌝ }
-    ensures { λ s. ⌜ Tells (bare (checkRefutation (now (book .entry)) (now (r .entry))
+    ensures { λ s. ⌜ Tells (bare (checkRefutation (heldCap cap) (now (book .entry)) (now (r .entry))
         (lengths (now (words .entry)) (now (starts .entry)) (now (values .entry)) (now (trail .entry))))) (now (line .entry)) (now (line .exit)) s
         × (now (words .exit) ≡ zeroed (pos 0) (length (now (words .entry))))
         × (now (starts .exit) ≡ zeroed 0 (length (now (starts .entry))))
         × (now (values .exit) ≡ zeroed 0 (length (now (values .entry))))
         × (now (trail .exit) ≡ zeroed 0 (length (now (trail .entry)))) ⌝ }
 {
-    let answer = check_refutation(book, r, words, starts, values, trail);
+    let answer = check_refutation(cap, book, r, words, starts, values, trail);
     say_plain(answer, line)
 }
 
 // The same, with slices of 64 KiB each.
-fn lent_refutation_text(book: &[u8], r: &[u8], line: &mut [u8]) -> Said
+fn lent_refutation_text(cap: Cap, book: &[u8], r: &[u8], line: &mut [u8]) -> Said
     requires { ⌜ length (now line) ≡ 64 ⌝ }
-    ensures { λ s. ⌜ Tells (bare (checkRefutation (now (book .entry)) (now (r .entry)) programLent)) (now (line .entry)) (now (line .exit)) s ⌝ }
+    ensures { λ s. ⌜ Tells (bare (checkRefutation (heldCap cap) (now (book .entry)) (now (r .entry)) programLent)) (now (line .entry)) (now (line .exit)) s ⌝ }
 {
     let mut words = [0i32; 16384];
     let mut starts = [0usize; 8192];
     let mut values = [0u8; 65536];
     let mut trail = [0usize; 8192];
     refutation_text(
+        cap,
         book,
         r,
         &mut words,
@@ -166,11 +171,61 @@ fn lent_refutation_text(book: &[u8], r: &[u8], line: &mut [u8]) -> Said
     )
 }
 
-// What a program says of a book and a second input: the line of the verdict in `line`, and the result, if
+// The line of the combined verdict on n, with slices of 64 KiB each.
+fn lent_fewest_text(
+    book: &[u8],
+    n: usize,
+    assignment: &[u8],
+    refutation: &[u8],
+    line: &mut [u8],
+) -> Said
+    requires { ⌜ length (now line) ≡ 64 ⌝ }
+    ensures { λ s. ⌜ Tells (bare (checkFewest (now (book .entry)) n (now (assignment .entry)) (now (refutation .entry)) programLent))
+        (now (line .entry)) (now (line .exit)) s ⌝ }
+{
+    let mut words = [0i32; 16384];
+    let mut starts = [0usize; 8192];
+    let mut values = [0u8; 65536];
+    let mut trail = [0usize; 8192];
+    let answer = check_fewest(
+        book,
+        n,
+        assignment,
+        refutation,
+        &mut words,
+        &mut starts,
+        &mut values,
+        &mut trail,
+    );
+    say_plain(answer, line)
+}
+
+// What check_fewest says of a book, n and both of a solver's inputs: the line of the verdict in `line`. Where an
+// input is too long, `long`, none is looked at, and the refusal is 12.
+pub fn fewest_text(
+    book: &[u8],
+    n: usize,
+    assignment: &[u8],
+    refutation: &[u8],
+    long: bool,
+    line: &mut [u8],
+) -> Said
+    requires { ⌜ length (now line) ≡ 64 ⌝ }
+    ensures { λ s. ⌜ Tells (unlessLong long (bare (checkFewest (now (book .entry)) n (now (assignment .entry)) (now (refutation .entry)) programLent)))
+        (now (line .entry)) (now (line .exit)) s ⌝ }
+{
+    if long {
+        return say(OutputAnswer::Refused(12, 0), line);
+    }
+    lent_fewest_text(book, n, assignment, refutation, line)
+}
+
+// What a program says of a book and a second input, under a cap or none: the line of the verdict in `line`, and the result, if
 // there is one, at the start of `out`. Where an input is too long, `long`, neither is looked at, and the
 // refusal is 12.
 pub fn verdict_text(
     check: Check,
+    cap: Cap,
     book: &[u8],
     second: &[u8],
     long: bool,
@@ -178,19 +233,19 @@ pub fn verdict_text(
     line: &mut [u8],
 ) -> Said
     requires { ⌜ length (now line) ≡ 64 ⌝ }
-    ensures { λ r. ⌜ Tells (unlessLong long (verdictOf check (now (book .entry)) (now (second .entry)) (length (now (out .entry)))))
+    ensures { λ r. ⌜ Tells (unlessLong long (verdictOf check (heldCap cap) (now (book .entry)) (now (second .entry)) (length (now (out .entry)))))
         (now (line .entry)) (now (line .exit)) r
         × (now (out .exit) ≡ overwrite (now (out .entry))
-        (written (unlessLong long (verdictOf check (now (book .entry)) (now (second .entry)) (length (now (out .entry))))))) ⌝ }
+        (written (unlessLong long (verdictOf check (heldCap cap) (now (book .entry)) (now (second .entry)) (length (now (out .entry))))))) ⌝ }
 {
     if long {
         return say(OutputAnswer::Refused(12, 0), line);
     }
     match check {
-        Check::Assignment => assignment_text(book, second, line),
-        Check::Unpacking => unpacking_text(book, second, out, line),
-        Check::Plan => plan_text(book, second, out, line),
-        Check::Refutation => lent_refutation_text(book, second, line),
+        Check::Assignment => assignment_text(cap, book, second, line),
+        Check::Unpacking => unpacking_text(cap, book, second, out, line),
+        Check::Plan => plan_text(cap, book, second, out, line),
+        Check::Refutation => lent_refutation_text(cap, book, second, line),
         Check::Carriers => carriers_text(book, second, out, line),
     }
 }
@@ -301,7 +356,7 @@ fn has_result(check: Check) -> bool
 
 // Judges the files of these names: the book, the second input, and the result, if one was named and the
 // check has one. Where an input can't be read, nothing is printed.
-pub fn judge_files(check: Check, book: &[u8], second: &[u8], result: &[u8], named: bool) {
+pub fn judge_files(check: Check, cap: Cap, book: &[u8], second: &[u8], result: &[u8], named: bool) {
     let mut bytes = io::large_buffer();
     let mut more = io::large_buffer();
     let a = load(book, &mut bytes);
@@ -313,8 +368,35 @@ pub fn judge_files(check: Check, book: &[u8], second: &[u8], result: &[u8], name
         let m = b.len;
         let long = a.long || b.long;
         let made = asked(check, named);
-        let said = verdict_text(made, &bytes[..n], &more[..m], long, &mut out, &mut line);
+        let said = verdict_text(
+            made,
+            cap,
+            &bytes[..n],
+            &more[..m],
+            long,
+            &mut out,
+            &mut line,
+        );
         hand_out(said, &line, &out, result, named && has_result(made));
+    }
+}
+
+// Prints the combined verdict on n, by the files of these names. Where one can't be read, nothing is printed.
+pub fn fewest_files(book: &[u8], n: usize, assignment: &[u8], refutation: &[u8]) {
+    let mut bytes = io::large_buffer();
+    let mut yes = io::large_buffer();
+    let mut no = io::large_buffer();
+    let a = load(book, &mut bytes);
+    let b = load(assignment, &mut yes);
+    let c = load(refutation, &mut no);
+    if a.read && b.read && c.read {
+        let mut line = [0u8; 64];
+        let i = a.len;
+        let j = b.len;
+        let k = c.len;
+        let long = a.long || b.long || c.long;
+        let said = fewest_text(&bytes[..i], n, &yes[..j], &no[..k], long, &mut line);
+        print(&line, said.len);
     }
 }
 

@@ -3,6 +3,7 @@
 -- and M, which are old books, are rewritten first. Assumes nothing.
 use mathlib.Core.Path.{_≡_, refl}
 use Prim.Native.Nat.{ℕ, _+_, _*_}
+use mathlib.Core.Option.{Option, none, some}
 use mathlib.Core.List.{List, [], _∷_, _++_, map}
 use lib.ListN.{length, getD, replicate}
 use lib.IntN.{ℤ, pos, negsuc}
@@ -16,17 +17,17 @@ use Rattle.spec.specs.Read.{segmentIn, joinIn, trainIn, callIn, grown, b
 use Rattle.spec.specs.Instance.{placeServes, endsAtExit, mayLeave, trainLength, runAt, callAt, compile, runLists, instanceOf, inWindow, servedAtDeparture, isFree, freeNodesOf}
 use Rattle.spec.specs.Sections.{neighbours, togetherBelow, together, sectionLabels, shareSection}
 use Rattle.spec.specs.Plan.{isAbsent, isGone, runs, ifRun, ofRun, moveCode, moveOf, bit, planBytes, planLength, moveAt, planOf, isBit, isMove, planFits, rule1, absentBefore, departs, rule2, leavesRightly, rule3, runsOn, rule4, keepsCalls, servedBy, rule5, trainsMeet, apartIn, rule6, ruleFaults, brokenRule, keepsRules}
-use Rattle.spec.specs.Extra.{extraVariables, extraClauses, extraCondition, extraValues}
+use Rattle.spec.specs.Cap.{allows, counterFor, counterOf, setCount, setAmong, withinCap, capVariables, countVar, countClause, carryClause, capClauses, capValues}
 use Rattle.spec.specs.Formula.{width, firstVar, base, borderVar, runVar, goneVar, claimVar, ownVariables, variables, clausesB, clausesC, clausesI, clausesD, followersE, clauseE, clausesE, serversF, claimsG, clausesG, clausesH, familyA, familyB, familyC, familyD, familyE, familyF, familyG, familyH, familyI, formula, wordsOf, dimacsOpening, dimacsLine, dimacsText}
 use Rattle.spec.specs.Assignment.{deny, truth, isYes, valueOf, isTrue, holds, satisfies, firstFalse, assigned, assignmentFits, firstRun, chosen, decoded, decode, claims, encode}
 use Rattle.spec.specs.Refutation.{stepPayload, fileOf, literalCount, hintCount, stepIn, variableOf, risesFrom, literalsFit, hintsFit, makeTrue, makeFalse, refuting, isNo, isOpen, clauseAt, notFalse, hinted, goThrough, followsRule, clausesFit, isBad, stepFaults, stepDetail, checkSteps, checkFile}
-use Rattle.spec.specs.Entry.{demand, findNone, readInstance, formulaWritten, writtenFor, writeFormula, formulaText, judgeAssignment, checkAssignment, unpackedFor, unpackPlan, judgePlan, afterPlan, encodedFor, checkPlan, formulaFits, refutedFor, checkRefutation}
+use Rattle.spec.specs.Entry.{demand, findNone, readInstance, readUnder, formulaWritten, writtenFor, writeFormula, formulaText, judgeAssignment, checkAssignment, unpackedFor, unpackPlan, judgePlan, afterPlan, encodedFor, checkPlan, formulaFits, refutedFor, checkRefutation, fewestFits, fewerRefuted, fewestFor, checkFewest}
 use Rattle.spec.specs.Held.{padded}
 use Rattle.spec.specs.Page.{shownRun, shownAbsent, shownGone, shownMove, shownOf, marked, cell, cells, pageLine, page, pageBytes, pageFor, printGraph}
 use Rattle.spec.specs.Carriers.{earliest, meetsHigher, lowerTrain, higherTrain, firstPair, firstMeeting, cleared, carries, carriers, entry, carrierList, carrierRoom, carriersFor, listCarriers}
 use Rattle.spec.specs.Upgrade.{timesWidened, widenedAt, widened, widenedFound, frameWidened, widenedFrom, upgraded, upgradeBook}
-use Rattle.spec.specs.Library.{RunAsked, noTrain, noRun, shown, Meaning, border, run, gone, claim, noVariable, sizesOf, measureBook, bordersFit, labelledFor, labelSections, runAmong, runAsked, askRun, meaningsIn, meanings, meaningOf, askVariable}
-use Rattle.spec.specs.Programs.{sliceBytes, sliceOf, programLent, unlessLong, isLong, acceptedLine, refusalLine, printed, printFormula, printAssignment, printUnpacking, printPlan, printRefutation, printPage, printCarriers}
+use Rattle.spec.specs.Library.{RunAsked, noTrain, noRun, shown, Meaning, border, run, gone, claim, counted, noVariable, sizesOf, measureBook, bordersFit, labelledFor, labelSections, runAmong, runAsked, askRun, meaningsIn, capMeanings, meanings, meaningOf, askVariable}
+use Rattle.spec.specs.Programs.{sliceBytes, sliceOf, programLent, unlessLong, isLong, acceptedLine, refusalLine, printed, printFormula, printAssignment, printUnpacking, printPlan, printRefutation, printFewest, printPage, printCarriers}
 
 -- An answer: rows of numbers, a text or a clause, or a refusal's number and detail.
 pub data Answer : Type 0 where
@@ -242,6 +243,14 @@ crossing = inRow 2 ++ frame 3 (3 ∷ 1 ∷ 1 ∷ []) ++ frame 3 (1 ∷ 4 ∷ 1 �
 stands : List ℕ → Bytes
 stands on = each on (λ s. trainFrame 80 36 (one (2 * s))) ++ each (upTo (length on)) (λ i. callOf i (getD on i 0) 0 1)
 
+-- One train on one segment, and beside it nodes of kind 1, 2, 1 and 1, which no segment touches
+cappedBook : Bytes
+cappedBook = standingBook (0 ∷ 0 ∷ 1 ∷ 2 ∷ 1 ∷ 1 ∷ []) (inRow 1) (stands (0 ∷ []))
+
+-- Two trains on segments of one TTD, which the node of kind 1 between them must divide
+neededBook : Bytes
+neededBook = standingBook (0 ∷ 1 ∷ 0 ∷ []) (inRow 2) (stands (0 ∷ 1 ∷ []))
+
 -- ---- what is asked
 
 -- l and k of the train that was read
@@ -273,28 +282,28 @@ emptyStep : List ℕ → Bytes
 emptyStep hints = fileOf (one (record { literals = []; hints = hints }))
 
 refuted : Bytes → Bytes → Answer
-refuted s r = answered (checkRefutation s r programLent) λ _. yes-accepted
+refuted s r = answered (checkRefutation none s r programLent) λ _. yes-accepted
 
 -- with so many words lent
 refutedWith : ℕ → Bytes → Bytes → Answer
-refutedWith n s r = answered (checkRefutation s r (record { words = n; clauses = 99; values = 99; trail = 99 })) λ _. yes-accepted
+refutedWith n s r = answered (checkRefutation none s r (record { words = n; clauses = 99; values = 99; trail = 99 })) λ _. yes-accepted
 
 totalsOf : Bytes → ℕ → Answer
-totalsOf s n = answered (writeFormula s n) λ w. rows ((w .variableCount ∷ w .clauseCount ∷ w .wordCount ∷ []) ∷ [])
+totalsOf s n = answered (writeFormula none s n) λ w. rows ((w .variableCount ∷ w .clauseCount ∷ w .wordCount ∷ []) ∷ [])
 
 decodes : Bytes → Bytes → ℕ → Answer
-decodes s a n = answered (unpackPlan s a n) text
+decodes s a n = answered (unpackPlan none s a n) text
 
 -- whether an assignment is accepted
 assigns : Bytes → Bytes → Answer
-assigns s a = answered (checkAssignment s a) λ _. yes-accepted
+assigns s a = answered (checkAssignment none s a) λ _. yes-accepted
 
 encodes : Bytes → Bytes → ℕ → Answer
-encodes s p n = answered (checkPlan s p n) text
+encodes s p n = answered (checkPlan none s p n) text
 
 -- whether a plan is accepted
 judged : Bytes → Bytes → Answer
-judged s p = answered (checkPlan s p 99) λ _. yes-accepted
+judged s p = answered (checkPlan none s p 99) λ _. yes-accepted
 
 -- two trains, of which the border at node 1 parts the segments, stand for an interval and are gone
 bothGo : Bytes
@@ -310,6 +319,43 @@ goneAssigned = 0 ∷ 0 ∷ 0 ∷ 1 ∷ 0 ∷ 0 ∷ 0 ∷ 0 ∷ 0 ∷ 0 ∷ 1 ∷
 -- the assignment of book L in which its train stands by run 0
 standsInL : Bytes
 standsInL = 0 ∷ 0 ∷ 1 ∷ 0 ∷ 0 ∷ 1 ∷ []
+
+-- under a cap: the totals; a clause; whether an assignment is accepted; the assignment of a plan; whether a refutation is accepted
+totalsUnder : ℕ → Bytes → Answer
+totalsUnder cap s = answered (writeFormula (some cap) s 99) λ w. rows ((w .variableCount ∷ w .clauseCount ∷ w .wordCount ∷ []) ∷ [])
+
+clauseUnder : ℕ → ℕ → Bytes → Answer
+clauseUnder cap n s = answered (readUnder (some cap) s) λ I. clause (clauseAt (formula I) n)
+
+assignsUnder : ℕ → Bytes → Bytes → Answer
+assignsUnder cap s a = answered (checkAssignment (some cap) s a) λ _. yes-accepted
+
+encodesUnder : ℕ → Bytes → Bytes → ℕ → Answer
+encodesUnder cap s p n = answered (checkPlan (some cap) s p n) text
+
+refutedUnder : ℕ → Bytes → Bytes → Answer
+refutedUnder cap s r = answered (checkRefutation (some cap) s r programLent) λ _. yes-accepted
+
+-- in the capped book: the plan and the assignment without a cap of the train that stands, with these borders at the nodes of kind 1
+cappedPlan : ℕ → ℕ → ℕ → Bytes
+cappedPlan x y z = 0 ∷ 0 ∷ x ∷ 1 ∷ y ∷ z ∷ 0 ∷ 0 ∷ []
+
+cappedValues : ℕ → ℕ → ℕ → Bytes
+cappedValues x y z = 0 ∷ 0 ∷ x ∷ 1 ∷ y ∷ z ∷ 1 ∷ 0 ∷ 0 ∷ 1 ∷ []
+
+-- in the other one: the assignment of the trains that stand, with this border; the refutation under cap 0, whose one clause is 47
+neededValues : ℕ → Bytes
+neededValues x = 0 ∷ x ∷ 0 ∷ 1 ∷ 0 ∷ 0 ∷ 0 ∷ 0 ∷ 1 ∷ 0 ∷ 0 ∷ 0 ∷ 1 ∷ 0 ∷ 0 ∷ 0 ∷ 1 ∷ []
+
+neededRefuted : Bytes
+neededRefuted = emptyStep (25 ∷ 26 ∷ 27 ∷ 28 ∷ 3 ∷ 33 ∷ 47 ∷ 41 ∷ 29 ∷ 30 ∷ 31 ∷ 32 ∷ 14 ∷ 39 ∷ 46 ∷ [])
+
+-- the combined verdict, with what a program lends, and with nothing lent
+fewest : Bytes → ℕ → Bytes → Bytes → Answer
+fewest s n a r = answered (checkFewest s n a r programLent) λ _. yes-accepted
+
+fewestUnlent : Bytes → ℕ → Bytes → Bytes → Answer
+fewestUnlent s n a r = answered (checkFewest s n a r (record { words = 0; clauses = 0; values = 0; trail = 0 })) λ _. yes-accepted
 
 draws : Bytes → Bytes → ℕ → Answer
 draws s p n = answered (printGraph s p n) text
@@ -333,9 +379,15 @@ rewrites : Bytes → ℕ → Answer
 rewrites s n = answered (upgradeBook s n) text
 
 -- what the library is asked beside the entry points
-sizes : Bytes → Answer
-sizes s = answered (measureBook s) λ z.
+sizesOver : Option ℕ → Bytes → Answer
+sizesOver cap s = answered (measureBook cap s) λ z.
     rows ((z .intervals ∷ z .nodes ∷ z .freeNodes ∷ z .segments ∷ z .trains ∷ z .variableCount ∷ z .clauseCount ∷ z .wordCount ∷ z .planBytes ∷ []) ∷ [])
+
+sizes : Bytes → Answer
+sizes = sizesOver none
+
+sizesUnder : ℕ → Bytes → Answer
+sizesUnder cap = sizesOver (some cap)
 
 labels : Bytes → Bytes → ℕ → Answer
 labels s borders n = answered (labelSections s borders n) text
@@ -349,16 +401,20 @@ runShown (shown n l ds) = (n ∷ l ∷ []) ∷ ds ∷ []
 runNumber : Bytes → ℕ → ℕ → Answer
 runNumber s i r = answered (askRun s i r) λ x. rows (runShown x)
 
--- by letters: a node's border, a run, gone, a claim
+-- by letters: a node's border, a run, gone, a claim, a count
 meant : Meaning → List (List ℕ)
 meant (border n) = (98 ∷ n ∷ []) ∷ []
 meant (run i t r) = (114 ∷ i ∷ t ∷ r ∷ []) ∷ []
 meant (gone i t) = (103 ∷ i ∷ t ∷ []) ∷ []
 meant (claim i t s) = (99 ∷ i ∷ t ∷ s ∷ []) ∷ []
+meant (counted n j) = (107 ∷ n ∷ j ∷ []) ∷ []
 meant noVariable = []
 
 variableNumber : Bytes → ℕ → Answer
-variableNumber s v = answered (askVariable s v) λ m. rows (meant m)
+variableNumber s v = answered (askVariable none s v) λ m. rows (meant m)
+
+variableUnder : ℕ → Bytes → ℕ → Answer
+variableUnder cap s v = answered (askVariable (some cap) s v) λ m. rows (meant m)
 
 -- ---- the table
 
@@ -391,7 +447,7 @@ starred =
     ∷ record { asked = sections (tripleBook 0) 2; answer = oneSection }
     -- *Book L's text: "p cnf 6 10", "-1 0", "-2 0", "3 4 5 0", "-3 -4 0", "-3 -5 0", "-4 -5 0", "-4 0", "-5 0", "-3 6 0", "-4 6 0"
     ∷ record {
-      asked = text (printFormula bookL);
+      asked = text (printFormula none bookL);
       answer = text
           (112 ∷ 32 ∷ 99 ∷ 110 ∷ 102 ∷ 32 ∷ 54 ∷ 32 ∷ 49 ∷ 48 ∷ 10
           ∷ 45 ∷ 49 ∷ 32 ∷ 48 ∷ 10
@@ -633,10 +689,78 @@ further =
     ∷ record { asked = assigns [] standsInL; answer = refusal 1 0 }
     ∷ record { asked = decodes [] standsInL 0; answer = refusal 1 0 }
     -- what the command prints, with no third name and with one
-    ∷ record { asked = text (printAssignment bookL standsInL); answer = text acceptedLine }
-    ∷ record { asked = text (printUnpacking bookL standsInL); answer = text acceptedLine }
-    ∷ record { asked = text (printAssignment bookL (0 ∷ 0 ∷ 1 ∷ 0 ∷ 0 ∷ 0 ∷ [])); answer = text (49 ∷ 52 ∷ 32 ∷ 57 ∷ 10 ∷ []) }
-    ∷ record { asked = text (printUnpacking bookL (0 ∷ 0 ∷ 1 ∷ 0 ∷ 0 ∷ 0 ∷ [])); answer = text (49 ∷ 52 ∷ 32 ∷ 57 ∷ 10 ∷ []) }
+    ∷ record { asked = text (printAssignment none bookL standsInL); answer = text acceptedLine }
+    ∷ record { asked = text (printUnpacking none bookL standsInL); answer = text acceptedLine }
+    ∷ record { asked = text (printAssignment none bookL (0 ∷ 0 ∷ 1 ∷ 0 ∷ 0 ∷ 0 ∷ [])); answer = text (49 ∷ 52 ∷ 32 ∷ 57 ∷ 10 ∷ []) }
+    ∷ record { asked = text (printUnpacking none bookL (0 ∷ 0 ∷ 1 ∷ 0 ∷ 0 ∷ 0 ∷ [])); answer = text (49 ∷ 52 ∷ 32 ∷ 57 ∷ 10 ∷ []) }
+    -- P7, three nodes of kind 1 under cap 1: two variables behind all others, five clauses behind family I
+    ∷ record {
+      asked = text (printFormula (some 1) cappedBook);
+      answer = text (
+          112 ∷ 32 ∷ 99 ∷ 110 ∷ 102 ∷ 32 ∷ 49 ∷ 50 ∷ 32 ∷ 49 ∷ 54 ∷ 10
+          ∷ 45 ∷ 49 ∷ 32 ∷ 48 ∷ 10
+          ∷ 45 ∷ 50 ∷ 32 ∷ 48 ∷ 10
+          ∷ 52 ∷ 32 ∷ 48 ∷ 10
+          ∷ 55 ∷ 32 ∷ 56 ∷ 32 ∷ 57 ∷ 32 ∷ 48 ∷ 10
+          ∷ 45 ∷ 55 ∷ 32 ∷ 45 ∷ 56 ∷ 32 ∷ 48 ∷ 10
+          ∷ 45 ∷ 55 ∷ 32 ∷ 45 ∷ 57 ∷ 32 ∷ 48 ∷ 10
+          ∷ 45 ∷ 56 ∷ 32 ∷ 45 ∷ 57 ∷ 32 ∷ 48 ∷ 10
+          ∷ 45 ∷ 56 ∷ 32 ∷ 48 ∷ 10
+          ∷ 45 ∷ 57 ∷ 32 ∷ 48 ∷ 10
+          ∷ 45 ∷ 55 ∷ 32 ∷ 49 ∷ 48 ∷ 32 ∷ 48 ∷ 10
+          ∷ 45 ∷ 56 ∷ 32 ∷ 49 ∷ 48 ∷ 32 ∷ 48 ∷ 10
+          ∷ 45 ∷ 51 ∷ 32 ∷ 49 ∷ 49 ∷ 32 ∷ 48 ∷ 10
+          ∷ 45 ∷ 53 ∷ 32 ∷ 49 ∷ 50 ∷ 32 ∷ 48 ∷ 10
+          ∷ 45 ∷ 49 ∷ 49 ∷ 32 ∷ 49 ∷ 50 ∷ 32 ∷ 48 ∷ 10
+          ∷ 45 ∷ 53 ∷ 32 ∷ 45 ∷ 49 ∷ 49 ∷ 32 ∷ 48 ∷ 10
+          ∷ 45 ∷ 54 ∷ 32 ∷ 45 ∷ 49 ∷ 50 ∷ 32 ∷ 48 ∷ 10
+          ∷ []);
+    }
+    -- under cap 0 each node is denied; under cap 2 the band is one wide; "A cap not below the count of kind 1 nodes adds nothing"
+    ∷ record { asked = totalsUnder 0 cappedBook; answer = rows ((10 ∷ 14 ∷ 35 ∷ []) ∷ []) }
+    ∷ record { asked = clauseUnder 0 13 cappedBook; answer = clause (one (negsuc 4)) }
+    ∷ record { asked = totalsUnder 2 cappedBook; answer = rows ((12 ∷ 14 ∷ 39 ∷ []) ∷ []) }
+    ∷ record { asked = clauseUnder 2 13 cappedBook; answer = clause (negsuc 4 ∷ negsuc 10 ∷ pos 12 ∷ []) }
+    ∷ record { asked = totalsUnder 3 cappedBook; answer = rows ((10 ∷ 11 ∷ 29 ∷ []) ∷ []) }
+    ∷ record { asked = totalsUnder 99 cappedBook; answer = rows ((10 ∷ 11 ∷ 29 ∷ []) ∷ []) }
+    ∷ record { asked = totalsOf cappedBook 99; answer = rows ((10 ∷ 11 ∷ 29 ∷ []) ∷ []) }
+    -- at most one of three, wherever it is; the counter may say more than is set, never less; 13 by the capped length
+    ∷ record { asked = assignsUnder 1 cappedBook (cappedValues 1 0 0 ++ (1 ∷ 1 ∷ [])); answer = yes-accepted }
+    ∷ record { asked = assignsUnder 1 cappedBook (cappedValues 0 1 0 ++ (0 ∷ 1 ∷ [])); answer = yes-accepted }
+    ∷ record { asked = assignsUnder 1 cappedBook (cappedValues 0 0 1 ++ (0 ∷ 0 ∷ [])); answer = yes-accepted }
+    ∷ record { asked = assignsUnder 1 cappedBook (cappedValues 0 0 0 ++ (1 ∷ 1 ∷ [])); answer = yes-accepted }
+    ∷ record { asked = assignsUnder 1 cappedBook (cappedValues 1 0 0 ++ (0 ∷ 0 ∷ [])); answer = refusal 14 12 }
+    ∷ record { asked = assignsUnder 1 cappedBook (cappedValues 1 1 0 ++ (1 ∷ 1 ∷ [])); answer = refusal 14 15 }
+    ∷ record { asked = assignsUnder 1 cappedBook (cappedValues 1 0 1 ++ (1 ∷ 1 ∷ [])); answer = refusal 14 16 }
+    ∷ record { asked = assignsUnder 1 cappedBook (cappedValues 1 0 0); answer = refusal 13 0 }
+    ∷ record { asked = assignsUnder 3 cappedBook (cappedValues 1 1 1); answer = yes-accepted }
+    -- a plan within the cap gives the counter its counts; 12 by the capped variables; 22 behind 16, and nothing in between
+    ∷ record { asked = encodesUnder 1 cappedBook (cappedPlan 1 0 0) 12; answer = text (cappedValues 1 0 0 ++ (1 ∷ 1 ∷ [])) }
+    ∷ record { asked = encodesUnder 1 cappedBook (cappedPlan 0 1 0) 12; answer = text (cappedValues 0 1 0 ++ (0 ∷ 1 ∷ [])) }
+    ∷ record { asked = encodesUnder 1 cappedBook (cappedPlan 0 0 1) 12; answer = text (cappedValues 0 0 1 ++ (0 ∷ 0 ∷ [])) }
+    ∷ record { asked = encodesUnder 2 cappedBook (cappedPlan 1 1 0) 12; answer = text (cappedValues 1 1 0 ++ (1 ∷ 1 ∷ [])) }
+    ∷ record { asked = encodesUnder 1 cappedBook (cappedPlan 1 0 0) 11; answer = refusal 12 0 }
+    ∷ record { asked = encodesUnder 1 cappedBook (cappedPlan 1 1 0) 12; answer = refusal 22 0 }
+    ∷ record { asked = encodesUnder 0 cappedBook (cappedPlan 0 0 1) 12; answer = refusal 22 0 }
+    ∷ record { asked = encodesUnder 1 cappedBook (1 ∷ 0 ∷ 1 ∷ 1 ∷ 1 ∷ 0 ∷ 0 ∷ 0 ∷ []) 12; answer = refusal 16 1 }
+    ∷ record { asked = encodesUnder 3 cappedBook (cappedPlan 1 1 1) 10; answer = text (cappedValues 1 1 1) }
+    -- a refutation under a cap is none without it; one border is the fewest here
+    ∷ record { asked = refutedUnder 0 neededBook neededRefuted; answer = yes-accepted }
+    ∷ record { asked = refuted neededBook neededRefuted; answer = refusal 19 1 }
+    ∷ record { asked = fewest neededBook 1 (neededValues 1) neededRefuted; answer = yes-accepted }
+    -- n wrong by one either way; 14 before 22; an assignment that sets more than it needs
+    ∷ record { asked = fewest neededBook 0 (neededValues 1) neededRefuted; answer = refusal 22 0 }
+    ∷ record { asked = fewest neededBook 2 (neededValues 1) neededRefuted; answer = refusal 22 0 }
+    ∷ record { asked = fewest neededBook 1 (neededValues 0) neededRefuted; answer = refusal 14 41 }
+    ∷ record { asked = fewest neededBook 1 [] neededRefuted; answer = refusal 13 0 }
+    ∷ record { asked = fewest cappedBook 1 (cappedValues 0 1 0) []; answer = refusal 21 0 }
+    -- with n = 0 the refutation is empty, and nothing is asked of the slices
+    ∷ record { asked = fewest cappedBook 0 (cappedValues 0 0 0) []; answer = yes-accepted }
+    ∷ record { asked = fewest cappedBook 0 (cappedValues 0 0 0) neededRefuted; answer = refusal 21 0 }
+    ∷ record { asked = fewestUnlent cappedBook 0 (cappedValues 0 0 0) []; answer = yes-accepted }
+    ∷ record { asked = fewestUnlent cappedBook 1 [] []; answer = refusal 12 0 }
+    -- what the command prints
+    ∷ record { asked = text (printFewest neededBook 1 (neededValues 1) neededRefuted); answer = text acceptedLine }
     -- T is 1 to 256, and at least 1 in an old book; 9 for a TTD that a node of kind 1 or 2 may divide, and only there
     ∷ record { asked = totalsOf (headWith 257 ++ nodeFrame 0 ++ endFrame) 0; answer = refusal 6 0 }
     ∷ record { asked = totalsOf (headWith 0 ++ nodeFrame 0 ++ endFrame) 0; answer = refusal 6 0 }
@@ -679,6 +803,12 @@ asked =
     ∷ record { asked = variableNumber dividedBook 8; answer = rows ((103 ∷ 0 ∷ 0 ∷ []) ∷ []) }
     ∷ record { asked = variableNumber dividedBook 10; answer = rows ((99 ∷ 0 ∷ 0 ∷ 1 ∷ []) ∷ []) }
     ∷ record { asked = variableNumber dividedBook 11; answer = rows [] }
+    -- under cap 1 of the capped book two variables more: at least one of the nodes of kind 1 up to 2, and up to 4
+    ∷ record { asked = sizesUnder 1 cappedBook; answer = rows ((1 ∷ 6 ∷ 3 ∷ 1 ∷ 1 ∷ 12 ∷ 16 ∷ 44 ∷ 8 ∷ []) ∷ []) }
+    ∷ record { asked = variableUnder 1 cappedBook 11; answer = rows ((107 ∷ 2 ∷ 1 ∷ []) ∷ []) }
+    ∷ record { asked = variableUnder 1 cappedBook 12; answer = rows ((107 ∷ 4 ∷ 1 ∷ []) ∷ []) }
+    ∷ record { asked = variableUnder 1 cappedBook 13; answer = rows [] }
+    ∷ record { asked = variableUnder 2 cappedBook 12; answer = rows ((107 ∷ 4 ∷ 2 ∷ []) ∷ []) }
     ∷ []
 
 -- the three tables
@@ -687,7 +817,8 @@ table = starred ++ (further ++ asked)
 
 pub cases : map (λ c. c .asked) table ≡ map (λ c. c .answer) table
 unfolding
-    table starred further asked answered sizes labels runShown runNumber meant variableNumber oldL bookL newL oldM oldHead oldAt oldTwice longBook time headWith headFrame trainFrom callOf passingBook bookN facingBook speedBook leavingBook platform oldPlatform partingBook thirdBook judged bothGo standsAndGoes goneAssigned standsInL callingBook unbreakableBook refutedWith dividedBook totalsOf decodes assigns encodes nodeFrame segmentFrame trainFrame callFrame endFrame pairBook joinFrame bookM tripleBook rewrites reach times runList sections oneSection clauseNumber emptyStep refuted
+    cappedBook neededBook totalsUnder clauseUnder assignsUnder encodesUnder refutedUnder cappedPlan cappedValues neededValues neededRefuted fewest fewestUnlent
+    table starred further asked answered sizesOver sizes sizesUnder variableUnder labels runShown runNumber meant variableNumber oldL bookL newL oldM oldHead oldAt oldTwice longBook time headWith headFrame trainFrom callOf passingBook bookN facingBook speedBook leavingBook platform oldPlatform partingBook thirdBook judged bothGo standsAndGoes goneAssigned standsInL callingBook unbreakableBook refutedWith dividedBook totalsOf decodes assigns encodes nodeFrame segmentFrame trainFrame callFrame endFrame pairBook joinFrame bookM tripleBook rewrites reach times runList sections oneSection clauseNumber emptyStep refuted
     count upTo range each only all any pick empty lastOr same has different sumTo leastFrom firstFault andThen
     littleEndian number field signed unsigned digits decimal decimalZ nearest
     frame payloadLength kindField payloadOf behind cutShort kindNumber isKind stepKind kindOrder findKind rankIn rank lengthFits stepLengthFits
@@ -698,13 +829,13 @@ unfolding
     neighbours togetherBelow together sectionLabels shareSection
     sizesOf measureBook bordersFit labelledFor labelSections runAmong runAsked askRun meaningsIn meanings meaningOf askVariable
     isAbsent isGone runs ifRun ofRun moveCode moveOf bit planBytes planLength moveAt planOf isBit isMove planFits rule1 absentBefore departs rule2 leavesRightly rule3 runsOn rule4 keepsCalls servedBy rule5 trainsMeet apartIn rule6 ruleFaults brokenRule keepsRules
-    extraVariables extraClauses extraCondition extraValues
+    allows counterFor counterOf setCount setAmong withinCap capVariables countVar countClause carryClause capClauses capValues capMeanings
     width firstVar base borderVar runVar goneVar claimVar ownVariables variables clausesB clausesC clausesI clausesD followersE clauseE clausesE serversF claimsG clausesG clausesH familyA familyB familyC familyD familyE familyF familyG familyH familyI formula wordsOf dimacsOpening dimacsLine dimacsText
     deny truth isYes valueOf isTrue holds satisfies firstFalse assigned assignmentFits firstRun chosen decoded decode claims encode
     stepPayload fileOf literalCount hintCount stepIn variableOf risesFrom literalsFit hintsFit makeTrue makeFalse refuting isNo isOpen clauseAt notFalse hinted goThrough followsRule clausesFit isBad stepFaults stepDetail checkSteps checkFile
-    demand findNone readInstance formulaWritten writtenFor writeFormula formulaText judgeAssignment checkAssignment unpackedFor unpackPlan judgePlan afterPlan encodedFor checkPlan formulaFits refutedFor checkRefutation
+    demand findNone readInstance readUnder formulaWritten writtenFor writeFormula formulaText judgeAssignment checkAssignment unpackedFor unpackPlan judgePlan afterPlan encodedFor checkPlan formulaFits refutedFor checkRefutation fewestFits fewerRefuted fewestFor checkFewest
     padded inDigits aligned shownMove shownOf marked cell cells pageLine page pageBytes pageFor printGraph draws lineOf rowBook
     earliest meetsHigher lowerTrain higherTrain firstPair firstMeeting cleared carries carriers entry carrierList carrierRoom carriersFor listCarriers lists standing standingBook inRow ringOfFour fork crossing stands stay
     timesWidened widenedAt widened widenedFound frameWidened widenedFrom upgraded upgradeBook
-    sliceBytes sliceOf programLent unlessLong isLong acceptedLine refusalLine printed printFormula printAssignment printUnpacking printPlan printRefutation printPage printCarriers
+    sliceBytes sliceOf programLent unlessLong isLong acceptedLine refusalLine printed printFormula printAssignment printUnpacking printPlan printRefutation printFewest printPage printCarriers
 cases = refl

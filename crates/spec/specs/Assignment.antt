@@ -10,7 +10,7 @@ use Rattle.spec.specs.Lists.{Bytes, any, all, upTo, each}
 use Rattle.spec.specs.Instance.{Instance}
 use Rattle.spec.specs.Sections.{together}
 use Rattle.spec.specs.Plan.{Plan, Move, run, absent, gone, isGone, runs, ofRun, bit, isBit, planBytes}
-use Rattle.spec.specs.Extra.{extraValues}
+use Rattle.spec.specs.Cap.{capValues}
 use Rattle.spec.specs.Formula.{Literal, Clause, runVar, goneVar, borderVar, variables}
 
 -- What is known of a variable: nothing, or its value.
@@ -89,4 +89,4 @@ encode I p =
     ++ ((each (upTo (I .trains)) λ i. each (upTo (I .intervals)) λ t.
         map (λ r. bit (runs (p .move i t) (eqb r))) (upTo (I .runs i))
         ++ (bit (isGone (p .move i t)) ∷ map (λ s. bit (claims I p i t s)) (upTo (I .segments))))
-    ++ extraValues I p)
+    ++ capValues I p)

@@ -8,7 +8,7 @@ use lib.IntN.{ℤ, pos, negsuc}
 use Rattle.spec.specs.Lists.{Bytes, upTo, range, each, only, one, sumTo}
 use Rattle.spec.specs.Numbers.{decimal, decimalZ}
 use Rattle.spec.specs.Instance.{Instance, inWindow, servedAtDeparture}
-use Rattle.spec.specs.Extra.{extraVariables, extraClauses}
+use Rattle.spec.specs.Cap.{capVariables, capClauses}
 
 abbrev pub Literal : Type 0
 Literal = ℤ
@@ -80,7 +80,7 @@ module _ (I : Instance) where
   ownVariables = firstVar (I .trains)
 
   unfoldable pub variables : ℕ
-  variables = ownVariables + extraVariables I
+  variables = ownVariables + capVariables I
 
   -- ---- the clauses of one interval of train i; x is its first variable
 
@@ -162,7 +162,7 @@ module _ (I : Instance) where
 
   -- "Clauses, families outermost"; clause c of the text is at c - 1
   unfoldable pub formula : List Clause
-  formula = familyA ++ (familyB ++ (familyC ++ (familyD ++ (familyE ++ (familyF ++ (familyG ++ (familyH ++ (familyI ++ extraClauses I ownVariables))))))))
+  formula = familyA ++ (familyB ++ (familyC ++ (familyD ++ (familyE ++ (familyF ++ (familyG ++ (familyH ++ (familyI ++ capClauses I ownVariables))))))))
 
 -- ---- words and text
 

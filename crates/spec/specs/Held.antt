@@ -2,9 +2,12 @@
 -- Assumes nothing.
 use Prim.Native.Nat.{ℕ, _-_, _*_, _≤_, _<_}
 use mathlib.Core.List.{List, _++_, map}
+use mathlib.Core.Option.{Option, none, some}
 use lib.ListN.{length, take, replicate}
 use Rattle.model.specs.declared.Book.{Book as BookStruct}
 use Rattle.model.specs.declared.Train.{Train as TrainStruct}
+use Rattle.model.specs.declared.Cap.{Cap as CapEnum}
+use Rattle.model.specs.declared.Cap.the-variants.{No, AtMost}
 use Rattle.spec.specs.Book.{Book, Segment, Join, Train, Call}
 use Rattle.spec.specs.Read.{maxNodes, maxSegments, maxJoins, maxTrains, maxCalls, maxReach}
 
@@ -26,6 +29,11 @@ held b = record
   ; joins = take (b .«join_count») (b .joins)
   ; trains = map heldTrain (take (b .«train_count») (b .trains))
   ; calls = take (b .«call_count») (b .calls) }
+
+-- P7: the cap that the enum holds, or none
+abbrev pub heldCap : CapEnum → Option ℕ
+heldCap No = none
+heldCap (AtMost c) = some c
 
 -- each count is at most the length of its row
 pub record CountsFit (b : BookStruct) : Type 0 where

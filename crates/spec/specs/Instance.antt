@@ -4,6 +4,7 @@
 use mathlib.Core.Bool.{Bool, not, _&&_}
 use Prim.Native.Nat.{ℕ, _-_}
 use mathlib.Core.List.{List, [], map}
+use mathlib.Core.Option.{Option, none, some}
 use lib.ListN.{length, getD}
 use Rattle.spec.specs.Lists.{same, lastOr, pick, upTo}
 use Rattle.spec.specs.Book.{Book, Call, nodeKindAt, trainAt, callsOf, noCall, goalOf}
@@ -38,6 +39,8 @@ pub record Instance : Type 0 where
   pub servedAtStart : ℕ → ℕ → Bool
   -- by train, call and run: the place where the run ends serves it
   pub serves : ℕ → ℕ → ℕ → Bool
+  -- P7: how many nodes of kind 1 may be set at most, or no cap
+  pub cap : Option ℕ
 
 -- whether a place serves a call: "the train's place contains the segment"
 unfoldable pub placeServes : Book → Call → List ℕ → Bool
@@ -83,6 +86,7 @@ compile b lists = record
   ; last = λ i c. callAt b i c .last
   ; servedAtStart = λ i c. placeServes b (callAt b i c) (trainAt b i .place)
   ; serves = λ i c r. placeServes b (callAt b i c) (endPlace (trainLength b i) (runAt lists i r))
+  ; cap = none
   }
 
 -- the run lists, by train
@@ -91,6 +95,31 @@ runLists b = map (runsOf b) (b .trains)
 
 unfoldable pub instanceOf : Book → Instance
 instanceOf b = compile b (runLists b)
+
+-- P7, "The formula takes a cap": the same book under a cap, or without one. A book itself has none.
+abbrev pub under : Option ℕ → Instance → Instance
+under cap I = record
+  { nodes = I .nodes
+  ; segments = I .segments
+  ; trains = I .trains
+  ; intervals = I .intervals
+  ; denied = I .denied
+  ; forced = I .forced
+  ; meet = I .meet
+  ; departure = I .departure
+  ; runs = I .runs
+  ; calls = I .calls
+  ; given = I .given
+  ; path = I .path
+  ; moved = I .moved
+  ; leaves = I .leaves
+  ; follows = I .follows
+  ; first = I .first
+  ; last = I .last
+  ; servedAtStart = I .servedAtStart
+  ; serves = I .serves
+  ; cap = cap
+  }
 
 -- "at some time from first to last"
 unfoldable pub inWindow : Instance → ℕ → ℕ → ℕ → Bool

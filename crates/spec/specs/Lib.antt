@@ -12,7 +12,7 @@ pub mod Held
 pub mod Instance
 pub mod Sections
 pub mod Plan
-pub mod Extra
+pub mod Cap
 pub mod Formula
 pub mod Assignment
 pub mod Refutation

@@ -2,8 +2,9 @@
 -- second time: a book's sizes, the sections under a set of borders, a train's runs, and what a variable stands for. What is not
 -- there is a case of its own, with no number of document 01's. Assumes nothing.
 use mathlib.Core.Bool.{Bool, true, false, _&&_}
-use Prim.Native.Nat.{ℕ, zero, suc}
+use Prim.Native.Nat.{ℕ, zero, suc, _+_}
 use mathlib.Core.List.{List, [], _∷_, _++_, map}
+use mathlib.Core.Option.{Option}
 use lib.ListN.{length, getD}
 use lib.Dec.{leb, ltb, eqb}
 use Rattle.spec.specs.Lists.{Bytes, all, upTo, each, Verdict, accepted, andThen}
@@ -13,8 +14,9 @@ use Rattle.spec.specs.Runs.{runsOf}
 use Rattle.spec.specs.Instance.{Instance, trainLength, freeNodesOf}
 use Rattle.spec.specs.Sections.{sectionLabels}
 use Rattle.spec.specs.Plan.{planLength, bordersOf, isBit}
+use Rattle.spec.specs.Cap.{counterOf}
 use Rattle.spec.specs.Formula.{formula, variables, wordsOf}
-use Rattle.spec.specs.Entry.{demand, overwrite, written, readInstance}
+use Rattle.spec.specs.Entry.{demand, overwrite, written, readInstance, readUnder}
 
 -- ---- the sizes of a book: what it counts, and how much its outputs need
 
@@ -41,8 +43,8 @@ sizesOf I = record
   ; wordCount = length (wordsOf (formula I))
   ; planBytes = planLength I }
 
-unfoldable pub measureBook : Bytes → Verdict Sizes
-measureBook book = andThen (readInstance book) λ I. accepted (sizesOf I)
+unfoldable pub measureBook : Option ℕ → Bytes → Verdict Sizes
+measureBook cap book = andThen (readUnder cap book) λ I. accepted (sizesOf I)
 
 -- ---- the sections under a set of borders; lent: an output of a byte a segment
 
@@ -92,19 +94,28 @@ pub data Meaning : Type 0 where
   run : ℕ → ℕ → ℕ → Meaning
   gone : ℕ → ℕ → Meaning
   claim : ℕ → ℕ → ℕ → Meaning
+  -- under a cap: of the nodes of kind 1 up to this one at least so many are set
+  counted : ℕ → ℕ → Meaning
   noVariable : Meaning
 
 -- "by train and interval: its runs, gone, and one claim a segment"
 unfoldable pub meaningsIn : Instance → ℕ → ℕ → List Meaning
 meaningsIn I i t = map (run i t) (upTo (I .runs i)) ++ (gone i t ∷ map (claim i t) (upTo (I .segments)))
 
--- "Variables: node borders 1 to N; then by train and interval": what they stand for, in their order
+-- the cap's, in their order (`Cap`): node j + k is the last of the first j + k + 1 nodes of kind 1
+unfoldable pub capMeanings : Instance → List Meaning
+capMeanings I = each (upTo (counterOf I .most)) λ j.
+    map (λ k. counted (getD (freeNodesOf I) (j + k) 0) (suc j)) (upTo (counterOf I .spare))
+
+-- "Variables: node borders 1 to N; then by train and interval": what they stand for, in their order; the cap's "follow all others"
 unfoldable pub meanings : Instance → List Meaning
-meanings I = map border (upTo (I .nodes)) ++ each (upTo (I .trains)) λ i. each (upTo (I .intervals)) λ t. meaningsIn I i t
+meanings I =
+    map border (upTo (I .nodes))
+    ++ ((each (upTo (I .trains)) λ i. each (upTo (I .intervals)) λ t. meaningsIn I i t) ++ capMeanings I)
 
 unfoldable pub meaningOf : Instance → ℕ → Meaning
 meaningOf I zero = noVariable
 meaningOf I (suc v) = getD (meanings I) v noVariable
 
-unfoldable pub askVariable : Bytes → ℕ → Verdict Meaning
-askVariable book v = andThen (readInstance book) λ I. accepted (meaningOf I v)
+unfoldable pub askVariable : Option ℕ → Bytes → ℕ → Verdict Meaning
+askVariable cap book v = andThen (readUnder cap book) λ I. accepted (meaningOf I v)

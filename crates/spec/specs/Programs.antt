@@ -3,12 +3,13 @@
 use mathlib.Core.Bool.{Bool, true, false, _||_}
 use Prim.Native.Nat.{ℕ, _/_}
 use mathlib.Core.List.{[], _∷_, _++_}
+use mathlib.Core.Option.{Option}
 use lib.ListN.{length}
 use lib.Dec.{ltb}
 use Rattle.spec.specs.Lists.{Bytes, Verdict, accepted, refused}
 use Rattle.spec.specs.Numbers.{decimal}
 use Rattle.spec.specs.Refutation.{Lent}
-use Rattle.spec.specs.Entry.{formulaText, checkAssignment, unpackPlan, checkPlan, checkRefutation}
+use Rattle.spec.specs.Entry.{formulaText, checkAssignment, unpackPlan, checkPlan, checkRefutation, checkFewest}
 use Rattle.spec.specs.Upgrade.{upgradeBook}
 use Rattle.spec.specs.Page.{printGraph}
 use Rattle.spec.specs.Carriers.{listCarriers}
@@ -45,23 +46,29 @@ printed show (accepted a) = show a
 printed show (refused n d) = refusalLine n d
 
 -- print_formula, with the book on standard input
-unfoldable pub printFormula : Bytes → Bytes
-printFormula book = printed (λ t. t) (unlessLong (isLong book) (formulaText book (sliceOf 4)))
+unfoldable pub printFormula : Option ℕ → Bytes → Bytes
+printFormula cap book = printed (λ t. t) (unlessLong (isLong book) (formulaText cap book (sliceOf 4)))
 
 -- check_assignment, check_plan and check_refutation, with the book and the second input; either may be too long. With no third name
 -- check_assignment judges, and lends no plan slice;
-unfoldable pub printAssignment : Bytes → Bytes → Bytes
-printAssignment book s = printed (λ _. acceptedLine) (unlessLong (isLong book || isLong s) (checkAssignment book s))
+unfoldable pub printAssignment : Option ℕ → Bytes → Bytes → Bytes
+printAssignment cap book s = printed (λ _. acceptedLine) (unlessLong (isLong book || isLong s) (checkAssignment cap book s))
 
 -- with one it unpacks the plan, which goes to that file
-unfoldable pub printUnpacking : Bytes → Bytes → Bytes
-printUnpacking book s = printed (λ _. acceptedLine) (unlessLong (isLong book || isLong s) (unpackPlan book s (sliceOf 1)))
+unfoldable pub printUnpacking : Option ℕ → Bytes → Bytes → Bytes
+printUnpacking cap book s = printed (λ _. acceptedLine) (unlessLong (isLong book || isLong s) (unpackPlan cap book s (sliceOf 1)))
 
-unfoldable pub printPlan : Bytes → Bytes → Bytes
-printPlan book s = printed (λ _. acceptedLine) (unlessLong (isLong book || isLong s) (checkPlan book s (sliceOf 1)))
+unfoldable pub printPlan : Option ℕ → Bytes → Bytes → Bytes
+printPlan cap book s = printed (λ _. acceptedLine) (unlessLong (isLong book || isLong s) (checkPlan cap book s (sliceOf 1)))
 
-unfoldable pub printRefutation : Bytes → Bytes → Bytes
-printRefutation book s = printed (λ _. acceptedLine) (unlessLong (isLong book || isLong s) (checkRefutation book s programLent))
+unfoldable pub printRefutation : Option ℕ → Bytes → Bytes → Bytes
+printRefutation cap book s = printed (λ _. acceptedLine) (unlessLong (isLong book || isLong s) (checkRefutation cap book s programLent))
+
+-- check_fewest, with the book, n and both of a solver's inputs; each of the three may be too long
+unfoldable pub printFewest : Bytes → ℕ → Bytes → Bytes → Bytes
+printFewest book n assignment refutation =
+    printed (λ _. acceptedLine)
+    (unlessLong (isLong book || isLong assignment || isLong refutation) (checkFewest book n assignment refutation programLent))
 
 -- upgrade_book, with the old book; the new one goes to a file
 unfoldable pub printUpgrade : Bytes → Bytes

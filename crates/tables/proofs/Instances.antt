@@ -1,15 +1,16 @@
 -- From the answer to a book's bytes: the struct holds a book that passed, and a check of it goes on from its instance; or the check
 -- stops with the book's refusal. And the tables that an entry point lends for it: how long they are, and what they are ready for
 -- afterwards. Assumes nothing.
-use mathlib.Core.Path.{_≡_, sym, ap, _∙_, subst}
+use mathlib.Core.Path.{_≡_, refl, sym, ap, _∙_, subst}
+use mathlib.Core.Option.{Option}
 use Prim.Native.Nat.{ℕ, _≤_, _<_}
 use lib.ListN.{length, take, getD, replicate, length-replicate}
 use Rattle.spec.specs.Lists.{Bytes, Verdict, accepted, refused, andThen}
 use Rattle.spec.specs.Book.{Book}
 use Rattle.spec.specs.Read.{readBook}
-use Rattle.spec.specs.Instance.{Instance, instanceOf}
+use Rattle.spec.specs.Instance.{Instance, instanceOf, under}
 use Rattle.spec.specs.Held.{held, packed}
-use Rattle.spec.specs.Entry.{readInstance}
+use Rattle.spec.specs.Entry.{readInstance, readUnder}
 use Rattle.listing.specs.Listed.{runCounts, tableBytes}
 use Rattle.reader.proofs.Packing.{held-packed}
 use Rattle.reader.specs.declared.reading.Answer.the-variants.{Accepted, Refused}
@@ -23,6 +24,18 @@ use Rattle.tables.specs.Meets.{meetRoom}
 use Rattle.tables.specs.Ready.{RunsReady, MeetsReady}
 use Rattle.tables.specs.declared.preparing.Prepared.{Prepared}
 use Rattle.tables.proofs.Passing.{passed-read}
+
+-- under a cap a check goes on from the same instance, with the cap
+through : {A : Type 0} (cap : Option ℕ) (v : Verdict Instance) (f : Instance → Verdict A)
+    → andThen (andThen v λ I. accepted (under cap I)) f ≡ andThen v (λ I. f (under cap I))
+unfolding andThen
+through cap (accepted I) f = refl
+through cap (refused n d) f = refl
+
+pub read-through : {A : Type 0} (cap : Option ℕ) (bytes : Bytes) (f : Instance → Verdict A)
+    → andThen (readUnder cap bytes) f ≡ andThen (readInstance bytes) (λ I. f (under cap I))
+unfolding readUnder
+read-through cap bytes f = through cap (readInstance bytes) f
 
 module _ (bytes : Bytes) (r : BookRead) (e : r ≡ bookReadOf (readBook bytes)) where
   -- an accepted book
@@ -46,9 +59,17 @@ module _ (bytes : Bytes) (r : BookRead) (e : r ≡ bookReadOf (readBook bytes)) 
     went-on f =
         ap (λ (b : Book). f (instanceOf b)) same-book ∙ sym (goes-on bytes f (found .0) (found .1))
 
+    pub went-under : {A : Type 0} (cap : Option ℕ) (f : Instance → Verdict A)
+        → f (under cap (instanceOf (held (r .book)))) ≡ andThen (readUnder cap bytes) f
+    went-under cap f = went-on (λ I. f (under cap I)) ∙ sym (read-through cap bytes f)
+
   -- a refusal
   pub stopped : {A : Type 0} {n d : ℕ} (f : Instance → Verdict A) → r .answer ≡ Refused n d → andThen (readInstance bytes) f ≡ refused n d
   stopped {n = n} {d} f told = stops bytes f n d (refused-by r (readBook bytes) e told)
+
+  pub stopped-under : {A : Type 0} {n d : ℕ} (cap : Option ℕ) (f : Instance → Verdict A) → r .answer ≡ Refused n d
+      → andThen (readUnder cap bytes) f ≡ refused n d
+  stopped-under cap f told = read-through cap bytes f ∙ stopped (λ I. f (under cap I)) told
 
 -- the tables as an entry point lends them, filled with zeros
 pub runs-long : length (replicate {A = ℕ} tableBytes 0) ≡ tableBytes

@@ -12,8 +12,7 @@ use Rattle.spec.specs.Lists.{sumTo}
 use Rattle.spec.specs.Book.{Book, segmentOf, callsOf}
 use Rattle.spec.specs.Read.{wellFormed, between, maxCalls}
 use Rattle.spec.specs.Instance.{Instance, instanceOf, compile, runLists, runAt}
-use Rattle.spec.specs.Formula.{width, firstVar, base, variables, ownVariables}
-use Rattle.spec.specs.Extra.{extraVariables}
+use Rattle.spec.specs.Formula.{width, firstVar, base, ownVariables}
 use Rattle.spec.specs.Held.{held}
 use Rattle.demands.proofs.Wellformed.{parts, sound}
 use Rattle.demands.proofs.RunLists.{train-reach, run-moves}
@@ -77,10 +76,10 @@ pub first-next : (I : Instance) (i : ℕ) → firstVar I (i + 1) ≡ firstVar I 
 unfolding firstVar sumTo
 first-next I i = ap (λ (n : ℕ). I .nodes + sumTo (λ j. I .intervals * width I j) n) (add-one i) ∙ omega arith
 
--- the variables are those before the train behind the last
-pub all-variables : (I : Instance) → firstVar I (I .trains) ≡ variables I
-unfolding variables ownVariables extraVariables
-all-variables I = omega arith
+-- the variables of document 01 are those before the train behind the last
+pub own-variables : (I : Instance) → firstVar I (I .trains) ≡ ownVariables I
+unfolding ownVariables
+own-variables I = refl
 
 -- a train has at most four calls
 few-calls : (b : Book) → T (wellFormed b) → (i : ℕ) → i < length (b .trains) → length (callsOf b i) ≤ 4

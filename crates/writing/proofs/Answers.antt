@@ -2,6 +2,7 @@
 -- nothing.
 use mathlib.Core.Path.{_≡_, sym, ap, _∙_}
 use mathlib.Core.Bool.{Bool}
+use mathlib.Core.Option.{Option}
 use Prim.Native.Nat.{ℕ, _≤_, _<_}
 use mathlib.Core.List.{List}
 use borrow.Author.Tests.{le-leb, lt-leb}
@@ -9,7 +10,7 @@ use lib.ListN.{length}
 use lib.IntN.{ℤ}
 use Rattle.model.specs.declared.Book.{Book as BookStruct}
 use Rattle.spec.specs.Lists.{Bytes, Verdict, accepted, refused, andThen}
-use Rattle.spec.specs.Instance.{Instance, instanceOf}
+use Rattle.spec.specs.Instance.{Instance, instanceOf, under}
 use Rattle.spec.specs.Formula.{variables, formula, wordsOf}
 use Rattle.spec.specs.Held.{held}
 use Rattle.spec.specs.Entry.{Written, demand, formulaWritten, overwrite, written, writtenFor, wordsAfter}
@@ -30,11 +31,11 @@ pub stopped-output : {v : Verdict Written} {n d : ℕ} (old : List ℤ) → v �
 unfolding wordsAfter andThen overwrite written
 stopped-output old e = ap (λ (v : Verdict Written). overwrite old (written (andThen v λ w. accepted (w .words)))) (sym e)
 
--- ---- of a book that passed
+-- ---- of a book that passed, under a cap or without one
 
-module _ (b : BookStruct) (p : Passed b) where
+module _ (b : BookStruct) (p : Passed b) (cap : Option ℕ) where
   abbrev I : Instance
-  I = instanceOf (held b)
+  I = under cap (instanceOf (held b))
 
   abbrev words : List ℤ
   words = wordsOf (formula I)
@@ -67,6 +68,6 @@ module _ (b : BookStruct) (p : Passed b) where
   unfolding wordsAfter writtenFor demand andThen written formulaWritten start
   output-fits {old = old} h k =
       k .output
-      ∙ stored-front words old (is-small b p) h
+      ∙ stored-front words old (is-small b p cap) h
       ∙ ap (λ (t : Bool). overwrite old (written (andThen (andThen (demand t 12) λ _. accepted (formulaWritten I)) λ w. accepted (w .words))))
       (sym (le-leb (length words) (length old) h))

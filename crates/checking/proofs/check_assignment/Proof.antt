@@ -4,9 +4,10 @@ use native.Mathlib.Omega.{arith}
 use mathlib.Core.Path.{sym, ap, _∙_}
 use denote.Ref.{now}
 use lib.Seq.{length-take-le}
-use Rattle.spec.specs.Lists.{Verdict}
-use Rattle.spec.specs.Instance.{Instance}
-use Rattle.spec.specs.Entry.{judgeAssignment, checkAssignment}
+use Rattle.spec.specs.Lists.{Verdict, accepted, andThen}
+use Rattle.spec.specs.Instance.{Instance, under}
+use Rattle.spec.specs.Held.{heldCap}
+use Rattle.spec.specs.Entry.{readUnder, judgeAssignment, checkAssignment}
 use Rattle.reader.specs.BookAnswers.{answerOf}
 use Rattle.tables.proofs.Instances.{went-on, stopped, runs-long, chains-long, meets-long, TablesReady}
 use Rattle.checking.proofs.check_assignment.Statement.{statement}
@@ -17,7 +18,10 @@ module _ (c : tie.After-prepare-chains) where
   abbrev start : tie.Start
   start = c .before .before .before .before .before .before
 
-  -- what the check does with an instance
+  -- the book's instance under the cap, and what the check does with it
+  abbrev capped : Instance → Verdict Instance
+  capped I = accepted (under (heldCap (start .args .cap)) I)
+
   abbrev onward : Instance → Verdict (Unit {0})
   onward I = judgeAssignment I (now (start .args .values))
 
@@ -33,17 +37,18 @@ judge-assignment-requires : tie.Need-judge-assignment-requires
 judge-assignment-requires c κs = let a = c .before .before .before in (ready a .0, prepared a .prepare-chains .ensures .2 (a .enum-told .given .1), ready a .2)
 
 returns : tie.Need-returns
-unfolding checkAssignment
+unfolding checkAssignment readUnder andThen
 returns c =
     let r = c .before .before .before .before .before .before .before .before .before in
-    ap answerOf (sym (stopped _ _ (r .prepare-chains .ensures .0) (onward r) (c .before .answer .given .1)))
+    ap (λ (v : Verdict Instance). answerOf (andThen v (onward r))) (sym (stopped _ _ (r .prepare-chains .ensures .0) (capped r) (c .before .answer .given .1)))
 
 returns-2 : tie.Need-returns-2
-unfolding checkAssignment
+unfolding checkAssignment readUnder andThen
 returns-2 c =
     let a = c .before .before .before .before in
     let r = prepared a in
-    c .judge-assignment .ensures ∙ ap answerOf (went-on _ _ (r .prepare-chains .ensures .0) (a .enum-told .given .1) (onward r))
+    c .judge-assignment .ensures
+    ∙ ap (λ (v : Verdict Instance). answerOf (andThen v (onward r))) (went-on _ _ (r .prepare-chains .ensures .0) (a .enum-told .given .1) (capped r))
 
 pub check-assignment-spec : {M : Type 1} → statement M
 check-assignment-spec =

@@ -1,13 +1,16 @@
 -- `checking::unpack_by` meets its contract: room, the judgement, then the plan. Assumes nothing.
 use borrow.Author.Needs.{needs}
 use native.Mathlib.Omega.{arith}
-use mathlib.Core.Path.{_≡_, sym, _∙_}
-use Prim.Native.Nat.{_≤_}
+use mathlib.Core.Path.{_≡_, sym, ap, _∙_}
+use mathlib.Core.Option.{Option}
+use Prim.Native.Nat.{ℕ, _≤_}
 use denote.Ref.{now}
 use lib.ListN.{length}
-use Rattle.spec.specs.Instance.{instanceOf}
+use Rattle.spec.specs.Instance.{Instance, instanceOf, under}
 use Rattle.spec.specs.Plan.{planLength}
-use Rattle.spec.specs.Held.{held}
+use Rattle.spec.specs.Held.{held, heldCap}
+use Rattle.spec.specs.Entry.{overwrite}
+use Rattle.demands.proofs.Uncapped.{length-same, decode-same}
 use Rattle.checking.proofs.Answers.{length-decode, unpacked-short, unpacked-refused, unpacked-accepted}
 use Rattle.checking.proofs.unpack_by.Statement.{statement}
 use Rattle.checking.proofs.unpack_by.Tie as tie
@@ -17,10 +20,17 @@ module _ (c : tie.After-plan-length) where
   abbrev start : tie.Start
   start = c .before .before .before .before .before .before
 
-  need : c .plan-length .result ≡ planLength (instanceOf (held (start .args .b)))
-  need = c .plan-length .ensures
+  abbrev cap : Option ℕ
+  cap = heldCap (start .args .cap)
 
-room : (c : tie.Else1) → planLength (instanceOf (held (start (c .before) .args .b))) ≤ length (now (start (c .before) .args .out))
+  -- the instance, without the cap
+  abbrev own : Instance
+  own = instanceOf (held (start .args .b))
+
+  need : c .plan-length .result ≡ planLength (under cap own)
+  need = c .plan-length .ensures ∙ sym (length-same cap own)
+
+room : (c : tie.Else1) → planLength (under (cap (c .before)) (own (c .before))) ≤ length (now (start (c .before) .args .out))
 room c = omega (arith, c .if1 .left, need (c .before))
 
 returns-2 : tie.Need-returns-2
@@ -33,7 +43,9 @@ returns-3 c =
     let d = c .before .before .before in
     let e = d .before .before .before .before in
     unpacked-accepted _ _ _ (room e) (sym (d .before .enum-told .given .1) ∙ d .before .before .before .judge-assignment .ensures)
-    (need (e .before) ∙ sym (length-decode _ _)) (c .before .before .decode .ensures)
+    (need (e .before) ∙ sym (length-decode _ _)) (c .before .before .decode .ensures
+    ∙ ap (overwrite (now (start (e .before) .args .out)))
+    (sym (decode-same (cap (e .before)) (own (e .before)) (now (start (e .before) .args .values)))))
 
 pub unpack-by-spec : {M : Type 1} → statement M
 unpack-by-spec =
@@ -44,7 +56,9 @@ unpack-by-spec =
     (λ c κs. search needs)
     (λ c. search needs)
     (λ c. search needs)
-    (λ c κs. let e = c .before .before .before .before in (start (e .before) .pre .0 .counted, room e))
+    (λ c κs.
+    let e = c .before .before .before .before in
+    (start (e .before) .pre .0 .counted, omega (arith, room e, length-same (cap (e .before)) (own (e .before)))))
     returns-2
     (λ c. search needs)
     returns-3)

@@ -1,13 +1,14 @@
 -- `checking::unpack_plan` meets its contract: the book's refusal, or the unpacking for the book that the bytes hold. Assumes nothing.
 use borrow.Author.Needs.{needs}
 use native.Mathlib.Omega.{arith}
-use mathlib.Core.Path.{sym}
+use mathlib.Core.Path.{sym, ap}
 use denote.Ref.{now}
 use lib.ListN.{length}
 use lib.Seq.{length-take-le}
-use Rattle.spec.specs.Lists.{Bytes, Verdict}
-use Rattle.spec.specs.Instance.{Instance}
-use Rattle.spec.specs.Entry.{unpackedFor, unpackPlan, planOutput}
+use Rattle.spec.specs.Lists.{Bytes, Verdict, accepted, andThen}
+use Rattle.spec.specs.Instance.{Instance, under}
+use Rattle.spec.specs.Held.{heldCap}
+use Rattle.spec.specs.Entry.{readUnder, unpackedFor, unpackPlan, planOutput}
 use Rattle.tables.proofs.Instances.{went-on, stopped, runs-long, chains-long, meets-long, TablesReady}
 use Rattle.reader.proofs.Outputs.{left-stopped, left-same}
 use Rattle.checking.proofs.unpack_plan.Statement.{statement}
@@ -18,7 +19,10 @@ module _ (c : tie.After-prepare-chains) where
   abbrev start : tie.Start
   start = c .before .before .before .before .before .before .before
 
-  -- what the unpacking does with an instance
+  -- the book's instance under the cap, and what the unpacking does with it
+  abbrev capped : Instance → Verdict Instance
+  capped I = accepted (under (heldCap (start .args .cap)) I)
+
   abbrev onward : Instance → Verdict Bytes
   onward I = unpackedFor I (now (start .args .values)) (length (now (start .args .out)))
 
@@ -34,18 +38,19 @@ unpack-by-requires : tie.Need-unpack-by-requires
 unpack-by-requires c κs = let a = c .before .before .before .before in (ready a .0, prepared a .prepare-chains .ensures .2 (a .enum-told .given .1), ready a .2)
 
 returns : tie.Need-returns
-unfolding unpackPlan planOutput
+unfolding unpackPlan planOutput readUnder andThen
 returns c =
     let r = c .before .before .before .before .before .before .before .before .before in
-    left-stopped _ (stopped _ _ (r .prepare-chains .ensures .0) (onward r) (c .before .answer .given .1))
+    left-stopped _ (ap (λ (v : Verdict Instance). andThen v (onward r)) (stopped _ _ (r .prepare-chains .ensures .0) (capped r) (c .before .answer .given .1)))
 
 returns-2 : tie.Need-returns-2
-unfolding unpackPlan planOutput
+unfolding unpackPlan planOutput readUnder andThen
 returns-2 c =
     let d = c .before .before in
     let a = d .before .before .before .before .before in
     let r = prepared a in
-    left-same _ (went-on _ _ (r .prepare-chains .ensures .0) (a .enum-told .given .1) (onward r)) (d .unpack-by .ensures)
+    left-same _ (ap (λ (v : Verdict Instance). andThen v (onward r)) (went-on _ _ (r .prepare-chains .ensures .0) (a .enum-told .given .1) (capped r)))
+    (d .unpack-by .ensures)
 
 pub unpack-plan-spec : {M : Type 1} → statement M
 unpack-plan-spec =

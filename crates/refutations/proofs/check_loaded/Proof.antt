@@ -2,7 +2,6 @@
 -- nothing.
 use borrow.Author.Needs.{needs}
 use borrow.Author.Tests.{ltb-true, ltb-false}
-use native.Mathlib.Nat.{le-refl}
 use native.Mathlib.Omega.{arith}
 use mathlib.Core.Path.{_≡_, refl, sym, ap, _∙_, subst}
 use mathlib.Core.Logic.{inl, inr}
@@ -12,14 +11,13 @@ use denote.Ref.{now}
 use lib.ListN.{length, take}
 use lib.Seq.{length-take-le}
 use lib.Dec.{T}
-use Rattle.spec.specs.Instance.{Instance, instanceOf}
+use Rattle.spec.specs.Instance.{Instance, instanceOf, under}
 use Rattle.spec.specs.Formula.{formula, variables, wordsOf}
 use Rattle.spec.specs.Refutation.{Lent, clausesOf, inRange}
-use Rattle.spec.specs.Held.{held}
+use Rattle.spec.specs.Held.{held, heldCap}
 use Rattle.demands.proofs.Words.{formula-in-range}
-use Rattle.demands.proofs.Wellformed.{sound}
+use Rattle.demands.proofs.Wellformed.{sound, sound-under}
 use Rattle.tables.specs.Tables.{Passed}
-use Rattle.tables.proofs.Small.{all-variables, first-small, passed-few}
 use Rattle.refutation_steps.specs.declared.one_step.Extent.{Extent}
 use Rattle.refutations.specs.Lent.{lengths}
 use Rattle.refutations.specs.Standing.{hasRoom, Stands}
@@ -37,7 +35,7 @@ module _ (v : tie.After-variable-count) where
   passed = start .pre .0 .passed
 
   abbrev I : Instance
-  I = instanceOf (held (start .args .b))
+  I = under (heldCap (start .args .cap)) (instanceOf (held (start .args .b)))
 
   abbrev filled : Extent
   filled = start .args .formula
@@ -58,15 +56,15 @@ module _ (v : tie.After-variable-count) where
   vars = v .variable-count .result
 
   variable-count : vars ≡ variables I
-  variable-count = v .variable-count .ensures
+  variable-count = v .variable-count .ensures .0
 
   few : vars < 2147483648
-  few = omega (arith, variable-count, all-variables I, first-small I (passed-few (start .args .b) passed) (I .trains) (le-refl _))
+  few = omega (arith, v .variable-count .ensures .1)
 
   ranged : T (inRange vars (formula I))
   ranged =
       subst (λ (n : ℕ). T (inRange n (formula I))) (sym variable-count)
-      (formula-in-range I (sound (held (start .args .b)) (passed .formed)))
+      (formula-in-range I (sound-under (heldCap (start .args .cap)) (sound (held (start .args .b)) (passed .formed))))
 
 returns : tie.Need-returns
 returns c =

@@ -14,7 +14,7 @@ returns c =
     let starts = values .before .before .before .before in
     let words = starts .before .before .before in
     let r = words .before .before .before .before .before .before .before .before .before .refute in
-    let k = r .kept .1 .1 in (
+    let k = r .kept .1 .1 .1 in (
       r .ensures,
       (words .clear-words .ensures ∙ ap (zeroed (pos 0)) (k .0)),
       (starts .clear-numbers .ensures ∙ ap (zeroed 0) (k .1 .0)),

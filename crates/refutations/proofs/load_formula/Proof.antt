@@ -12,12 +12,12 @@ use lib.ListN.{length, take}
 use lib.Seq.{sets, length-take-le}
 use lib.IntN.{ℤ}
 use lib.Dec.{T}
-use Rattle.spec.specs.Instance.{Instance, instanceOf}
+use Rattle.spec.specs.Instance.{Instance, instanceOf, under}
 use Rattle.spec.specs.Formula.{Clause, formula, variables, wordsOf}
 use Rattle.spec.specs.Refutation.{clausesOf, inRange}
-use Rattle.spec.specs.Held.{held}
+use Rattle.spec.specs.Held.{held, heldCap}
 use Rattle.demands.proofs.Words.{formula-in-range}
-use Rattle.demands.proofs.Wellformed.{sound}
+use Rattle.demands.proofs.Wellformed.{sound, sound-under}
 use Rattle.tables.specs.Tables.{Passed}
 use Rattle.tables.proofs.MeetTables.{take-sets}
 use Rattle.formula.proofs.Totals.{nothing-ahead, walks-from, walk-words, walk-clauses, is-small}
@@ -40,25 +40,25 @@ module _ (m : tie.After-walk-formula) where
   passed = start .pre .0 .counted .passed
 
   abbrev I : Instance
-  I = instanceOf (held (start .args .b))
+  I = under (heldCap (start .args .cap)) (instanceOf (held (start .args .b)))
 
   -- nothing was written
-  unwritten : m .walk-formula .last .1 .1 .1 .1 .1 .1 .0 ++ now (start .args .words) ≡ now (start .args .words)
+  unwritten : m .walk-formula .last .1 .1 .1 .1 .1 .1 .1 .0 ++ now (start .args .words) ≡ now (start .args .words)
   unwritten = nothing-ahead (m .walk-formula .ensures) refl (now (start .args .words))
 
   -- the totals
   word-count : m .walk-formula .result .words ≡ length (wordsOf (formula I))
-  word-count = walk-words (start .args .b) passed (m .walk-formula .ensures)
+  word-count = walk-words (start .args .b) passed (heldCap (start .args .cap)) (m .walk-formula .ensures)
 
   clause-count : m .walk-formula .result .clauses ≡ length (formula I)
-  clause-count = walk-clauses (start .args .b) passed (m .walk-formula .ensures)
+  clause-count = walk-clauses (start .args .b) passed (heldCap (start .args .cap)) (m .walk-formula .ensures)
 
   extent : extentBy (m .walk-formula .result .words) (m .walk-formula .result .clauses) ≡ extentOf I
   extent = ap₂ extentBy word-count clause-count
 
   -- the formula's literals are of its variables
   ranged : T (inRange (variables I) (formula I))
-  ranged = formula-in-range I (sound (held (start .args .b)) (passed .formed))
+  ranged = formula-in-range I (sound-under (heldCap (start .args .cap)) (sound (held (start .args .b)) (passed .formed)))
 
 returns : tie.Need-returns
 returns c =
@@ -78,7 +78,7 @@ module _ (w : tie.After-walk-formula2) where
   measured = w .before .before .before .before .before .before .before
 
   abbrev words : List ℤ
-  words = w .walk-formula2 .last .1 .1 .1 .1 .1 .1 .0
+  words = w .walk-formula2 .last .1 .1 .1 .1 .1 .1 .1 .0
 
   -- the two tests
   words-fit : length (wordsOf (formula (I measured))) ≤ length (now (start measured .args .words))
@@ -94,12 +94,12 @@ module _ (w : tie.After-walk-formula2) where
 
   -- the slice is as long as it was
   same-size : length words ≡ length (now (start measured .args .words))
-  same-size = w .walk-formula2 .kept .1 .1 .1 .1 .1 .1 .0 ∙ ap length (unwritten measured)
+  same-size = w .walk-formula2 .kept .1 .1 .1 .1 .1 .1 .1 .0 ∙ ap length (unwritten measured)
 
   -- the formula's words were written
   were-written : words ≡ sets (now (start measured .args .words)) 0 (wordsOf (formula (I measured)))
   were-written =
-      words-written (formula (I measured)) _ (is-small _ (passed measured)) (walks-from (unwritten measured) (w .walk-formula2 .ensures))
+      words-written (formula (I measured)) _ (is-small _ (passed measured) (heldCap (start measured .args .cap))) (walks-from (unwritten measured) (w .walk-formula2 .ensures))
 
   -- they are in front
   in-front : take (measured .walk-formula .result .words) words ≡ wordsOf (formula (I measured))

@@ -2,16 +2,17 @@
 use borrow.Author.Needs.{needs}
 use native.Mathlib.Omega.{arith}
 use mathlib.Core.Path.{sym, ap, ap₂, _∙_}
+use mathlib.Core.Option.{Option}
 use Prim.Native.Nat.{ℕ}
 use denote.Ref.{now}
 use lib.ListN.{length}
 use lib.Seq.{length-take-le}
 use Rattle.spec.specs.Lists.{Verdict}
-use Rattle.spec.specs.Instance.{Instance, instanceOf}
-use Rattle.spec.specs.Held.{held}
+use Rattle.spec.specs.Instance.{Instance, instanceOf, under}
+use Rattle.spec.specs.Held.{held, heldCap}
 use Rattle.spec.specs.Entry.{refutedFor, checkRefutation}
 use Rattle.reader.specs.BookAnswers.{answerOf}
-use Rattle.tables.proofs.Instances.{went-on, stopped, runs-long, chains-long, meets-long, TablesReady}
+use Rattle.tables.proofs.Instances.{went-under, stopped-under, runs-long, chains-long, meets-long, TablesReady}
 use Rattle.refutations.specs.Lent.{lengths}
 use Rattle.refutations.proofs.Loaded.{loaded-stands}
 use Rattle.refutations.proofs.refute.Statement.{statement}
@@ -21,6 +22,9 @@ use Rattle.refutations.proofs.refute.Tie as tie
 module _ (c : tie.After-prepare-chains) where
   abbrev start : tie.Start
   start = c .before .before .before .before .before .before .before .before .before
+
+  abbrev cap : Option ℕ
+  cap = heldCap (start .args .cap)
 
   -- what the check does with an instance
   abbrev onward : Instance → Verdict (Unit {0})
@@ -50,7 +54,7 @@ returns : tie.Need-returns
 unfolding checkRefutation
 returns c =
     let r = c .before .before .before .before .before .before .before .before .before in
-    ap answerOf (sym (stopped _ _ (r .prepare-chains .ensures .0) (onward r) (c .before .answer .given .1)))
+    ap answerOf (sym (stopped-under _ _ (r .prepare-chains .ensures .0) (cap r) (onward r) (c .before .answer .given .1)))
 
 returns-2 : tie.Need-returns-2
 unfolding checkRefutation
@@ -63,9 +67,9 @@ returns-2 c =
     ∙ ap₂
     (λ (m n : ℕ).
     answerOf
-    (refutedFor (instanceOf (held (prepared (told l) .prepare-chains .result .read .book))) (now (a .r)) (record { words = m; clauses = n; values = length (now (a .values)); trail = length (now (a .trail)) })))
-    (l .load-formula .kept .1 .1 .1 .1 .1 .0) (l .load-formula .kept .1 .1 .1 .1 .1 .1 .0)
-    ∙ ap answerOf (went-on _ _ (r .prepare-chains .ensures .0) (told l .enum-told .given .1) (onward r))
+    (refutedFor (under (cap r) (instanceOf (held (prepared (told l) .prepare-chains .result .read .book)))) (now (a .r)) (record { words = m; clauses = n; values = length (now (a .values)); trail = length (now (a .trail)) })))
+    (l .load-formula .kept .1 .1 .1 .1 .1 .1 .0) (l .load-formula .kept .1 .1 .1 .1 .1 .1 .1 .0)
+    ∙ ap answerOf (went-under _ _ (r .prepare-chains .ensures .0) (told l .enum-told .given .1) (cap r) (onward r))
 
 pub refute-spec : {M : Type 1} → statement M
 refute-spec =

@@ -5,9 +5,9 @@ use mathlib.Core.Path.{refl, ap, _∙_}
 use Prim.Native.Nat.{_≤_, _<_}
 use denote.Ref.{now}
 use lib.ListN.{length}
-use Rattle.spec.specs.Instance.{instanceOf}
+use Rattle.spec.specs.Instance.{instanceOf, under}
 use Rattle.spec.specs.Formula.{formula, wordsOf}
-use Rattle.spec.specs.Held.{held}
+use Rattle.spec.specs.Held.{held, heldCap}
 use Rattle.formula.proofs.Totals.{nothing-ahead, walks-from, walk-words, walk-clauses}
 use Rattle.writing.proofs.Answers.{answer-short, output-short, answer-fits, output-fits}
 use Rattle.writing.proofs.write_by.Statement.{statement}
@@ -17,12 +17,14 @@ returns : tie.Need-returns
 returns c =
     let m = c .before .before .before in
     let s = m .before .before .before .before .before .before in
+    let b = s .args .b in
     let p = s .pre .0 .counted .passed in
+    let cap = heldCap (s .args .cap) in
     let out = now (s .args .out) in
     let e = nothing-ahead (m .walk-formula .ensures) refl out in
-    let n = walk-words (s .args .b) p (m .walk-formula .ensures) in
-    let h : length out < length (wordsOf (formula (instanceOf (held (s .args .b))))) = omega (arith, c .if1 .taken, ap length e, n) in
-    (answer-short (s .args .b) p (length out) h, e ∙ output-short (s .args .b) p out h)
+    let n = walk-words b p cap (m .walk-formula .ensures) in
+    let h : length out < length (wordsOf (formula (under cap (instanceOf (held b))))) = omega (arith, c .if1 .taken, ap length e, n) in
+    (answer-short b p cap (length out) h, e ∙ output-short b p cap out h)
 
 variable-count-requires : tie.Need-variable-count-requires
 variable-count-requires c κs = c .before .before .before .before .before .before .before .before .before .before .before .before .pre .0 .counted
@@ -32,15 +34,16 @@ returns-2 c =
     let w = c .before .before in
     let m = w .before .before .before .before .before in
     let s = m .before .before .before .before .before .before in
-    let a = s .args in
+    let b = s .args .b in
     let p = s .pre .0 .counted .passed in
-    let out = now (a .out) in
+    let cap = heldCap (s .args .cap) in
+    let out = now (s .args .out) in
     let e = nothing-ahead (m .walk-formula .ensures) refl out in
     let k = walks-from e (w .walk-formula2 .ensures) in
-    let n = walk-words (a .b) p (m .walk-formula .ensures) in
-    let h : length (wordsOf (formula (instanceOf (held (a .b))))) ≤ length out = omega (arith, w .before .before .if1 .left, ap length e, n) in (
-      answer-fits (a .b) p (length out) h (c .variable-count .ensures) (walk-clauses (a .b) p k) (walk-words (a .b) p k),
-      output-fits (a .b) p h k,
+    let n = walk-words b p cap (m .walk-formula .ensures) in
+    let h : length (wordsOf (formula (under cap (instanceOf (held b))))) ≤ length out = omega (arith, w .before .before .if1 .left, ap length e, n) in (
+      answer-fits b p cap (length out) h (c .variable-count .ensures .0) (walk-clauses b p cap k) (walk-words b p cap k),
+      output-fits b p cap h k,
     )
 
 pub write-by-spec : {M : Type 1} → statement M

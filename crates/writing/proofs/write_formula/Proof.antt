@@ -6,8 +6,9 @@ use mathlib.Core.Path.{sym, ap, _∙_}
 use denote.Ref.{now}
 use lib.ListN.{length}
 use lib.Seq.{length-take-le}
+use Rattle.spec.specs.Held.{heldCap}
 use Rattle.spec.specs.Entry.{writtenFor, wordsAfter, writeFormula, formulaOutput}
-use Rattle.tables.proofs.Instances.{went-on, stopped, runs-long, chains-long, meets-long, TablesReady}
+use Rattle.tables.proofs.Instances.{went-under, stopped-under, runs-long, chains-long, meets-long, TablesReady}
 use Rattle.writing.specs.FormulaAnswers.{formulaAnswer}
 use Rattle.writing.proofs.Answers.{stopped-answer, stopped-output}
 use Rattle.writing.proofs.write_formula.Statement.{statement}
@@ -30,19 +31,23 @@ returns : tie.Need-returns
 unfolding writeFormula formulaOutput
 returns c =
     let r = c .before .before .before .before .before .before .before .before .before in
-    let old = now (r .before .before .before .before .before .args .out) in
-    let e = stopped _ _ (r .prepare-chains .ensures .0) (λ I. writtenFor I (length old)) (c .before .answer .given .1) in
-    (stopped-answer e, stopped-output old e)
+    let a = r .before .before .before .before .before .args in
+    let cap = heldCap (a .cap) in
+    let old = now (a .out) in
+    let k = stopped-under _ _ (r .prepare-chains .ensures .0) cap (λ I. writtenFor I (length old)) (c .before .answer .given .1) in
+    (stopped-answer k, stopped-output old k)
 
 returns-2 : tie.Need-returns-2
 unfolding writeFormula formulaOutput
 returns-2 c =
-    let a = c .before .before .before .before .before .before in
-    let r = prepared a in
-    let old = now (r .before .before .before .before .before .args .out) in
-    let e = went-on _ _ (r .prepare-chains .ensures .0) (a .enum-told .given .1) (λ I. writtenFor I (length old)) in
+    let t = c .before .before .before .before .before .before in
+    let r = prepared t in
+    let a = r .before .before .before .before .before .args in
+    let cap = heldCap (a .cap) in
+    let old = now (a .out) in
+    let k = went-under _ _ (r .prepare-chains .ensures .0) (t .enum-told .given .1) cap (λ I. writtenFor I (length old)) in
     let w = c .before .write-by .ensures in
-    (w .0 ∙ ap formulaAnswer e, w .1 ∙ ap (wordsAfter old) e)
+    (w .0 ∙ ap formulaAnswer k, w .1 ∙ ap (wordsAfter old) k)
 
 pub write-formula-spec : {M : Type 1} → statement M
 write-formula-spec =

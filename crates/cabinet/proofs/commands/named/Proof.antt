@@ -10,9 +10,10 @@ use Rattle.cabinet.proofs.commands.named.Tie as tie
 other : {A : Type 0} {b : Bool} → b ≡ false → (A → b ≡ true) → A → ⊥
 other failed held a = from-false failed (from-true (held a))
 
-returns-8 : tie.Need-returns-8
-returns-8 c =
-    let sixth = c .before .before .before in
+returns-9 : tie.Need-returns-9
+returns-9 c =
+    let seventh = c .before .before .before in
+    let sixth = seventh .before .before .before in
     let fifth = sixth .before .before .before in
     let fourth = fifth .before .before .before in
     let third = fourth .before .before .before in
@@ -24,7 +25,8 @@ returns-8 c =
       other (fourth .if4 .left) (fourth .before .same4 .ensures .1),
       other (fifth .if5 .left) (fifth .before .same5 .ensures .1),
       other (sixth .if6 .left) (sixth .before .same6 .ensures .1),
-      other (c .if7 .left) (c .before .same7 .ensures .1),
+      other (seventh .if7 .left) (seventh .before .same7 .ensures .1),
+      other (c .if8 .left) (c .before .same8 .ensures .1),
     )
 
 pub named-spec : {M : Type 1} → statement M
@@ -52,4 +54,7 @@ named-spec =
     (λ c. search needs)
     (λ c κs. search needs)
     (λ c. c .before .same7 .ensures .0 (c .if7 .taken))
-    returns-8)
+    (λ c. search needs)
+    (λ c κs. search needs)
+    (λ c. c .before .same8 .ensures .0 (c .if8 .taken))
+    returns-9)

@@ -8,7 +8,7 @@ use Rattle.cases.proofs.formulas.print_digest.Tie as tie
 slice-aggregate-more-words : tie.Need-slice-aggregate-more-words
 slice-aggregate-more-words c =
     let o = c .before .before .before .before .before .opened in
-    omega (arith, o .ensures, length-take (o .result .words) (o .last .1 .1 .0))
+    omega (arith, o .ensures, length-take (o .result .words) (o .last .1 .1 .1 .0))
 
 pub print-digest-spec : {M : Type 1} → statement M
 print-digest-spec =

@@ -8,7 +8,7 @@ use Rattle.cases.proofs.formulas.print_formula.Tie as tie
 slice-aggregate-print-words : tie.Need-slice-aggregate-print-words
 slice-aggregate-print-words c =
     let o = c .before .before .before .before .before .opened in
-    omega (arith, o .ensures, length-take (o .result .words) (o .last .1 .1 .0))
+    omega (arith, o .ensures, length-take (o .result .words) (o .last .1 .1 .1 .0))
 
 pub print-formula-spec : {M : Type 1} → statement M
 print-formula-spec =

@@ -4,9 +4,9 @@ use borrow.Author.Tests.{eq-eqb, ne-eqb}
 use mathlib.Core.Path.{_≡_, sym, ap, _∙_}
 use Prim.Native.Nat.{ℕ}
 use lib.Dec.{eqb}
-use Rattle.spec.specs.Instance.{instanceOf}
+use Rattle.spec.specs.Instance.{instanceOf, under}
 use Rattle.spec.specs.Formula.{variables}
-use Rattle.spec.specs.Held.{held}
+use Rattle.spec.specs.Held.{held, heldCap}
 use Rattle.layout.proofs.Places.{all-bits}
 use Rattle.formula.proofs.Judged.{fits-long, fits-bits}
 use Rattle.formula.proofs.judging.assignment_fits.Statement.{statement}
@@ -14,8 +14,9 @@ use Rattle.formula.proofs.judging.assignment_fits.Tie as tie
 
 -- the number that the length is compared with
 count : (c : tie.After-variable-count) (n : ℕ)
-    → eqb n (c .variable-count .result) ≡ eqb n (variables (instanceOf (held (c .before .before .args .b))))
-count c n = ap (eqb n) (c .variable-count .ensures)
+    → let a = c .before .before .args in
+    eqb n (c .variable-count .result) ≡ eqb n (variables (under (heldCap (a .cap)) (instanceOf (held (a .b)))))
+count c n = ap (eqb n) (c .variable-count .ensures .0)
 
 returns : tie.Need-returns
 returns c =

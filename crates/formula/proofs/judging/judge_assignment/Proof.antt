@@ -6,10 +6,10 @@ use mathlib.Core.Path.{_≡_, sym, ap, _∙_}
 use mathlib.Core.Bool.{true}
 use denote.Ref.{now}
 use Rattle.spec.specs.Lists.{orZero}
-use Rattle.spec.specs.Instance.{instanceOf}
+use Rattle.spec.specs.Instance.{Instance, instanceOf, under}
 use Rattle.spec.specs.Formula.{formula}
 use Rattle.spec.specs.Assignment.{firstFalse, assigned, assignmentFits}
-use Rattle.spec.specs.Held.{held}
+use Rattle.spec.specs.Held.{held, heldCap}
 use Rattle.clauses.specs.declared.Walk.{Walk}
 use Rattle.clauses.specs.Walked.{totals}
 use Rattle.formula.proofs.Totals.{walk-totals}
@@ -22,13 +22,17 @@ module _ (c : tie.After-walk-formula) where
   abbrev start : tie.Start
   start = c .before .before .before .before .before .before .before .before
 
-  fits : assignmentFits (instanceOf (held (start .args .b))) (now (start .args .values)) ≡ true
+  abbrev I : Instance
+  I = under (heldCap (start .args .cap)) (instanceOf (held (start .args .b)))
+
+  fits : assignmentFits I (now (start .args .values)) ≡ true
   fits = sym (c .before .before .before .assignment-fits .ensures) ∙ not-false _ (c .before .before .if1 .left)
 
-  found : c .walk-formula .result .wrong
-      ≡ orZero (firstFalse (assigned (now (start .args .values))) 1 (formula (instanceOf (held (start .args .b)))))
+  found : c .walk-formula .result .wrong ≡ orZero (firstFalse (assigned (now (start .args .values))) 1 (formula I))
   unfolding totals
-  found = ap (λ (w : Walk). w .wrong) (walk-totals (start .args .b) (start .pre .0 .counted .passed) (c .walk-formula .ensures))
+  found =
+      let passed = start .pre .0 .counted .passed in
+      ap (λ (w : Walk). w .wrong) (walk-totals (start .args .b) passed (heldCap (start .args .cap)) (c .walk-formula .ensures))
 
 pub judge-assignment-spec : {M : Type 1} → statement M
 judge-assignment-spec =

@@ -3,13 +3,20 @@
 use borrow.Author.Needs.{needs}
 use native.Mathlib.Omega.{arith}
 use mathlib.Core.Path.{sym, ap, _∙_}
+use mathlib.Core.Option.{Option}
+use Prim.Native.Nat.{ℕ}
 use lib.Seq.{length-take-le}
 use Rattle.spec.specs.Lists.{accepted}
+use Rattle.spec.specs.Held.{heldCap}
 use Rattle.spec.specs.Library.{sizesOf, measureBook}
-use Rattle.tables.proofs.Instances.{went-on, stopped, runs-long, chains-long, meets-long, TablesReady}
+use Rattle.tables.proofs.Instances.{went-under, stopped-under, runs-long, chains-long, meets-long, TablesReady}
 use Rattle.gentupag.specs.Answers.{sizesAnswer}
 use Rattle.gentupag.proofs.sizes.measure_book.Statement.{statement}
 use Rattle.gentupag.proofs.sizes.measure_book.Tie as tie
+
+-- the cap
+abbrev limit : tie.After-prepare-chains → Option ℕ
+limit r = heldCap (r .before .before .before .before .before .args .cap)
 
 -- the book is accepted
 module _ (c : tie.After-enum-told) where
@@ -25,14 +32,15 @@ returns c =
     let k = c .before .before in
     let r = k .before .before .before .before .before .before .before .before in
     c .refused-sizes .ensures
-    ∙ ap sizesAnswer (sym (stopped _ _ (r .prepare-chains .ensures .0) (λ I. accepted (sizesOf I)) (k .answer .given .1)))
+    ∙ ap sizesAnswer (sym (stopped-under _ _ (r .prepare-chains .ensures .0) (limit r) (λ I. accepted (sizesOf I)) (k .answer .given .1)))
 
 returns-2 : tie.Need-returns-2
 unfolding measureBook
 returns-2 c =
     let a = c .before .before .before .before in
     c .measure-by .ensures
-    ∙ ap sizesAnswer (went-on _ _ (prepared a .prepare-chains .ensures .0) (a .enum-told .given .1) (λ I. accepted (sizesOf I)))
+    ∙ ap sizesAnswer
+    (went-under _ _ (prepared a .prepare-chains .ensures .0) (a .enum-told .given .1) (limit (prepared a)) (λ I. accepted (sizesOf I)))
 
 pub measure-book-spec : {M : Type 1} → statement M
 measure-book-spec =

@@ -1,10 +1,13 @@
 -- `gentupag::sizes::measure_by` meets its contract: the walk over an empty output measures the formula. Assumes nothing.
 use borrow.Author.Needs.{needs}
-use mathlib.Core.Path.{sym}
+use mathlib.Core.Path.{sym, ap, _∙_}
+use lib.ListN.{length}
 use Rattle.spec.specs.Instance.{instanceOf, compile}
 use Rattle.spec.specs.Library.{sizesOf}
-use Rattle.spec.specs.Held.{held}
+use Rattle.spec.specs.Held.{held, heldCap}
+use Rattle.demands.proofs.Uncapped.{length-same}
 use Rattle.reader.proofs.Packing.{nodes-counted, segments-counted, trains-counted}
+use Rattle.layout.proofs.Capped.{free-under}
 use Rattle.formula.proofs.Totals.{walk-words, walk-clauses}
 use Rattle.gentupag.proofs.sizes.measure_by.Statement.{statement}
 use Rattle.gentupag.proofs.sizes.measure_by.Tie as tie
@@ -20,14 +23,16 @@ returns c =
     let s = start (f .before) in
     let w = f .before .before in
     let p = s .pre .0 .counted .passed in
+    let cap = heldCap (s .args .cap) in
+    let I = instanceOf (held (s .args .b)) in
     let nodes = sym (nodes-counted (p .packed)) in
     let segments = sym (segments-counted (p .packed)) in
     let trains = sym (trains-counted (p .packed)) in
-    let free = f .count-free .ensures .0 in
-    let variables = v .variable-count .ensures in
-    let clauses = walk-clauses (s .args .b) p (w .walk-formula .ensures) in
-    let words = walk-words (s .args .b) p (w .walk-formula .ensures) in
-    let bytes = c .plan-length .ensures in
+    let free = f .count-free .ensures .0 ∙ ap length (sym (free-under cap I)) in
+    let variables = v .variable-count .ensures .0 in
+    let clauses = walk-clauses (s .args .b) p cap (w .walk-formula .ensures) in
+    let words = walk-words (s .args .b) p cap (w .walk-formula .ensures) in
+    let bytes = c .plan-length .ensures ∙ sym (length-same cap I) in
     λ i. record {
       number = 0;
       detail = 0;

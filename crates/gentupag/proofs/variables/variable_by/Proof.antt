@@ -5,25 +5,29 @@ use native.Mathlib.Omega.{arith}
 use mathlib.Core.Path.{_≡_, ap, _∙_, subst}
 use Prim.Native.Nat.{ℕ, suc, _-_, _≤_}
 use Rattle.spec.specs.Lists.{accepted}
-use Rattle.spec.specs.Instance.{Instance, instanceOf}
-use Rattle.spec.specs.Formula.{firstVar}
-use Rattle.spec.specs.Held.{held}
+use Rattle.spec.specs.Instance.{Instance, instanceOf, under}
+use Rattle.spec.specs.Formula.{firstVar, ownVariables}
+use Rattle.spec.specs.Held.{held, heldCap}
 use Rattle.spec.specs.Library.{meaningOf}
-use Rattle.tables.proofs.Small.{nodes-is, trains-is, first-none}
+use Rattle.tables.proofs.Small.{nodes-is, trains-is, first-none, own-variables}
 use Rattle.gentupag.specs.Answers.{variableAnswer}
-use Rattle.gentupag.proofs.Standing.{answered, none-at, none-behind, border-at}
+use Rattle.gentupag.proofs.Standing.{answered, none-at, border-at}
 use Rattle.gentupag.proofs.variables.variable_by.Statement.{statement}
 use Rattle.gentupag.proofs.variables.variable_by.Tie as tie
 
 abbrev Inv-loop : tie.InvT-loop
-Inv-loop b runs v at trains train₀ train = (train ≤ trains) × (firstVar (instanceOf (held b)) train ≤ at)
+Inv-loop b runs cap v at trains train₀ train = (train ≤ trains) × (firstVar (instanceOf (held b)) train ≤ at)
 
 abbrev μ-loop : tie.MeasureT-loop
-μ-loop b runs v at trains train₀ train = trains - train
+μ-loop b runs cap v at trains train₀ train = trains - train
 
 module _ (s : tie.Start Inv-loop μ-loop) where
   abbrev I : Instance
   I = instanceOf (held (s .args .b))
+
+  -- the same under the cap
+  abbrev J : Instance
+  J = under (heldCap (s .args .cap)) I
 
   abbrev v : ℕ
   v = s .args .v
@@ -37,13 +41,13 @@ module _ (s : tie.Start Inv-loop μ-loop) where
 returns : tie.Need-returns Inv-loop μ-loop
 returns c =
     let s = c .before .before in
-    c .stands-for .ensures ∙ answered (none-at (I s) _ (c .before .if1 .taken))
+    c .stands-for .ensures ∙ answered (none-at (J s) _ (c .before .if1 .taken))
 
 returns-2 : tie.Need-returns-2 Inv-loop μ-loop
 returns-2 c =
     let e = c .before .before .before in
     let s = e .before in
-    c .stands-for2 .ensures ∙ answered (border-at (I s) _ (omega (arith, e .if1 .left)) (omega (arith, nodes s, c .before .if2 .taken)))
+    c .stands-for2 .ensures ∙ answered (border-at (J s) _ (omega (arith, e .if1 .left)) (omega (arith, nodes s, c .before .if2 .taken)))
 
 loop-holds : tie.Need-loop-holds Inv-loop μ-loop
 loop-holds c =
@@ -66,15 +70,22 @@ loop-again c =
 returns-3 : tie.Need-returns-3 Inv-loop μ-loop
 returns-3 c =
     let a = c .before .before .before .before in
-    c .in-train .ensures ∙ ap (λ (k : ℕ). variableAnswer (accepted (meaningOf (I (start a)) k))) (some a)
+    c .in-train .ensures (heldCap (start a .args .cap)) ∙ ap (λ (k : ℕ). variableAnswer (accepted (meaningOf (J (start a)) k))) (some a)
+
+-- behind the last train
+module _ (c : tie.After-loop Inv-loop μ-loop) where
+  behind : ownVariables (I (start (c .before))) ≤ v (start (c .before)) - 1
+  behind =
+      let a = c .before in
+      let s = start a in
+      let e : a .loop .train ≡ I s .trains = omega (arith, trains s, a .loop .inv .0, c .loop-test .left) in
+      let k : firstVar (I s) (I s .trains) ≤ v s - 1 = subst (λ (i : ℕ). firstVar (I s) i ≤ v s - 1) e (a .loop .inv .1) in
+      omega (arith, own-variables (I s), k)
 
 returns-4 : tie.Need-returns-4 Inv-loop μ-loop
 returns-4 c =
     let a = c .before .before in
-    let s = start a in
-    let e : a .loop .train ≡ I s .trains = omega (arith, trains s, a .loop .inv .0, c .before .loop-test .left) in
-    let k : firstVar (I s) (I s .trains) ≤ v s - 1 = subst (λ (i : ℕ). firstVar (I s) i ≤ v s - 1) e (a .loop .inv .1) in
-    c .stands-for3 .ensures ∙ answered (none-behind (I s) _ (omega (arith, some a)))
+    c .in-counter .ensures ∙ ap (λ (k : ℕ). variableAnswer (accepted (meaningOf (J (start a)) k))) (some a)
 
 pub variable-by-spec : {M : Type 1} → statement M
 variable-by-spec =
@@ -95,5 +106,5 @@ variable-by-spec =
     (λ c. omega arith)
     (λ c. omega arith)
     loop-again
-    (λ c κs. search needs)
+    (λ c κs. (start (c .before) .pre, behind c))
     returns-4)

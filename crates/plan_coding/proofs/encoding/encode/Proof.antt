@@ -1,5 +1,5 @@
--- `encoding::encode` meets its contract. The loop's invariant: the bytes of the first trains stand behind the borders. Assumes
--- nothing.
+-- `encoding::encode` meets its contract. The loop's invariant: the bytes of the first trains stand behind the borders. The
+-- counter's values follow. Assumes nothing.
 use native.Mathlib.Omega.{arith}
 use mathlib.Core.Path.{_≡_, sym, ap, _∙_}
 use mathlib.Core.List.{map}
@@ -9,10 +9,13 @@ use lib.ListN.{length, getD}
 use lib.Seq.{sets, length-sets}
 use lib.Dec.{eqb}
 use Rattle.spec.specs.Lists.{Bytes, upTo, each}
-use Rattle.spec.specs.Instance.{Instance, instanceOf}
+use Rattle.spec.specs.Instance.{Instance, instanceOf, under}
 use Rattle.spec.specs.Plan.{Plan, bit, planOf}
-use Rattle.spec.specs.Held.{held}
+use Rattle.spec.specs.Cap.{capValues}
+use Rattle.spec.specs.Formula.{ownVariables, variables}
+use Rattle.spec.specs.Held.{held, heldCap}
 use Rattle.layout.proofs.Places.{nodes-fit}
+use Rattle.layout.proofs.Capped.{variables-under}
 use Rattle.tables.proofs.Small.{nodes-is, trains-is}
 use Rattle.demands.proofs.Moves.{plan-long}
 use Rattle.plan_coding.specs.Encoded.{borderBytes, trainBytes}
@@ -23,11 +26,11 @@ use Rattle.plan_coding.proofs.encoding.encode.Statement.{statement}
 use Rattle.plan_coding.proofs.encoding.encode.Tie as tie
 
 abbrev Inv-loop : tie.InvT-loop
-Inv-loop b counts runs labels plan out₀ trains i₀ out i =
+Inv-loop b counts cap runs labels plan out₀ trains i₀ out i =
     (i ≤ trains) × Rows (trainBytes (instanceOf (held b)) (planOf (instanceOf (held b)) plan)) out₀ (instanceOf (held b) .nodes) i out
 
 abbrev μ-loop : tie.MeasureT-loop
-μ-loop b counts runs labels plan out₀ trains i₀ out i = trains - i
+μ-loop b counts cap runs labels plan out₀ trains i₀ out i = trains - i
 
 -- the plan
 module _ (s : tie.Start Inv-loop μ-loop) where
@@ -37,6 +40,10 @@ module _ (s : tie.Start Inv-loop μ-loop) where
   abbrev p : Plan
   p = planOf I (now (s .args .plan))
 
+  -- the variables without the cap's are among all
+  own-fit : ownVariables I ≤ length (now (s .args .out))
+  own-fit = omega (arith, variables-under (heldCap (s .args .cap)) I, s .pre .1)
+
   nodes-are : I .nodes ≡ s .args .b .«node_count»
   nodes-are = nodes-is (s .args .b) (s .pre .0 .0 .counted .passed)
 
@@ -44,7 +51,7 @@ write-borders-requires : tie.Need-write-borders-requires Inv-loop μ-loop
 write-borders-requires c κs =
     let s = c .before .before .before .before .before in (
       omega (arith, plan-long _ _ (s .pre .0 .1), nodes-fit (s .args .b) (s .pre .0 .0 .counted .passed)),
-      omega (arith, length-parts (I s) (p s), nodes-are s, s .pre .1),
+      omega (arith, length-parts (I s) (p s), nodes-are s, own-fit s),
     )
 
 -- behind the borders: before a train, or after the last one
@@ -70,7 +77,7 @@ write-train-requires c κs =
     let t = c .before in
     let s = given (t .before) in
     let below : t .before .loop .i < I s .trains = omega (arith, t .loop-test .taken, trains-is (s .args .b) (s .pre .0 .0 .counted .passed)) in
-    (s .pre .0, t .loop-test .taken, omega (arith, kept (t .before), train-fits (I s) (t .before .loop .i) below, s .pre .1))
+    (s .pre .0, t .loop-test .taken, omega (arith, kept (t .before), train-fits (I s) (t .before .loop .i) below, own-fit s))
 
 loop-again : tie.Need-loop-again Inv-loop μ-loop
 loop-again c =
@@ -79,15 +86,33 @@ loop-again c =
     let l = t .before .loop in
     (omega (arith, t .loop-test .taken), rows-behind (l .inv .1) (train-place (I s) (p s) (l .i)) (c .before .before .write-train .ensures))
 
+write-counter-requires : tie.Need-write-counter-requires Inv-loop μ-loop
+write-counter-requires c κs =
+    let k = c .before .before in
+    let s = given k in
+    let room : variables (under (heldCap (s .args .cap)) (I s)) ≤ length (k .loop .out) = omega (arith, kept k, s .pre .1) in (
+      s .pre .0 .0 .counted,
+      omega (arith, plan-long _ _ (s .pre .0 .1), nodes-fit (s .args .b) (s .pre .0 .0 .counted .passed)),
+      room,
+    )
+
+same-length : tie.Need-same-length Inv-loop μ-loop
+same-length c = ap length (c .before .before .write-counter .ensures) ∙ simp length-sets (kept (c .before .before .before .before .before))
+
 returns : tie.Need-returns Inv-loop μ-loop
 returns c =
-    let k = c .before in
+    let w = c .before .before in
+    let left = w .before .before in
+    let k = left .before in
     let s = given k in
+    let J = under (heldCap (s .args .cap)) (I s) in
     let done : k .loop .i ≡ I s .trains
-    = omega (arith, c .loop-test .left, k .loop .inv .0, trains-is (s .args .b) (s .pre .0 .0 .counted .passed)) in
-    rows-all (k .loop .inv .1) done
-    ∙ ap (λ (out : Bytes). sets out (I s .nodes) (each (upTo (I s .trains)) (trainBytes (I s) (p s)))) (bordered k)
-    ∙ assignment-written (I s) (p s) (now (s .args .out)) (s .pre .1)
+    = omega (arith, left .loop-test .left, k .loop .inv .0, trains-is (s .args .b) (s .pre .0 .0 .counted .passed)) in
+    w .write-counter .ensures
+    ∙ ap (λ (out : Bytes). sets out (ownVariables (I s)) (capValues J (p s)))
+    (rows-all (k .loop .inv .1) done
+    ∙ ap (λ (out : Bytes). sets out (I s .nodes) (each (upTo (I s .trains)) (trainBytes (I s) (p s)))) (bordered k))
+    ∙ assignment-written (heldCap (s .args .cap)) (I s) (p s) (now (s .args .out)) (s .pre .1)
 
 pub encode-spec : {M : Type 1} → statement M
 encode-spec =
@@ -101,5 +126,6 @@ encode-spec =
     (λ c. omega (arith, c .before .before .before .before .loop-test .taken))
     (λ c. omega (arith, c .before .before .before .before .loop-test .taken))
     loop-again
-    (λ c. kept (c .before))
+    write-counter-requires
+    same-length
     returns)

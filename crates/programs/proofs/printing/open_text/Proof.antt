@@ -10,6 +10,7 @@ use lib.ListN.{length, take}
 use lib.Seq.{sets}
 use lib.IntN.{ℤ}
 use Rattle.spec.specs.Lists.{Bytes, Verdict}
+use Rattle.spec.specs.Held.{heldCap}
 use Rattle.spec.specs.Entry.{Written, writeFormula, formulaText}
 use Rattle.spec.specs.Programs.{printed, refusalLine}
 use Rattle.programs.specs.Text.{wordsText, headerText}
@@ -27,10 +28,10 @@ returns c =
     let e = c .before .before .put-refusal .ensures in
     let line = now (s .args .line) in
     let room = length (now (s .args .words)) in
-    let v = writeFormula (now (s .args .book)) room in
+    let v = writeFormula (heldCap (s .args .cap)) (now (s .args .book)) room in
     let k = sym (is-long v h) in (
       ap (λ (l : Bytes). l ++ wordsText []) (line-front line (refusalLine 12 0) (s .pre) (e .0) (e .1) (e .2))
-          ∙ long-text (formulaText (now (s .args .book)) room) h,
+          ∙ long-text (formulaText (heldCap (s .args .cap)) (now (s .args .book)) room) h,
       e .2 ∙ ap (λ (u : Verdict Written). sets line 0 (firstLine u)) k,
       omega (arith, e .1),
       long-words (now (s .args .words)) v h,
@@ -47,19 +48,20 @@ returns-2 c =
     let h = call .before .before .if1 .left in
     let e = c .before .before .put-refusal2 .ensures in
     let w = call .write-formula .ensures in
+    let cap = heldCap (s .args .cap) in
     let book = now (s .args .book) in
     let old = now (s .args .words) in
     let line = now (s .args .line) in
     let g = place .r .given in
     let text = refusalLine (g .0 .0) (g .0 .1 .0) in
     let v = answer-refused _ (w .0) (g .1) in
-    let k = sym (not-long (writeFormula book (length old)) h ∙ v) in (
+    let k = sym (not-long (writeFormula cap book (length old)) h ∙ v) in (
       ap (λ (l : Bytes). l ++ wordsText []) (line-front line text (s .pre) (e .0) (e .1) (e .2))
-          ∙ refusal-text book _ v
-          ∙ ap (λ (u : Verdict Bytes). printed (λ (t : Bytes). t) u) (sym (not-long (formulaText book (length old)) h)),
+          ∙ refusal-text cap book _ v
+          ∙ ap (λ (u : Verdict Bytes). printed (λ (t : Bytes). t) u) (sym (not-long (formulaText cap book (length old)) h)),
       e .2 ∙ ap (λ (u : Verdict Written). sets line 0 (firstLine u)) k,
       omega (arith, e .1),
-      w .1 ∙ output-words book old h,
+      w .1 ∙ output-words cap book old h,
       omega arith,
       e .0 ∙ ap (λ (u : Verdict Written). length (firstLine u)) k,
       ap wordsBehind k,
@@ -73,23 +75,24 @@ returns-3 c =
     let h = call .before .before .if1 .left in
     let e = c .before .before .put-header .ensures in
     let w = call .write-formula .ensures in
+    let cap = heldCap (s .args .cap) in
     let book = now (s .args .book) in
     let old = now (s .args .words) in
     let line = now (s .args .line) in
     let g = place .r2 .given in
     let text = headerText (g .0 .0) (g .0 .1 .0) in
-    let a = answer-totals (writeFormula book (length old)) (w .0) (g .1) in
-    let k = sym (not-long (writeFormula book (length old)) h ∙ a .1) in
+    let a = answer-totals (writeFormula cap book (length old)) (w .0) (g .1) in
+    let k = sym (not-long (writeFormula cap book (length old)) h ∙ a .1) in
     let same = ap₂ headerText (a .2) (a .3) in (
       ap₂ (λ (l : Bytes) (ls : List ℤ). l ++ wordsText ls)
           (line-front line text (s .pre) (e .0) (e .1) (e .2) ∙ same)
           (ap₂ (λ (n : ℕ) (ls : List ℤ). take n ls) (a .4) (w .1))
-          ∙ formula-text book old (a .0) (a .1)
-          ∙ ap (λ (u : Verdict Bytes). printed (λ (t : Bytes). t) u) (sym (not-long (formulaText book (length old)) h)),
+          ∙ formula-text cap book old (a .0) (a .1)
+          ∙ ap (λ (u : Verdict Bytes). printed (λ (t : Bytes). t) u) (sym (not-long (formulaText cap book (length old)) h)),
       e .2 ∙ ap (sets line 0) (same ∙ ap firstLine k),
       omega (arith, e .1),
-      w .1 ∙ output-words book old h,
-      omega (arith, a .4, count-fits book old (a .0) (a .1)),
+      w .1 ∙ output-words cap book old h,
+      omega (arith, a .4, count-fits cap book old (a .0) (a .1)),
       e .0 ∙ ap length (same ∙ ap firstLine k),
       a .4 ∙ ap wordsBehind k,
     )

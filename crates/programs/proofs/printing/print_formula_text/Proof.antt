@@ -8,7 +8,7 @@ use Rattle.programs.proofs.printing.print_formula_text.Tie as tie
 slice-aggregate-print-words : tie.Need-slice-aggregate-print-words
 slice-aggregate-print-words c =
     let o = c .before .before .before .before .before .before .open-text in
-    omega (arith, o .ensures .4, length-take (o .result .words) (o .last .1 .1 .0))
+    omega (arith, o .ensures .4, length-take (o .result .words) (o .last .1 .1 .1 .0))
 
 pub print-formula-text-spec : {M : Type 1} → statement M
 print-formula-text-spec =

@@ -3,10 +3,12 @@
 use borrow.Author.Needs.{needs}
 use mathlib.Core.Path.{_≡_, refl, ap, _∙_}
 use mathlib.Core.Bool.{Bool, false}
+use mathlib.Core.Option.{Option}
 use Prim.Native.Nat.{ℕ}
 use denote.Ref.{now}
 use lib.ListN.{length}
 use Rattle.spec.specs.Lists.{Bytes, refused}
+use Rattle.spec.specs.Held.{heldCap}
 use Rattle.spec.specs.Entry.{checkAssignment, checkRefutation}
 use Rattle.spec.specs.Programs.{programLent, unlessLong}
 use Rattle.programs.proofs.FormulaProgram.{is-long, not-long}
@@ -17,10 +19,10 @@ use Rattle.programs.proofs.verdicts.verdict_text.Statement.{statement}
 use Rattle.programs.proofs.verdicts.verdict_text.Tie as tie
 
 -- the verdict of the check that is asked for, where no input is too long
-asked : (book s : Bytes) (room : ℕ) {long : Bool} {check case : Check} → long ≡ false → check ≡ case
-    → unlessLong long (verdictOf check book s room) ≡ verdictOf case book s room
-asked book s room {check = check} h told =
-    not-long (verdictOf check book s room) h ∙ ap (λ (k : Check). verdictOf k book s room) told
+asked : (cap : Option ℕ) (book s : Bytes) (room : ℕ) {long : Bool} {check case : Check} → long ≡ false → check ≡ case
+    → unlessLong long (verdictOf check cap book s room) ≡ verdictOf case cap book s room
+asked cap book s room {check = check} h told =
+    not-long (verdictOf check cap book s room) h ∙ ap (λ (k : Check). verdictOf k cap book s room) told
 
 returns : tie.Need-returns
 returns c =
@@ -39,8 +41,8 @@ returns-2 c =
     let book = now (args .book) in
     let s = now (args .second) in
     let out = now (args .out) in
-    let q = asked book s (length out) (told .before .before .if1 .left) (told .enum-told .given .1) in
-    (tells-same q (call .assignment-text .ensures), output-same q out (bare-output out (checkAssignment book s)))
+    let q = asked (heldCap (args .cap)) book s (length out) (told .before .before .if1 .left) (told .enum-told .given .1) in
+    (tells-same q (call .assignment-text .ensures), output-same q out (bare-output out (checkAssignment (heldCap (args .cap)) book s)))
 
 returns-3 : tie.Need-returns-3
 unfolding verdictOf
@@ -48,7 +50,10 @@ returns-3 c =
     let call = c .before .before .before .before in
     let told = call .before .before .before in
     let args = told .before .before .before .before .before .before .before .args in
-    let q = asked (now (args .book)) (now (args .second)) (length (now (args .out))) (told .before .before .if1 .left) (told .enum-told2 .given .1) in
+    let book = now (args .book) in
+    let s = now (args .second) in
+    let out = now (args .out) in
+    let q = asked (heldCap (args .cap)) book s (length out) (told .before .before .if1 .left) (told .enum-told2 .given .1) in
     (tells-same q (call .unpacking-text .ensures .0), output-same q _ (call .unpacking-text .ensures .1))
 
 returns-4 : tie.Need-returns-4
@@ -57,7 +62,10 @@ returns-4 c =
     let call = c .before .before .before .before in
     let told = call .before .before .before in
     let args = told .before .before .before .before .before .before .before .args in
-    let q = asked (now (args .book)) (now (args .second)) (length (now (args .out))) (told .before .before .if1 .left) (told .enum-told3 .given .1) in
+    let book = now (args .book) in
+    let s = now (args .second) in
+    let out = now (args .out) in
+    let q = asked (heldCap (args .cap)) book s (length out) (told .before .before .if1 .left) (told .enum-told3 .given .1) in
     (tells-same q (call .plan-text .ensures .0), output-same q _ (call .plan-text .ensures .1))
 
 returns-5 : tie.Need-returns-5
@@ -69,8 +77,9 @@ returns-5 c =
     let book = now (args .book) in
     let s = now (args .second) in
     let out = now (args .out) in
-    let q = asked book s (length out) (told .before .before .if1 .left) (told .enum-told4 .given .1) in
-    (tells-same q (call .lent-refutation-text .ensures), output-same q out (bare-output out (checkRefutation book s programLent)))
+    let q = asked (heldCap (args .cap)) book s (length out) (told .before .before .if1 .left) (told .enum-told4 .given .1) in
+    let none = bare-output out (checkRefutation (heldCap (args .cap)) book s programLent) in
+    (tells-same q (call .lent-refutation-text .ensures), output-same q out none)
 
 returns-6 : tie.Need-returns-6
 unfolding verdictOf
@@ -78,7 +87,10 @@ returns-6 c =
     let call = c .before .before .before .before in
     let told = call .before .before .before in
     let args = told .before .before .before .before .before .before .before .args in
-    let q = asked (now (args .book)) (now (args .second)) (length (now (args .out))) (told .before .before .if1 .left) (told .enum-told5 .given .1) in
+    let book = now (args .book) in
+    let s = now (args .second) in
+    let out = now (args .out) in
+    let q = asked (heldCap (args .cap)) book s (length out) (told .before .before .if1 .left) (told .enum-told5 .given .1) in
     (tells-same q (call .carriers-text .ensures .0), output-same q _ (call .carriers-text .ensures .1))
 
 pub verdict-text-spec : {M : Type 1} → statement M
