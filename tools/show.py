@@ -61,7 +61,7 @@ def kind_of(data, book, cap=None):
     if not fitting and first == STEP:
         return "refutation"
     under = "" if cap is None else f" under cap {cap}"
-    raise Unclear(f"{len(data)} bytes; a plan of this book has {plan}, an assignment {assignment}{under}: give --as")
+    raise Unclear(f"{len(data)} bytes; a plan of this book has {plan}, an assignment {assignment}{under}: give --as, or --cap N if it was made under another cap")
 
 
 # --------------------------------------------------------------------- plans

@@ -682,6 +682,7 @@ def try_cap_words(t):
     for command in set(COMMANDS) - set(TAKE_A_CAP):
         names = [t.file(b"kept") for _ in range(COMMANDS[command].most)]
         try_usage(t, f"{command}, which takes no cap", command, t.run(command, CAP, "1", *names))
+        try_usage(t, f"{command}, the option for a name", command, t.run(command, CAP, *names[1:]))
     # behind the names it is a name
     t.verdict("check_plan, a third file named as the option", ACCEPTED, t.run("check_plan", t.file(BOOK_L), t.file(PLAN_L), CAP))
     t.expect("check_plan, a third file named as the option: the result", read(t.path(CAP)) == ASSIGNMENT_L, read(t.path(CAP)))

@@ -16,7 +16,9 @@ from tools.program import COMMANDS
 from tools.tests.stand_in import USAGE
 words = sys.argv[1:]
 def names(command):
-    return words[3:] if command.capped and words[1:2] == ["--cap"] else words[1:]
+    if words[1:2] != ["--cap"]:
+        return words[1:]
+    return words[3:] if command.capped else []
 if not words or words[0] not in USAGE:
     sys.stderr.write("".join(USAGE.values()))
 elif COMMANDS[words[0]].least <= len(names(COMMANDS[words[0]])) <= COMMANDS[words[0]].most:

@@ -13,7 +13,8 @@
 //
 // With --cap N the formula is that of plans that set at most N nodes of kind 1. A check, the list and the
 // rewriter print accepted; every command prints a refusal as its number, a blank and its detail. A slice has at
-// most 64 KiB: longer input is refused by 12 first. An N that is no number of 64 bits is a usage message.
+// most 64 KiB: longer input is refused by 12 first. An N that is no number of 64 bits is a usage message, and so
+// is a cap for a command that takes none.
 mod commands;
 
 use check::same;
@@ -50,13 +51,18 @@ struct Ahead {
     good: bool,
 }
 
+// Whether a cap stands behind the command.
+fn has_option() -> bool {
+    let mut word = io::buffer();
+    let n = os::arg(2, &mut word);
+    same(&word[..n], b"--cap")
+}
+
 // Reads the option behind the command, if it is there.
 fn read_option() -> Ahead
     ensures { λ r. ⌜ r .names ≤ 4 ⌝ }
 {
-    let mut word = io::buffer();
-    let n = os::arg(2, &mut word);
-    if !same(&word[..n], b"--cap") {
+    if !has_option() {
         return Ahead {
             cap: Cap::No,
             names: 2,
@@ -121,7 +127,7 @@ fn judge(check: Check, least: usize, most: usize, usage: &[u8])
 }
 
 fn carriers() {
-    if os::arg_count() != 5 {
+    if os::arg_count() != 5 || has_option() {
         complain(b"usage: list_carriers BOOK PLAN OUT\n");
         return;
     }
@@ -141,7 +147,7 @@ fn judge_both(n: usize) {
 
 fn fewest() {
     let number = number_at(3);
-    if os::arg_count() == 6 {
+    if os::arg_count() == 6 && !has_option() {
         if let Argument::Number(n) = number {
             judge_both(n);
             return;
@@ -151,7 +157,7 @@ fn fewest() {
 }
 
 fn upgrade() {
-    if os::arg_count() != 4 {
+    if os::arg_count() != 4 || has_option() {
         complain(b"usage: upgrade_book OLD NEW\n");
         return;
     }
@@ -163,7 +169,7 @@ fn upgrade() {
 }
 
 fn graph() {
-    if os::arg_count() != 4 {
+    if os::arg_count() != 4 || has_option() {
         complain(b"usage: print_graph BOOK PLAN\n");
         return;
     }

@@ -20,9 +20,9 @@ use Rattle.spec.specs.Cap.{allows, setCount}
 use Rattle.spec.specs.Formula.{formula, variables}
 use Rattle.spec.specs.Assignment.{assigned, decoded, decode}
 use Rattle.spec.specs.Refutation.{Lent}
-use Rattle.spec.specs.Entry.{demand, readInstance, judgeAssignment, checkAssignment, fewestFits, fewerRefuted, fewestFor, checkFewest}
+use Rattle.spec.specs.Entry.{demand, readInstance, judgeAssignment, checkAssignment, formulaFits, fewestFits, fewerRefuted, fewestFor, checkFewest}
 pub use Rattle.demands.specs.Claims.{FewerRefuted}
-use Rattle.demands.specs.Reasons.{Refusal, FewerFault, notEmpty, lowerCap, FewestFault, assignmentFault, otherCount, refutationFault, Within}
+use Rattle.demands.specs.Reasons.{Refusal, NoRoomBelow, noRoom, FewerFault, notEmpty, lowerCap, FewestFault, assignmentFault, otherCount, refutationFault, Within}
 use Rattle.demands.proofs.Moves.{fitting}
 use Rattle.demands.proofs.Encoding.{border-byte, bit-one}
 use Rattle.demands.proofs.Entries.{result-is, then-accepted, then-goes, demand-iff, assignment-iff, no-broken, read-at, read-own, check-assignment, check-refutation}
@@ -188,16 +188,28 @@ module _ (I : Instance) (lent : Lent) (r : Bytes) where
           ∙ then-goes _ (demand-iff (eqb set n) 22 .1 (eqb-iff set n .1 (sym (count-read I s) ∙ count)))
           ∙ fewer-refused n k d .1 f
 
+-- what 12 asks for, as the text has it and as it is computed
+short-iff : (I : Instance) (lent : Lent) (n : ℕ) → T (not (fewestFits lent I n)) ↔ NoRoomBelow I lent n
+unfolding fewestFits
+short-iff I lent n = (to n, back)
+  where
+    to : (n : ℕ) → T (not (fewestFits lent I n)) → NoRoomBelow I lent n
+    to zero h = absurd h
+    to (suc m) h = noRoom h
+
+    back : {n : ℕ} → NoRoomBelow I lent n → T (not (fewestFits lent I n))
+    back (noRoom h) = h
+
 -- Refused exactly by the book; by 12 where the formula under cap n minus 1 does not fit the slices (with n = 0 none is needed); for what is wrong
 -- with the assignment; by 22 where its plan sets another count than n; or for what is wrong with the refutation.
 pub fewest-refused : (book : Bytes) (n : ℕ) (assignment refutation : Bytes) (lent : Lent) (k d : ℕ)
     → (checkFewest book n assignment refutation lent ≡ refused k d)
-    ↔ Refusal book (λ b. T (not (fewestFits lent (instanceOf b) n))) (λ b. FewestFault (instanceOf b) n assignment refutation lent) k d
+    ↔ Refusal book (λ b. NoRoomBelow (instanceOf b) lent n) (λ b. FewestFault (instanceOf b) n assignment refutation lent) k d
 unfolding checkFewest fewestFor readInstance behind-room
 fewest-refused book n s r lent k d = (
-  (λ e. reasons.in-order instanceOf book _ _ (λ I. fewestFits lent I n) (λ I. behind-room I lent r n s) (λ b. (λ h. h, λ h. h))
+  (λ e. reasons.in-order instanceOf book _ _ (λ I. fewestFits lent I n) (λ I. behind-room I lent r n s) (λ b. short-iff (instanceOf b) lent n)
       (λ b q. behind-iff (instanceOf b) lent r n s k d .0 q) e),
-  (λ f. refusals.in-order instanceOf book _ _ (λ I. fewestFits lent I n) (λ I. behind-room I lent r n s) (λ b. (λ h. h, λ h. h))
+  (λ f. refusals.in-order instanceOf book _ _ (λ I. fewestFits lent I n) (λ I. behind-room I lent r n s) (λ b. short-iff (instanceOf b) lent n)
       (λ b k d q. behind-iff (instanceOf b) lent r n s k d .1 q) f),
 )
 

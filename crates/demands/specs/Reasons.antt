@@ -16,6 +16,7 @@ use Rattle.spec.specs.Cap.{withinCap, setCount}
 use Rattle.spec.specs.Formula.{Clause, formula, variables}
 use Rattle.spec.specs.Assignment.{assignmentFits, assigned, holds, satisfies, decode}
 use Rattle.spec.specs.Refutation.{ProofStep, Lent, stepIn, clauseAt, stepFaults, stepDetail}
+use Rattle.spec.specs.Entry.{formulaFits}
 
 -- ---- tables of refusals
 
@@ -115,6 +116,10 @@ pub data RefutationFault (lent : Lent) (vars : ℕ) (cs₀ : List Clause) (file 
       → RefutationFault lent vars cs₀ file 21 0
 
 -- ---- the combined verdict, P7
+
+-- 12: the slices are too short for the formula under cap n minus 1; with n = 0 there is no lower cap, and nothing is asked of them
+pub data NoRoomBelow (I : Instance) (lent : Lent) : ℕ → Type 0 where
+  noRoom : {m : ℕ} → T (not (formulaFits lent (under (some m) I))) → NoRoomBelow I lent (suc m)
 
 -- What is wrong with the refutation of fewer than n: under cap n minus 1 what is wrong with a refutation; with n = 0 it "must be empty": 21.
 pub data FewerFault (I : Instance) (lent : Lent) (file : Bytes) : ℕ → ℕ → ℕ → Type 0 where

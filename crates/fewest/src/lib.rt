@@ -1,4 +1,4 @@
-// The combined verdict, P7: "this many borders suffice and fewer never do". `check_fewest` is the entry point: it
+// The combined verdict, P7: this many borders suffice, and fewer never do. `check_fewest` is the entry point: it
 // takes any bytes as a book, as an assignment and as a refutation, any n and any four slices, answers accepted
 // or one numbered refusal, and leaves the slices zero. Assumes nothing.
 use formula::judging::judge_assignment;

@@ -76,7 +76,7 @@ variableAnswer (accepted (library.claim i t s)) = record { number = 0; detail = 
 variableAnswer (accepted (library.counted n k)) = record { number = 0; detail = 0; kind = 5; train = 0; interval = 0; item = n; count = k }
 variableAnswer (refused n d) = record { number = n; detail = d; kind = 0; train = 0; interval = 0; item = 0; count = 0 }
 
--- ---- the cap that a caller asks for, by two numbers: "'No cap' is not a number that could be meant"
+-- ---- the cap that a caller asks for, by two numbers, so that no number stands for "no cap"
 
 abbrev pub capAsked : ℕ → ℕ → Option ℕ
 capAsked zero cap = none

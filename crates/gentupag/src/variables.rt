@@ -88,8 +88,8 @@ fn in_train(b: Book, counts: Counts, train: usize, at: usize) -> Variable
     in_interval(b, counts, train, interval, start, at)
 }
 
-// What the variable `at` behind those of the trains stands for: the counter's lie by j, then by k, and count up
-// to j + 1 of the first j + k + 1 nodes of kind 1.
+// What the variable `at` behind those of the trains stands for: the counter's lie by j, then by k, and say that
+// of the first j + k + 1 nodes of kind 1 at least j + 1 are set.
 fn in_counter(b: Book, counts: Counts, cap: Cap, at: usize) -> Variable
     requires { ⌜ Counted b counts × (ownVariables (instanceOf (held b)) ≤ at) ⌝ }
     ensures { λ r. ⌜ r ≡ variableAnswer (accepted (meaningOf (under (heldCap cap) (instanceOf (held b))) (suc at))) ⌝ }

@@ -18,7 +18,8 @@ ghost use Rattle.spec.specs.Cap.{counterFor, setCount};
 ghost use Rattle.spec.specs.Held.{CountsFit, held};
 ghost use Rattle.layout.specs.Counters.{heldCounter, CounterOf};
 
-// A counter: it counts nodes that are set up to `most`, and has `spare` more nodes of kind 1 than that.
+// A counter: it counts nodes that are set up to `most`, and has `spare` more nodes of kind 1 than that. With
+// `spare` 0 it counts nothing.
 pub struct Counter {
     pub most: usize,
     pub spare: usize,

@@ -27,7 +27,7 @@ unfoldable pub fitting : Option ℕ → Option ℕ
 fitting none = none
 fitting (some n) = elim (ltb n (2 ^ 64)) [ true ↦ some n | false ↦ none ]
 
--- the number that a word stands for: "no decimal number, or does not fit" is none
+-- the number that a word stands for: figures alone, at least one, and a number that fits
 unfoldable pub numberIn : Bytes → Option ℕ
 numberIn [] = none
 numberIn (c ∷ s) = fitting (figures 0 (c ∷ s))

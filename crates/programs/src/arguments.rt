@@ -1,5 +1,5 @@
-// Numbers among a command's words, P7: "a cap or an n that is no decimal number, or does not fit" is none.
-// Assumes nothing.
+// Numbers among a command's words, P7: a cap, and the n of the combined verdict. A word that is no decimal
+// number, or one that does not fit 64 bits, is none (docs/DECISIONS.md). Assumes nothing.
 use frames::bytes::wide;
 ghost use mathlib.Core.Path.{_≡_};
 ghost use Rattle.programs.specs.Arguments.{heldNumber, numberIn};

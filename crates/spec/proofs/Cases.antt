@@ -350,12 +350,13 @@ neededValues x = 0 ∷ x ∷ 0 ∷ 1 ∷ 0 ∷ 0 ∷ 0 ∷ 0 ∷ 1 ∷ 0 ∷ 0 �
 neededRefuted : Bytes
 neededRefuted = emptyStep (25 ∷ 26 ∷ 27 ∷ 28 ∷ 3 ∷ 33 ∷ 47 ∷ 41 ∷ 29 ∷ 30 ∷ 31 ∷ 32 ∷ 14 ∷ 39 ∷ 46 ∷ [])
 
--- the combined verdict, with what a program lends, and with nothing lent
+-- the combined verdict, with what a program lends,
 fewest : Bytes → ℕ → Bytes → Bytes → Answer
 fewest s n a r = answered (checkFewest s n a r programLent) λ _. yes-accepted
 
-fewestUnlent : Bytes → ℕ → Bytes → Bytes → Answer
-fewestUnlent s n a r = answered (checkFewest s n a r (record { words = 0; clauses = 0; values = 0; trail = 0 })) λ _. yes-accepted
+-- and with so many words and clauses, and so much for the variables, lent
+fewestLent : ℕ → ℕ → ℕ → ℕ → Bytes → ℕ → Bytes → Bytes → Answer
+fewestLent w c v t s n a r = answered (checkFewest s n a r (record { words = w; clauses = c; values = v; trail = t })) λ _. yes-accepted
 
 draws : Bytes → Bytes → ℕ → Answer
 draws s p n = answered (printGraph s p n) text
@@ -757,10 +758,27 @@ further =
     -- with n = 0 the refutation is empty, and nothing is asked of the slices
     ∷ record { asked = fewest cappedBook 0 (cappedValues 0 0 0) []; answer = yes-accepted }
     ∷ record { asked = fewest cappedBook 0 (cappedValues 0 0 0) neededRefuted; answer = refusal 21 0 }
-    ∷ record { asked = fewestUnlent cappedBook 0 (cappedValues 0 0 0) []; answer = yes-accepted }
-    ∷ record { asked = fewestUnlent cappedBook 1 [] []; answer = refusal 12 0 }
+    ∷ record { asked = fewestLent 0 0 0 0 cappedBook 0 (cappedValues 0 0 0) []; answer = yes-accepted }
+    ∷ record { asked = fewestLent 0 0 0 0 cappedBook 1 [] []; answer = refusal 12 0 }
+    -- 12 by the formula under the lower cap, which has 140 words, 47 clauses and 17 variables, and 138 and 46 without a cap; it comes before 13
+    ∷ record { asked = fewestLent 138 46 17 17 neededBook 1 [] []; answer = refusal 12 0 }
+    ∷ record { asked = fewestLent 139 47 17 17 neededBook 1 [] []; answer = refusal 12 0 }
+    ∷ record { asked = fewestLent 140 46 17 17 neededBook 1 [] []; answer = refusal 12 0 }
+    ∷ record { asked = fewestLent 140 47 16 17 neededBook 1 [] []; answer = refusal 12 0 }
+    ∷ record { asked = fewestLent 140 47 17 16 neededBook 1 [] []; answer = refusal 12 0 }
+    ∷ record { asked = fewestLent 140 47 17 17 neededBook 1 [] []; answer = refusal 13 0 }
+    -- and in its step, with one word and one clause more
+    ∷ record { asked = fewestLent 140 47 17 17 neededBook 1 (neededValues 1) neededRefuted; answer = refusal 12 0 }
+    ∷ record { asked = fewestLent 141 48 17 17 neededBook 1 (neededValues 1) neededRefuted; answer = yes-accepted }
+    -- a book that is none; a step that does not follow
+    ∷ record { asked = fewest [] 1 [] []; answer = refusal 1 0 }
+    ∷ record { asked = fewest neededBook 1 (neededValues 1) (emptyStep (1 ∷ [])); answer = refusal 20 1 }
     -- what the command prints
     ∷ record { asked = text (printFewest neededBook 1 (neededValues 1) neededRefuted); answer = text acceptedLine }
+    ∷ record { asked = text (printAssignment (some 1) cappedBook (cappedValues 1 0 0)); answer = text (49 ∷ 51 ∷ 32 ∷ 48 ∷ 10 ∷ []) }
+    ∷ record { asked = text (printUnpacking (some 1) cappedBook (cappedValues 1 0 0)); answer = text (49 ∷ 51 ∷ 32 ∷ 48 ∷ 10 ∷ []) }
+    ∷ record { asked = text (printPlan (some 1) cappedBook (cappedPlan 1 1 0)); answer = text (50 ∷ 50 ∷ 32 ∷ 48 ∷ 10 ∷ []) }
+    ∷ record { asked = text (printRefutation (some 0) neededBook neededRefuted); answer = text acceptedLine }
     -- T is 1 to 256, and at least 1 in an old book; 9 for a TTD that a node of kind 1 or 2 may divide, and only there
     ∷ record { asked = totalsOf (headWith 257 ++ nodeFrame 0 ++ endFrame) 0; answer = refusal 6 0 }
     ∷ record { asked = totalsOf (headWith 0 ++ nodeFrame 0 ++ endFrame) 0; answer = refusal 6 0 }
@@ -817,7 +835,7 @@ table = starred ++ (further ++ asked)
 
 pub cases : map (λ c. c .asked) table ≡ map (λ c. c .answer) table
 unfolding
-    cappedBook neededBook totalsUnder clauseUnder assignsUnder encodesUnder refutedUnder cappedPlan cappedValues neededValues neededRefuted fewest fewestUnlent
+    cappedBook neededBook totalsUnder clauseUnder assignsUnder encodesUnder refutedUnder cappedPlan cappedValues neededValues neededRefuted fewest fewestLent
     table starred further asked answered sizesOver sizes sizesUnder variableUnder labels runShown runNumber meant variableNumber oldL bookL newL oldM oldHead oldAt oldTwice longBook time headWith headFrame trainFrom callOf passingBook bookN facingBook speedBook leavingBook platform oldPlatform partingBook thirdBook judged bothGo standsAndGoes goneAssigned standsInL callingBook unbreakableBook refutedWith dividedBook totalsOf decodes assigns encodes nodeFrame segmentFrame trainFrame callFrame endFrame pairBook joinFrame bookM tripleBook rewrites reach times runList sections oneSection clauseNumber emptyStep refuted
     count upTo range each only all any pick empty lastOr same has different sumTo leastFrom firstFault andThen
     littleEndian number field signed unsigned digits decimal decimalZ nearest

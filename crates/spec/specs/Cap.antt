@@ -17,7 +17,7 @@ unfoldable pub allows : Option ℕ → ℕ → Bool
 allows none n = true
 allows (some c) n = leb n c
 
--- A counter: it counts nodes that are set up to `most`, and has `spare` more nodes of kind 1 than that.
+-- A counter: it counts nodes that are set up to `most`, and has `spare` more nodes of kind 1 than that. With `spare` 0 it counts nothing.
 pub record Counter : Type 0 where
   pub most : ℕ
   pub spare : ℕ
