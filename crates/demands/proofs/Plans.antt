@@ -12,7 +12,7 @@ use Rattle.spec.specs.Lists.{Bytes, all, accepted}
 use Rattle.spec.specs.Book.{Book}
 use Rattle.spec.specs.Read.{read_book}
 use Rattle.spec.specs.Instance.{Instance, instance_of, under}
-use Rattle.spec.specs.Plan.{Plan, Move, run, of_run, is_move, IsPlan, is_bit, plan_fits, plan_of, keeps_rules}
+use Rattle.spec.specs.Plan.{absent, gone, Plan, Move, run, of_run, is_move, IsPlan, is_bit, plan_fits, plan_of, keeps_rules}
 use Rattle.spec.specs.Cap.{within_cap}
 use Rattle.spec.specs.Formula.{formula, variables}
 use Rattle.spec.specs.Assignment.{satisfies, assigned, assignment_fits, decode, decoded, encode}
@@ -52,7 +52,9 @@ module _ (cap : Option ℕ) (book : Bytes) (b : Book) (read : read_book book ≡
   pub run_inside : (i : ℕ) → i < (under cap (instance_of b)).trains → (m : Move) → T (is_move (under cap (instance_of b)) i m) → (u : ℕ)
       → Memᴰ u (of_run m (λ r. (under cap (instance_of b)).path i r)) → u < (under cap (instance_of b)).segments
   unfolding of_run is_move
+  run_inside i l absent h u m = elim m [ ]
   run_inside i l (run r) h u m = facts.inside i r l ((ltb_iff r _).0 h) u m
+  run_inside i l gone h u m = elim m [ ]
 
   -- what a satisfying assignment decodes to is coded by it
   pub decoded-coded : (s : Bytes) → T (satisfies (assigned s) (formula (under cap (instance_of b)))) → Codes (under cap (instance_of b)) (assigned s) (plan_of (under cap (instance_of b)) (decode (under cap (instance_of b)) s))

@@ -311,14 +311,17 @@ pub fault-number : {I : Instance} {s : Bytes} {k d : ℕ} → AssignmentFault I 
 fault-number (assignment_unfit h) = (omega arith, omega arith)
 fault-number (clause_false h f) = (omega arith, omega arith)
 
+judged-number : {book : Bytes} {Input : Book → ℕ → ℕ → Type 0} {k d : ℕ} → Refusal book (λ b. ⊥) Input k d
+    → Within 1 11 k ⊎ ((b : Book) × Input b k d)
+judged-number {book} (of_book {k} r) = inl (read_number book k 0 r)
+judged-number (of_room b read h) = absurd h
+judged-number (of_input b read h f) = inr (b, f)
+
 -- An assignment that is judged is refused by 1 to 11, 13 or 14: never by 12.
 pub assignment-number : (cap : Option ℕ) (book assignment : Bytes) (k d : ℕ) → check_assignment cap book assignment ≡ refused k d
     → Within 1 11 k ⊎ Within 13 14 k
-assignment-number cap book s k d e = elim (assignment-refusal cap book s k d e) [
-  | of_book {k} r ↦ inl (read_number book k 0 r)
-  | of_room b read h ↦ absurd h
-  | of_input b read h f ↦ inr (fault-number f)
-]
+assignment-number cap book s k d e =
+    elim (judged-number (assignment-refusal cap book s k d e)) [ inl w ↦ inl w | inr f ↦ inr (fault-number f.1) ]
 
 -- A plan's unpacking is refused by 1 to 14.
 pub unpacking-number : (cap : Option ℕ) (book assignment : Bytes) (n k d : ℕ) → unpack_plan cap book assignment n ≡ refused k d → Within 1 14 k

@@ -39,6 +39,7 @@ mem-each {A = A} xs f y = (to xs, λ h. back xs h.0 h.1 h.2)
         [ inl h ↦ (x, Memᴰ.head refl, h) | inr h ↦ (let r = to xs h in (r.0, Memᴰ.tail r.1, r.2)) ]
 
     back : (xs : List A) (z : A) → Memᴰ z xs → Memᴰ y (f z) → Memᴰ y (each xs f)
+    back [] z m h = elim m [ ]
     back (x ∷ xs) z (Memᴰ.head e) h = Memᴰ.append_left (each xs f) (subst (λ (a : A). Memᴰ y (f a)) e h)
     back (x ∷ xs) z (Memᴰ.tail m) h = Memᴰ.append_right (f x) (back xs z m h)
 

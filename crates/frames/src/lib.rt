@@ -59,8 +59,8 @@ impl HeadFrame {
 
     // The payload's stretch, from its place on.
     pub fn cursor(at: usize) -> Cursor
-        requires* { do ⌜ at + (← ⟦HeadFrame::LEN⟧) < 0x1_0000_0000_0000_0000 ⌝ }
-        ensures* { do ⌜ (result.at ≡ at) × (result.end ≡ at + (← (⟦HeadFrame::LEN⟧).entry)) ⌝ }
+        requires { at + HeadFrame.LEN < 0x1_0000_0000_0000_0000 }
+        ensures { (result.at ≡ at) × (result.end ≡ at + HeadFrame.LEN) }
     {
         Cursor {
             at,
@@ -79,8 +79,8 @@ impl NodeFrame {
 
     // The payload's stretch, from its place on.
     pub fn cursor(at: usize) -> Cursor
-        requires* { do ⌜ at + (← ⟦NodeFrame::LEN⟧) < 0x1_0000_0000_0000_0000 ⌝ }
-        ensures* { do ⌜ (result.at ≡ at) × (result.end ≡ at + (← (⟦NodeFrame::LEN⟧).entry)) ⌝ }
+        requires { at + NodeFrame.LEN < 0x1_0000_0000_0000_0000 }
+        ensures { (result.at ≡ at) × (result.end ≡ at + NodeFrame.LEN) }
     {
         Cursor {
             at,
@@ -99,8 +99,8 @@ impl SegmentFrame {
 
     // The payload's stretch, from its place on.
     pub fn cursor(at: usize) -> Cursor
-        requires* { do ⌜ at + (← ⟦SegmentFrame::LEN⟧) < 0x1_0000_0000_0000_0000 ⌝ }
-        ensures* { do ⌜ (result.at ≡ at) × (result.end ≡ at + (← (⟦SegmentFrame::LEN⟧).entry)) ⌝ }
+        requires { at + SegmentFrame.LEN < 0x1_0000_0000_0000_0000 }
+        ensures { (result.at ≡ at) × (result.end ≡ at + SegmentFrame.LEN) }
     {
         Cursor {
             at,
@@ -119,8 +119,8 @@ impl JoinFrame {
 
     // The payload's stretch, from its place on.
     pub fn cursor(at: usize) -> Cursor
-        requires* { do ⌜ at + (← ⟦JoinFrame::LEN⟧) < 0x1_0000_0000_0000_0000 ⌝ }
-        ensures* { do ⌜ (result.at ≡ at) × (result.end ≡ at + (← (⟦JoinFrame::LEN⟧).entry)) ⌝ }
+        requires { at + JoinFrame.LEN < 0x1_0000_0000_0000_0000 }
+        ensures { (result.at ≡ at) × (result.end ≡ at + JoinFrame.LEN) }
     {
         Cursor {
             at,
@@ -143,8 +143,8 @@ impl TrainFrame {
 
     // The stretch of the payload's fixed part, from the payload's place on.
     pub fn cursor(at: usize) -> Cursor
-        requires* { do ⌜ at + (← ⟦TrainFrame::LEN⟧) < 0x1_0000_0000_0000_0000 ⌝ }
-        ensures* { do ⌜ (result.at ≡ at) × (result.end ≡ at + (← (⟦TrainFrame::LEN⟧).entry)) ⌝ }
+        requires { at + TrainFrame.LEN < 0x1_0000_0000_0000_0000 }
+        ensures { (result.at ≡ at) × (result.end ≡ at + TrainFrame.LEN) }
     {
         Cursor {
             at,
@@ -166,8 +166,8 @@ impl CallFrame {
 
     // The payload's stretch, from its place on.
     pub fn cursor(at: usize) -> Cursor
-        requires* { do ⌜ at + (← ⟦CallFrame::LEN⟧) < 0x1_0000_0000_0000_0000 ⌝ }
-        ensures* { do ⌜ (result.at ≡ at) × (result.end ≡ at + (← (⟦CallFrame::LEN⟧).entry)) ⌝ }
+        requires { at + CallFrame.LEN < 0x1_0000_0000_0000_0000 }
+        ensures { (result.at ≡ at) × (result.end ≡ at + CallFrame.LEN) }
     {
         Cursor {
             at,
@@ -186,8 +186,8 @@ impl UnbreakableFrame {
 
     // The payload's stretch, from its place on.
     pub fn cursor(at: usize) -> Cursor
-        requires* { do ⌜ at + (← ⟦UnbreakableFrame::LEN⟧) < 0x1_0000_0000_0000_0000 ⌝ }
-        ensures* { do ⌜ (result.at ≡ at) × (result.end ≡ at + (← (⟦UnbreakableFrame::LEN⟧).entry)) ⌝ }
+        requires { at + UnbreakableFrame.LEN < 0x1_0000_0000_0000_0000 }
+        ensures { (result.at ≡ at) × (result.end ≡ at + UnbreakableFrame.LEN) }
     {
         Cursor {
             at,
@@ -206,8 +206,8 @@ impl EndFrame {
 
     // The payload's stretch, from its place on.
     pub fn cursor(at: usize) -> Cursor
-        requires* { do ⌜ at + (← ⟦EndFrame::LEN⟧) < 0x1_0000_0000_0000_0000 ⌝ }
-        ensures* { do ⌜ (result.at ≡ at) × (result.end ≡ at + (← (⟦EndFrame::LEN⟧).entry)) ⌝ }
+        requires { at + EndFrame.LEN < 0x1_0000_0000_0000_0000 }
+        ensures { (result.at ≡ at) × (result.end ≡ at + EndFrame.LEN) }
     {
         Cursor {
             at,
@@ -227,8 +227,8 @@ impl OldHeadFrame {
 
     // The stretch of the payload, from the payload's place on.
     pub fn cursor(at: usize) -> Cursor
-        requires* { do ⌜ at + (← ⟦OldHeadFrame::LEN⟧) < 0x1_0000_0000_0000_0000 ⌝ }
-        ensures* { do ⌜ (result.at ≡ at) × (result.end ≡ at + (← (⟦OldHeadFrame::LEN⟧).entry)) ⌝ }
+        requires { at + OldHeadFrame.LEN < 0x1_0000_0000_0000_0000 }
+        ensures { (result.at ≡ at) × (result.end ≡ at + OldHeadFrame.LEN) }
     {
         Cursor {
             at,
@@ -248,8 +248,8 @@ impl OldTrainFrame {
 
     // The stretch of the payload's fixed part, from the payload's place on.
     pub fn cursor(at: usize) -> Cursor
-        requires* { do ⌜ at + (← ⟦OldTrainFrame::LEN⟧) < 0x1_0000_0000_0000_0000 ⌝ }
-        ensures* { do ⌜ (result.at ≡ at) × (result.end ≡ at + (← (⟦OldTrainFrame::LEN⟧).entry)) ⌝ }
+        requires { at + OldTrainFrame.LEN < 0x1_0000_0000_0000_0000 }
+        ensures { (result.at ≡ at) × (result.end ≡ at + OldTrainFrame.LEN) }
     {
         Cursor {
             at,
@@ -269,8 +269,8 @@ impl OldCallFrame {
 
     // The stretch of the payload, from the payload's place on.
     pub fn cursor(at: usize) -> Cursor
-        requires* { do ⌜ at + (← ⟦OldCallFrame::LEN⟧) < 0x1_0000_0000_0000_0000 ⌝ }
-        ensures* { do ⌜ (result.at ≡ at) × (result.end ≡ at + (← (⟦OldCallFrame::LEN⟧).entry)) ⌝ }
+        requires { at + OldCallFrame.LEN < 0x1_0000_0000_0000_0000 }
+        ensures { (result.at ≡ at) × (result.end ≡ at + OldCallFrame.LEN) }
     {
         Cursor {
             at,
@@ -323,8 +323,8 @@ impl StepFrame {
 
     // The stretch of the payload's fixed part, from the payload's place on.
     pub fn cursor(at: usize) -> Cursor
-        requires* { do ⌜ at + (← ⟦StepFrame::LEN⟧) < 0x1_0000_0000_0000_0000 ⌝ }
-        ensures* { do ⌜ (result.at ≡ at) × (result.end ≡ at + (← (⟦StepFrame::LEN⟧).entry)) ⌝ }
+        requires { at + StepFrame.LEN < 0x1_0000_0000_0000_0000 }
+        ensures { (result.at ≡ at) × (result.end ≡ at + StepFrame.LEN) }
     {
         Cursor {
             at,

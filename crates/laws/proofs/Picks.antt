@@ -63,6 +63,7 @@ module _ {ℓ} {A : Type ℓ} (f : A → Bool) where
       later false y ys m = m
 
       back : (xs : List A) → Memᴰ x xs → T (f x) → Memᴰ x (pick f xs)
+      back [] m h = elim m [ ]
       back (y ∷ ys) (Memᴰ.head q) h = taken (f y) y (pick f ys) q (subst (λ (z : A). T (f z)) q h)
       back (y ∷ ys) (Memᴰ.tail m) h = later (f y) y (pick f ys) (back ys m h)
 

@@ -99,6 +99,7 @@ unfolding all
 all-iff {A = A} f xs = (to xs, back xs)
   where
     to : (xs : List A) → T (all f xs) → (x : A) → Memᴰ x xs → T (f x)
+    to [] h x m = elim m [ ]
     to (y ∷ ys) h x (Memᴰ.head e) = subst (λ (z : A). T (f z)) (sym e) ((and-iff (f y) (all f ys)).0 h).0
     to (y ∷ ys) h x (Memᴰ.tail m) = to ys ((and-iff (f y) (all f ys)).0 h).1 x m
 
@@ -117,6 +118,7 @@ any-iff {A = A} f xs = (to xs, λ h. back xs h.0 h.1 h.2)
         [ inl a ↦ (y, Memᴰ.head refl, a) | inr b ↦ (let r = to ys b in (r.0, Memᴰ.tail r.1, r.2)) ]
 
     back : (xs : List A) (x : A) → Memᴰ x xs → T (f x) → T (any f xs)
+    back [] x m h = elim m [ ]
     back (y ∷ ys) x (Memᴰ.head e) h = (or-iff (f y) (any f ys)).1 (inl (subst (λ (z : A). T (f z)) e h))
     back (y ∷ ys) x (Memᴰ.tail m) h = (or-iff (f y) (any f ys)).1 (inr (back ys x m h))
 
@@ -148,6 +150,7 @@ unfolding count
 count-iff n a x = (to n a, λ h. back n a h.0 h.1)
   where
     to : (n a : ℕ) → Memᴰ x (count a n) → (a ≤ x) × (x < a + n)
+    to zero a m = elim m [ ]
     to (suc n) a (Memᴰ.head e) = (omega arith, omega arith)
     to (suc n) a (Memᴰ.tail m) = let h = to n (suc a) m in (omega arith, omega arith)
 

@@ -86,7 +86,7 @@ pub fn add_head(format: Format, b: Book, p: &[u8]) -> Added
 
 // Node: border kind 0 to 3, at most 96.
 pub fn add_node(b: Book, p: &[u8]) -> Added
-    requires* { do ⌜ Packed b × (length p.now ≡ (← ⟦NodeFrame::LEN⟧)) ⌝ }
+    requires { Packed b × (length p.now ≡ NodeFrame.LEN) }
     ensures { (f : frames.Format) → result ≡ added f frames.node_kind (held b) p.now }
 {
     let at = b.node_count;
@@ -115,7 +115,7 @@ fn segment_fits(b: Book, s: Segment) -> bool
 
 // Segment: at most 64.
 pub fn add_segment(b: Book, p: &[u8]) -> Added
-    requires* { do ⌜ Packed b × (length p.now ≡ (← ⟦SegmentFrame::LEN⟧)) ⌝ }
+    requires { Packed b × (length p.now ≡ SegmentFrame.LEN) }
     ensures { (f : frames.Format) → result ≡ added f frames.segment_kind (held b) p.now }
 {
     let at = b.segment_count;
@@ -152,7 +152,7 @@ fn join_fits(b: Book, j: Join) -> bool
 
 // Join: at most 128, a pair at one node once.
 pub fn add_join(b: Book, p: &[u8]) -> Added
-    requires* { do ⌜ Packed b × (length p.now ≡ (← ⟦JoinFrame::LEN⟧)) ⌝ }
+    requires { Packed b × (length p.now ≡ JoinFrame.LEN) }
     ensures { (f : frames.Format) → result ≡ added f frames.join_kind (held b) p.now }
 {
     let at = b.join_count;
@@ -199,7 +199,7 @@ fn call_fits(b: Book, c: Call) -> bool
 
 // Unbreakable TTD: one that some segment has, and that no border may divide. It adds nothing.
 pub fn add_unbreakable(b: Book, p: &[u8]) -> Added
-    requires* { do ⌜ Packed b × T (lists.all (read.segment_fits (held b)) (held b).segments) × (length p.now ≡ (← ⟦UnbreakableFrame::LEN⟧)) ⌝ }
+    requires { Packed b × T (lists.all (read.segment_fits (held b)) (held b).segments) × (length p.now ≡ UnbreakableFrame.LEN) }
     ensures { (f : frames.Format) → result ≡ added f frames.unbreakable_kind (held b) p.now }
 {
     let ttd = wide(p[0]);
