@@ -3,7 +3,7 @@ ghost use Rattle.cabinet.specs.Words.{Names};
 
 use check::same;
 
-#[derive(Drop)]
+#[derive(Clone, Copy)]
 pub enum Command {
     PrintFormula,
     CheckAssignment,

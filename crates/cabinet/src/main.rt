@@ -39,7 +39,7 @@ fn number_at(place: usize) -> Argument {
 }
 
 // What stands ahead of the names: the cap, where the names begin, and whether the cap is a number.
-#[derive(Drop)]
+#[derive(Clone, Copy)]
 struct Ahead {
     cap: Cap,
     names: usize,

@@ -13,7 +13,7 @@ use model::{Book, Counts, MAX_SEGMENTS};
 use plan_rules::apart::{mark, stretch_of, touches};
 
 // Two trains that meet.
-#[derive(Drop)]
+#[derive(Clone, Copy)]
 pub struct Pair {
     pub lower: usize,
     pub higher: usize,

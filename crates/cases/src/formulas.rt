@@ -28,7 +28,7 @@ pub fn print_formula(cap: Cap, book: &[u8], numbers: &[u8]) {
 }
 
 // How many bytes were passed, and their checksum.
-#[derive(Drop)]
+#[derive(Clone, Copy)]
 struct Digest {
     len: u64,
     sum: usize,

@@ -27,7 +27,7 @@ use programs::verdicts::{Check, fewest_files, graph_files};
 use refutation_file::numbers::number_at;
 
 // What a record asks: its letter, and its cap, or n.
-#[derive(Drop)]
+#[derive(Clone, Copy)]
 struct Question {
     letter: u8,
     cap: Cap,

@@ -17,7 +17,7 @@ pub const MOST: usize = 1152921504606846976;
 // A walk: how many words and clauses it has passed, 1 where the clause that it is in holds so far and
 // else 0, and the number of the first clause that did not hold, or 0. Fields of one width, since a walk
 // is handed on at every word.
-#[derive(Drop)]
+#[derive(Clone, Copy)]
 pub struct Walk {
     pub words: usize,
     pub clauses: usize,

@@ -26,7 +26,7 @@ use tables::chains::TRAIN_CHAINS;
 use tables::places::{in_window, served_at_departure};
 
 // The families that go by train and interval.
-#[derive(Drop)]
+#[derive(Clone, Copy)]
 pub enum Family {
     B,
     C,

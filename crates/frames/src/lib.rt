@@ -18,7 +18,7 @@ pub const OPENING: usize = 4;
 pub const NUMBER: usize = 4;
 
 // The formats of book files: the one in force, and the one before it, which is still read to be rewritten.
-#[derive(Drop)]
+#[derive(Clone, Copy)]
 pub enum Format {
     Now,
     Old,
@@ -40,13 +40,13 @@ pub fn time_width(format: Format) -> usize
 }
 
 // The stretch of a file from `at` up to `end`.
-#[derive(Drop)]
+#[derive(Clone, Copy)]
 pub struct Cursor {
     pub at: usize,
     pub end: usize,
 }
 
-#[derive(Drop)]
+#[derive(Clone, Copy)]
 pub struct HeadFrame {}
 
 impl HeadFrame {
@@ -69,7 +69,7 @@ impl HeadFrame {
     }
 }
 
-#[derive(Drop)]
+#[derive(Clone, Copy)]
 pub struct NodeFrame {}
 
 impl NodeFrame {
@@ -89,7 +89,7 @@ impl NodeFrame {
     }
 }
 
-#[derive(Drop)]
+#[derive(Clone, Copy)]
 pub struct SegmentFrame {}
 
 impl SegmentFrame {
@@ -109,7 +109,7 @@ impl SegmentFrame {
     }
 }
 
-#[derive(Drop)]
+#[derive(Clone, Copy)]
 pub struct JoinFrame {}
 
 impl JoinFrame {
@@ -130,7 +130,7 @@ impl JoinFrame {
 }
 
 // LEN is the fixed part; n directed segments stand behind it.
-#[derive(Drop)]
+#[derive(Clone, Copy)]
 pub struct TrainFrame {}
 
 impl TrainFrame {
@@ -153,7 +153,7 @@ impl TrainFrame {
     }
 }
 
-#[derive(Drop)]
+#[derive(Clone, Copy)]
 pub struct CallFrame {}
 
 impl CallFrame {
@@ -176,7 +176,7 @@ impl CallFrame {
     }
 }
 
-#[derive(Drop)]
+#[derive(Clone, Copy)]
 pub struct UnbreakableFrame {}
 
 impl UnbreakableFrame {
@@ -196,7 +196,7 @@ impl UnbreakableFrame {
     }
 }
 
-#[derive(Drop)]
+#[derive(Clone, Copy)]
 pub struct EndFrame {}
 
 impl EndFrame {
@@ -217,7 +217,7 @@ impl EndFrame {
 }
 
 // The Head of an old book.
-#[derive(Drop)]
+#[derive(Clone, Copy)]
 pub struct OldHeadFrame {}
 
 impl OldHeadFrame {
@@ -238,7 +238,7 @@ impl OldHeadFrame {
 }
 
 // A Train of an old book.
-#[derive(Drop)]
+#[derive(Clone, Copy)]
 pub struct OldTrainFrame {}
 
 impl OldTrainFrame {
@@ -259,7 +259,7 @@ impl OldTrainFrame {
 }
 
 // A Call of an old book.
-#[derive(Drop)]
+#[derive(Clone, Copy)]
 pub struct OldCallFrame {}
 
 impl OldCallFrame {
@@ -313,7 +313,7 @@ pub fn call_end(format: Format, at: usize) -> usize
 }
 
 // A step of a refutation. LEN is the fixed part; the literals and the hints stand behind it.
-#[derive(Drop)]
+#[derive(Clone, Copy)]
 pub struct StepFrame {}
 
 impl StepFrame {
@@ -356,7 +356,7 @@ pub fn time(format: Format, s: &[u8], at: usize) -> usize
 
 // What stands at a place of a file: a whole frame, with its kind and its payload's length, or no
 // whole one.
-#[derive(Drop)]
+#[derive(Clone, Copy)]
 pub enum Framed {
     Whole { kind: usize, len: usize },
     Cut,
@@ -382,7 +382,7 @@ pub fn frame_at(s: &[u8], at: usize) -> Framed
 }
 
 // The kinds of a book's frames, and what a number that is no kind's stands for.
-#[derive(Drop)]
+#[derive(Clone, Copy)]
 pub enum Kind {
     Head,
     Node,

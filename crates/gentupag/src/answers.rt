@@ -3,7 +3,7 @@
 
 // A verdict.
 #[repr(C)]
-#[derive(Drop)]
+#[derive(Clone, Copy)]
 pub struct Verdict {
     pub number: usize,
     pub detail: usize,
@@ -11,7 +11,7 @@ pub struct Verdict {
 
 // A verdict, and how many bytes of the output were written.
 #[repr(C)]
-#[derive(Drop)]
+#[derive(Clone, Copy)]
 pub struct Output {
     pub number: usize,
     pub detail: usize,
@@ -20,7 +20,7 @@ pub struct Output {
 
 // A formula's totals; `words` of the output were written.
 #[repr(C)]
-#[derive(Drop)]
+#[derive(Clone, Copy)]
 pub struct Totals {
     pub number: usize,
     pub detail: usize,
@@ -31,7 +31,7 @@ pub struct Totals {
 
 // A book's sizes.
 #[repr(C)]
-#[derive(Drop)]
+#[derive(Clone, Copy)]
 pub struct Sizes {
     pub number: usize,
     pub detail: usize,
@@ -56,7 +56,7 @@ pub const NO_RUN: usize = 2;
 // A run: how many runs its train has, how many segments the train stands on (l), and the run's
 // directed segments, the first `length` bytes of `path`, with zeros behind.
 #[repr(C)]
-#[derive(Drop)]
+#[derive(Clone, Copy)]
 pub struct Run {
     pub number: usize,
     pub detail: usize,
@@ -84,7 +84,7 @@ pub const IS_COUNT: usize = 5;
 // claim, and of a count, which a cap adds, a node of kind 1: of the nodes of kind 1 up to it at least `count`
 // are set. A border and a count have no train and no interval, and only a count has a `count`.
 #[repr(C)]
-#[derive(Drop)]
+#[derive(Clone, Copy)]
 pub struct Variable {
     pub number: usize,
     pub detail: usize,

@@ -9,7 +9,7 @@ use model::{Book, Counts};
 use network::track::length_in_segments;
 
 // A block: its train, how many runs the train has and how long it is in segments; its first variable.
-#[derive(Drop)]
+#[derive(Clone, Copy)]
 pub struct Block {
     pub train: usize,
     pub runs: usize,

@@ -15,7 +15,7 @@ use network::track::{count_free, is_free};
 
 // A counter: it counts nodes that are set up to `most`, and has `spare` more nodes of kind 1 than that. With
 // `spare` 0 it counts nothing.
-#[derive(Drop)]
+#[derive(Clone, Copy)]
 pub struct Counter {
     pub most: usize,
     pub spare: usize,

@@ -19,7 +19,7 @@ pub const ABSENT: usize = 65534;
 pub const GONE: usize = 65535;
 
 // A train's move in an interval: a run of its list, absent, or gone.
-#[derive(Drop)]
+#[derive(Clone, Copy)]
 pub enum Move {
     Run(usize),
     Absent,

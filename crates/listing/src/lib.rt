@@ -40,7 +40,7 @@ pub const SUCCESSOR_BYTES: usize = FAN_BYTES * FAN_BYTES;
 const STOP: usize = MAX_RUNS + 1;
 
 // A path by value: its first n directed segments, zeros behind.
-#[derive(Drop)]
+#[derive(Clone, Copy)]
 pub struct Path {
     pub at: [u8; RUN_SEGMENTS],
     pub n: usize,

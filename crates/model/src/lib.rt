@@ -26,7 +26,7 @@ pub const MAX_REACH: usize = 8;
 pub const MAX_RUNS: usize = 256;
 
 // P7: at most how many nodes of kind 1 may be set, or no cap.
-#[derive(Drop)]
+#[derive(Clone, Copy)]
 pub enum Cap {
     No,
     AtMost(usize),
@@ -36,7 +36,7 @@ pub enum Cap {
 pub type Counts = [usize; MAX_TRAINS];
 
 // A segment: its two nodes and its TTD.
-#[derive(Drop)]
+#[derive(Clone, Copy)]
 pub struct Segment {
     pub a: u8,
     pub b: u8,
@@ -44,7 +44,7 @@ pub struct Segment {
 }
 
 // A join of two segments at a node.
-#[derive(Drop)]
+#[derive(Clone, Copy)]
 pub struct Join {
     pub node: u8,
     pub left: u8,
@@ -52,7 +52,7 @@ pub struct Join {
 }
 
 // A train: `place` holds `size` directed segments, rear first.
-#[derive(Drop)]
+#[derive(Clone, Copy)]
 pub struct Train {
     pub metres: usize,
     pub speed: usize,
@@ -62,7 +62,7 @@ pub struct Train {
 }
 
 // A call of a train on a segment, in the window from `first` to `last`.
-#[derive(Drop)]
+#[derive(Clone, Copy)]
 pub struct Call {
     pub train: u8,
     pub segment: u8,
@@ -71,7 +71,7 @@ pub struct Call {
 }
 
 // A book: each row holds as many entries as its count says, in file order; behind them it is zero.
-#[derive(Drop)]
+#[derive(Clone, Copy)]
 pub struct Book {
     pub segment_metres: usize,
     pub interval_seconds: usize,

@@ -19,7 +19,7 @@ use model::{Book, Counts, MAX_SEGMENTS};
 use tables::places::start_of;
 
 // A stretch of the table of all trains' runs: `size` directed segments from `at` on.
-#[derive(Drop)]
+#[derive(Clone, Copy)]
 pub struct Stretch {
     pub at: usize,
     pub size: usize,

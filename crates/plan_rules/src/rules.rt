@@ -21,7 +21,7 @@ use tables::places::{
 };
 
 // The rules that each train keeps or breaks by itself: 2, 3, 4 and 5.
-#[derive(Drop)]
+#[derive(Clone, Copy)]
 pub enum TrainRule {
     Departing,
     Leaving,

@@ -6,7 +6,7 @@ ghost use Rattle.programs.specs.Arguments.{held_number, number_in};
 use frames::bytes::wide;
 
 // The number that a word stands for, if it is one.
-#[derive(Drop)]
+#[derive(Clone, Copy)]
 pub enum Argument {
     Number(usize),
     Other,

@@ -54,7 +54,7 @@ fn put_word(buf: &mut [u8], at: usize, l: i32) -> usize
 }
 
 // A piece of the text: which word is next, and how many bytes there are.
-#[derive(Drop)]
+#[derive(Clone, Copy)]
 pub struct Piece {
     pub next: usize,
     pub len: usize,

@@ -17,7 +17,7 @@ use model::Cap;
 use writing::{FormulaAnswer, write_formula};
 
 // How many bytes are printed first, and how many words follow them.
-#[derive(Drop)]
+#[derive(Clone, Copy)]
 pub struct Opened {
     pub len: usize,
     pub words: usize,
@@ -62,7 +62,7 @@ pub fn open_text(cap: Cap, book: &[u8], long: bool, words: &mut [i32], line: &mu
 
 // An input: how many of its bytes are at the start of a buffer, whether it is longer than the buffer,
 // and whether it could be read.
-#[derive(Drop)]
+#[derive(Clone, Copy)]
 pub struct Loaded {
     pub len: usize,
     pub long: bool,

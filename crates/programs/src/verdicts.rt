@@ -30,7 +30,7 @@ use upgrading::upgrade_book;
 
 // Which check a program makes. An assignment is judged alone, or judged and unpacked; the carriers are
 // listed of a plan that is checked.
-#[derive(Drop)]
+#[derive(Clone, Copy)]
 pub enum Check {
     Assignment,
     Unpacking,
@@ -40,7 +40,7 @@ pub enum Check {
 }
 
 // How many bytes are printed, whether the answer is accepted, and how many bytes its result has.
-#[derive(Drop)]
+#[derive(Clone, Copy)]
 pub struct Said {
     pub len: usize,
     pub accepted: bool,

@@ -14,7 +14,7 @@ use frames::NUMBER;
 use refutation_file::numbers::{literal_at, number_at, variable};
 
 // The truth of a literal: open, true or false.
-#[derive(Drop)]
+#[derive(Clone, Copy)]
 pub enum Value {
     Open,
     Yes,
@@ -87,7 +87,7 @@ fn take_false(list: &[u8], values: &mut [u8], trail: &mut [usize]) -> usize
 }
 
 // What became of a step's hints: whether they proved it, and how many variables are set now.
-#[derive(Drop)]
+#[derive(Clone, Copy)]
 struct Tried {
     proved: bool,
     set: usize,

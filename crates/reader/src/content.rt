@@ -24,13 +24,13 @@ use network::scans::{may_divide, some_has};
 use network::track::{is_path, joined, length_in_segments, speed_in_segments, touches};
 
 // Whether a frame's content passes, or the number that refuses it.
-#[derive(Drop)]
+#[derive(Clone, Copy)]
 pub enum Checked {
     Fine,
     Refused(usize),
 }
 
-#[derive(Drop)]
+#[derive(Clone, Copy)]
 pub struct Added {
     pub checked: Checked,
     pub book: Book,

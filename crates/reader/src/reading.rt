@@ -32,21 +32,21 @@ use model::{
 use network::calls::calls_of;
 
 // A verdict: accepted, or a refusal's number and detail.
-#[derive(Drop)]
+#[derive(Clone, Copy)]
 pub enum Answer {
     Accepted,
     Refused(usize, usize),
 }
 
 // Accepted, with so many bytes of the output written, or a refusal's number and detail.
-#[derive(Drop)]
+#[derive(Clone, Copy)]
 pub enum OutputAnswer {
     Wrote(usize),
     Refused(usize, usize),
 }
 
 // A book that was read, with how many runs each of its trains has; or the empty book beside its refusal.
-#[derive(Drop)]
+#[derive(Clone, Copy)]
 pub struct BookRead {
     pub answer: Answer,
     pub book: Book,
@@ -187,14 +187,14 @@ fn add_frame(format: Format, b: Book, kind: Kind, s: &[u8], at: usize, end: usiz
 }
 
 // How reading goes on after a frame: a refusal, the End, or further at a place, after a kind's rank.
-#[derive(Drop)]
+#[derive(Clone, Copy)]
 pub enum Next {
     Stop(usize),
     End,
     More { at: usize, last: usize },
 }
 
-#[derive(Drop)]
+#[derive(Clone, Copy)]
 pub struct Stepped {
     pub next: Next,
     pub book: Book,

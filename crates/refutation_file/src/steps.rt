@@ -10,7 +10,7 @@ ghost use Rattle.refutation_file.specs.Found.{step_found, step_refusal, literal_
 use frames::{Framed, NUMBER, OPENING, StepFrame, frame_at, pair};
 
 // What stands at a place of a refutation: a step, with how many literals and hints it has, or none.
-#[derive(Drop)]
+#[derive(Clone, Copy)]
 pub enum Step {
     Whole { literals: usize, hints: usize },
     Bad,

@@ -12,14 +12,14 @@ use refutation_file::steps::{Step, hints_at, literals_at, step_at};
 
 // How far the lent slices are filled with the clauses that a step may name: so many words, so many
 // clauses.
-#[derive(Drop)]
+#[derive(Clone, Copy)]
 pub struct Extent {
     pub words: usize,
     pub clauses: usize,
 }
 
 // A proved step, with how many literals and hints it has, or a refusal's number.
-#[derive(Drop)]
+#[derive(Clone, Copy)]
 pub enum StepAnswer {
     Proved { literals: usize, hints: usize },
     Refused(usize),

@@ -27,7 +27,7 @@ pub fn prepare_runs(book: &[u8], runs: &mut [u8]) -> BookRead
 }
 
 // A book that was read, or its refusal; and how many bytes the table of what meets has.
-#[derive(Drop)]
+#[derive(Clone, Copy)]
 pub struct Prepared {
     pub read: BookRead,
     pub meet_bytes: usize,

@@ -26,7 +26,7 @@ use model::Book;
 use reader::reading::{Answer, OutputAnswer, read_as};
 
 // Where the times of a payload stand, and how many there are.
-#[derive(Drop)]
+#[derive(Clone, Copy)]
 pub struct Times {
     pub at: usize,
     pub count: usize,

@@ -18,7 +18,7 @@ use tables::meets::MEET_BYTES;
 use tables::preparing::prepare_chains;
 
 // The totals of a formula that was written, or a refusal's number and detail.
-#[derive(Drop)]
+#[derive(Clone, Copy)]
 pub enum FormulaAnswer {
     Totals {
         variables: usize,

@@ -10,22 +10,22 @@ use Rattle.frames.proofs.pair.Tie as tie
 shared-slice-read-low : tie.Need-shared-slice-read-low
 shared-slice-read-low c = search rules
 
-cast-low : tie.Need-overflow-cast-low
+cast-low : tie.Need-overflow_cast-low
 cast-low c = omega (arith, c.shared-slice-known.given c.before.args.at)
 
-add-high : tie.Need-overflow-add-high
+add-high : tie.Need-overflow_add-high
 add-high c = search rules
 
 shared-slice-read-high : tie.Need-shared-slice-read-high
 shared-slice-read-high c = search rules
 
-cast-high : tie.Need-overflow-cast-high
+cast-high : tie.Need-overflow_cast-high
 cast-high c = omega (arith, c.shared-slice-known2.given (c.before.before.args.at + 1))
 
-mul-result : tie.Need-overflow-mul-result
+mul-result : tie.Need-overflow_mul-result
 mul-result c = omega (arith, c.shared-slice-known2.given (c.before.before.args.at + 1))
 
-add-result : tie.Need-overflow-add-result
+add-result : tie.Need-overflow_add-result
 add-result c =
     omega (arith, c.shared-slice-known2.given c.before.before.args.at, c.shared-slice-known2.given (c.before.before.args.at + 1))
 

@@ -34,7 +34,7 @@ module _ (c : tie.After-shared-slice-known2) where
 shared-slice-read-result : tie.Need-shared-slice-read-result
 shared-slice-read-result c = inside c
 
-cast-result : tie.Need-overflow-cast-result
+cast-result : tie.Need-overflow_cast-result
 cast-result c = omega (arith, c.shared-slice-known2.given (entry c).args.at)
 
 returns-2 : tie.Need-returns-2
