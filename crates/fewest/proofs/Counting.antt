@@ -21,7 +21,7 @@ use Rattle.demands.proofs.Entries.{assignment-iff}
 use Rattle.reader.specs.declared.reading.Answer.{Answer}
 use Rattle.reader.specs.declared.reading.Answer.TheVariants.{Accepted, Refused}
 use Rattle.reader.specs.BookAnswers.{answer_of}
-use Rattle.refutation_steps.specs.declared.one_step_lem.Extent.{Extent}
+use Rattle.refutation_steps.specs.declared.one_step.Extent.{Extent}
 use Rattle.fewest.specs.Counted.{counted_for, room_for}
 
 -- ---- what an answer says of a verdict

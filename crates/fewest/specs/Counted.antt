@@ -6,7 +6,7 @@ use Rattle.spec.specs.Cap.{set_count}
 use Rattle.spec.specs.Refutation.{Lent}
 use Rattle.spec.specs.Assignment.{assigned, decoded}
 use Rattle.spec.specs.Entry.{demand, judge_assignment}
-use Rattle.refutation_steps.specs.declared.one_step_lem.Extent.{Extent}
+use Rattle.refutation_steps.specs.declared.one_step.Extent.{Extent}
 
 -- 13 and 14, then 22: the assignment is accepted, and its plan sets n nodes of kind 1
 unfoldable pub counted_for : Instance → ℕ → Bytes → Verdict (Unit {0})

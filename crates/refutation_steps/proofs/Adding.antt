@@ -18,9 +18,9 @@ use Rattle.propagation.proofs.Lookup.{length-starts}
 use Rattle.propagation.proofs.Adding.{starts-append}
 use Rattle.propagation.specs.Known.{LeftOnTrail}
 use Rattle.propagation.proofs.Trail.{left_alone, left_both}
-use Rattle.refutation_steps.specs.declared.one_step_lem.Extent.{Extent}
-use Rattle.refutation_steps.specs.declared.one_step_lem.StepAnswer.{StepAnswer}
-use Rattle.refutation_steps.specs.declared.one_step_lem.StepAnswer.TheVariants.{Proved, Refused}
+use Rattle.refutation_steps.specs.declared.one_step.Extent.{Extent}
+use Rattle.refutation_steps.specs.declared.one_step.StepAnswer.{StepAnswer}
+use Rattle.refutation_steps.specs.declared.one_step.StepAnswer.TheVariants.{Proved, Refused}
 use Rattle.refutation_steps.specs.Checked.{step_checked}
 use Rattle.refutation_steps.specs.Added.{added_by, added_from, Adds}
 

@@ -21,9 +21,9 @@ use Rattle.spec.specs.Refutation.{step_in, step_detail, check_steps, check_file,
 use Rattle.reader.specs.declared.reading.Answer.{Answer}
 use Rattle.reader.specs.declared.reading.Answer.TheVariants.{Accepted, Refused}
 use Rattle.reader.specs.BookAnswers.{answer_of}
-use Rattle.refutation_steps.specs.declared.one_step_lem.Extent.{Extent}
-use Rattle.refutation_steps.specs.declared.one_step_lem.StepAnswer.{StepAnswer}
-use Rattle.refutation_steps.specs.declared.one_step_lem.StepAnswer.TheVariants as step
+use Rattle.refutation_steps.specs.declared.one_step.Extent.{Extent}
+use Rattle.refutation_steps.specs.declared.one_step.StepAnswer.{StepAnswer}
+use Rattle.refutation_steps.specs.declared.one_step.StepAnswer.TheVariants as step
 use Rattle.refutation_file.specs.Found.{step_bytes}
 use Rattle.refutation_steps.specs.Checked.{Ready, one_more, lent_by, step_checked, Leaves}
 use Rattle.refutation_steps.proofs.StepFaults.{words-added, is-bad}

@@ -20,9 +20,9 @@ use Rattle.refutation_file.specs.Found.{step_found, literal_bytes}
 use Rattle.propagation.specs.Known.{LeftOnTrail}
 use Rattle.refutation_steps.specs.Checked.{Ready, step_checked, lent_by, Leaves}
 use Rattle.refutation_file.specs.declared.steps.Step.TheVariants.{Whole}
-use Rattle.refutation_steps.specs.declared.one_step_lem.Extent.{Extent}
-use Rattle.refutation_steps.specs.declared.one_step_lem.StepAnswer.{StepAnswer}
-use Rattle.refutation_steps.specs.declared.one_step_lem.StepAnswer.TheVariants.{Proved, Refused}
+use Rattle.refutation_steps.specs.declared.one_step.Extent.{Extent}
+use Rattle.refutation_steps.specs.declared.one_step.StepAnswer.{StepAnswer}
+use Rattle.refutation_steps.specs.declared.one_step.StepAnswer.TheVariants.{Proved, Refused}
 use Rattle.refutation_file.proofs.NumberLists.{literals-length}
 use Rattle.refutation_file.proofs.Found.{whole-step, literals-list, hints-list}
 use Rattle.propagation.proofs.Lookup.{starts-length}

@@ -13,8 +13,8 @@ use Rattle.spec.specs.Formula.{Clause, words_of}
 use Rattle.spec.specs.Refutation.{step_in, literals_fit, hints_fit, clauses_fit, follows_rule, step_faults, literal_count, hint_count, is_bad}
 use Rattle.demands.proofs.Words.{words_append, words-one}
 use Rattle.refutation_steps.specs.Checked.{lent_by, step_answer, step_checked}
-use Rattle.refutation_steps.specs.declared.one_step_lem.StepAnswer.{StepAnswer}
-use Rattle.refutation_steps.specs.declared.one_step_lem.StepAnswer.TheVariants.{Proved, Refused}
+use Rattle.refutation_steps.specs.declared.one_step.StepAnswer.{StepAnswer}
+use Rattle.refutation_steps.specs.declared.one_step.StepAnswer.TheVariants.{Proved, Refused}
 
 -- the answer to a step by its five tests, in the order of the specification's table
 answer : Bool → Bool → Bool → Bool → Bool → Bytes → StepAnswer

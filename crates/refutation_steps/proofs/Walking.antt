@@ -18,8 +18,8 @@ use Rattle.demands.proofs.Faults.{passes, first-none}
 use Rattle.demands.proofs.Refuting.{one_step, at-step}
 use Rattle.demands.proofs.Files.{counts, literals-length}
 use Rattle.refutation_file.specs.Found.{step_bytes}
-use Rattle.refutation_steps.specs.declared.one_step_lem.StepAnswer.{StepAnswer}
-use Rattle.refutation_steps.specs.declared.one_step_lem.StepAnswer.TheVariants.{Proved, Refused}
+use Rattle.refutation_steps.specs.declared.one_step.StepAnswer.{StepAnswer}
+use Rattle.refutation_steps.specs.declared.one_step.StepAnswer.TheVariants.{Proved, Refused}
 use Rattle.refutation_steps.specs.Checked.{lent_by, step_answer, step_checked}
 
 -- ---- the answer to a step, and its first fault

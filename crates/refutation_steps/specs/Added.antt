@@ -7,9 +7,9 @@ use Rattle.spec.specs.Formula.{Clause, words_of}
 use Rattle.spec.specs.Refutation.{step_in, clauses_of}
 use Rattle.propagation.specs.Kept.{starts_from}
 use Rattle.propagation.specs.Known.{LeftOnTrail}
-use Rattle.refutation_steps.specs.declared.one_step_lem.Extent.{Extent}
-use Rattle.refutation_steps.specs.declared.one_step_lem.StepAnswer.{StepAnswer}
-use Rattle.refutation_steps.specs.declared.one_step_lem.StepAnswer.TheVariants.{Proved, Refused}
+use Rattle.refutation_steps.specs.declared.one_step.Extent.{Extent}
+use Rattle.refutation_steps.specs.declared.one_step.StepAnswer.{StepAnswer}
+use Rattle.refutation_steps.specs.declared.one_step.StepAnswer.TheVariants.{Proved, Refused}
 use Rattle.refutation_steps.specs.Checked.{step_checked}
 
 -- the clauses that a step of clause c adds, with those of the steps behind it: a refused step adds none, and nothing is checked

@@ -9,9 +9,9 @@ use Rattle.spec.specs.Refutation.{Lent, step_in, literal_count, hint_count, step
 use Rattle.spec.specs.Entry.{zeroed}
 use Rattle.propagation.specs.Kept.{Kept}
 use Rattle.propagation.specs.Known.{LeftOnTrail}
-use Rattle.refutation_steps.specs.declared.one_step_lem.Extent.{Extent}
-use Rattle.refutation_steps.specs.declared.one_step_lem.StepAnswer.{StepAnswer}
-use Rattle.refutation_steps.specs.declared.one_step_lem.StepAnswer.TheVariants.{Proved, Refused}
+use Rattle.refutation_steps.specs.declared.one_step.Extent.{Extent}
+use Rattle.refutation_steps.specs.declared.one_step.StepAnswer.{StepAnswer}
+use Rattle.refutation_steps.specs.declared.one_step.StepAnswer.TheVariants.{Proved, Refused}
 
 -- slices of so many words and clauses; 12 of a step asks nothing of the other two
 abbrev pub lent_by : ℕ → ℕ → Lent

@@ -25,7 +25,7 @@ use Rattle.propagation.specs.Kept.{starts_from}
 use Rattle.propagation.proofs.Lookup.{length-starts}
 use Rattle.propagation.proofs.Storing.{length-zeroed}
 use Rattle.propagation.proofs.Adding.{kept_of}
-use Rattle.refutation_steps.specs.declared.one_step_lem.Extent.{Extent}
+use Rattle.refutation_steps.specs.declared.one_step.Extent.{Extent}
 use Rattle.refutation_steps.specs.Checked.{Ready}
 use Rattle.refutations.specs.Standing.{has_room, words_loaded, starts_loaded, Stands}
 

@@ -5,7 +5,7 @@ use Rattle.spec.specs.Instance.{Instance}
 use Rattle.spec.specs.Formula.{formula, words_of}
 use Rattle.spec.specs.Refutation.{clauses_fit}
 use Rattle.propagation.specs.Kept.{starts_from}
-use Rattle.refutation_steps.specs.declared.one_step_lem.Extent.{Extent}
+use Rattle.refutation_steps.specs.declared.one_step.Extent.{Extent}
 use Rattle.refutation_steps.specs.Checked.{lent_by}
 
 -- how many words and clauses it has

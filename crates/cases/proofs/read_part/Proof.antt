@@ -3,12 +3,12 @@ use Rattle.std.proofs.Common.{sym, length-take-le, rules}
 use Rattle.cases.proofs.read_part.Statement.{statement}
 use Rattle.cases.proofs.read_part.Tie as tie
 
-pub read-part-spec : {M : Type 1} → statement M
-read-part-spec =
+pub read_part_spec : {M : Type 1} → statement M
+read_part_spec =
     tie.close
     (tie.spec
     (λ c. search rules)
-    (λ c. sym (length-take-le _ _ c.before.if1.true))
+    (λ c. sym (length-take-le _ _ c.if-n-buf.true))
     (λ c κs. search rules)
     (λ c. search rules)
     (λ c. search rules)

@@ -14,7 +14,7 @@ use Rattle.checking.proofs.check_plan.Statement.{statement}
 use Rattle.checking.proofs.check_plan.Tie as tie
 
 -- the answer to the book's bytes
-module _ (c : tie.After-prepare) where
+module _ (c : tie.After-prepare-p) where
   abbrev start : tie.Start
   start = c.before.before.before.before.before.before
 
@@ -26,30 +26,30 @@ module _ (c : tie.After-prepare) where
   onward I = encoded_for I start.args.plan.now (length start.args.out.now)
 
 -- the book is accepted
-module _ (c : tie.After-enum-told) where
-  abbrev prepared : tie.After-prepare
+module _ (c : tie.In-Accepted) where
+  abbrev prepared : tie.After-prepare-p
   prepared = c.before.before.before.before.before.before.before
 
-  ready : TablesReady prepared.prepare.result prepared.prepare.last.1.0 prepared.prepare.last.1.1.0
-  ready = prepared.prepare.ensures.1 c.enum_told.given.1
+  ready : TablesReady prepared.prepare-p.result prepared.prepare-p.last.1.0 prepared.prepare-p.last.1.1.0
+  ready = prepared.prepare-p.ensures.1 c.in-Accepted.is
 
-returns : tie.Need-returns
+returns : tie.Need-returns-in-Refused
 unfolding check_plan assignment_output read_under and_then
 returns c =
     let r = c.before.before.before.before.before.before.before.before in
-    left-stopped _ (ap (λ (v : Verdict Instance). and_then v (onward r)) (stopped _ _ r.prepare.ensures.0 (capped r) c.before.answer.given.1))
+    left-stopped _ (ap (λ (v : Verdict Instance). and_then v (onward r)) (stopped _ _ r.prepare-p.ensures.0 (capped r) c.answer-1.given.1))
 
-returns-2 : tie.Need-returns-2
+returns-2 : tie.Need-returns-in-Accepted
 unfolding check_plan assignment_output read_under and_then
 returns-2 c =
     let d = c.before.before in
     let a = d.before.before.before.before in
     let r = prepared a in
-    left-same _ (ap (λ (v : Verdict Instance). and_then v (onward r)) (went_on _ _ r.prepare.ensures.0 a.enum_told.given.1 (capped r)))
-    d.encode-by.ensures
+    left-same _ (ap (λ (v : Verdict Instance). and_then v (onward r)) (went_on _ _ r.prepare-p.ensures.0 a.in-Accepted.is (capped r)))
+    d.encode_by.ensures
 
-pub check-plan-spec : {M : Type 1} → statement M
-check-plan-spec =
+pub check_plan_spec : {M : Type 1} → statement M
+check_plan_spec =
     tie.close
     (tie.spec
     (λ c. sym runs-long)

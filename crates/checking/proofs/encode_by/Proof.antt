@@ -27,7 +27,7 @@ use Rattle.checking.proofs.encode_by.Statement.{statement}
 use Rattle.checking.proofs.encode_by.Tie as tie
 
 -- the answer to the plan, by the number of the book's variables
-module _ (a : tie.After-admit-plan) where
+module _ (a : tie.After-admit_plan-admitted) where
   abbrev start : tie.Start
   start = a.before.before.before.before.before.before
 
@@ -47,63 +47,63 @@ module _ (a : tie.After-admit-plan) where
   abbrev room : ℕ
   room = length start.args.out.now
 
-  need : a.before.variable-count.result ≡ variables I
-  need = a.before.variable-count.ensures.0
+  need : a.variable_count-length.result ≡ variables I
+  need = a.variable_count-length.ensures.0
 
-  answered : a.admit-plan.result ≡ answer_of (admit_plan I plan (variables I) room)
+  answered : a.admit_plan-admitted.result ≡ answer_of (admit_plan I plan (variables I) room)
   answered =
-      a.admit-plan.ensures
+      a.admit_plan-admitted.ensures
       ∙ ap (λ (n : ℕ). answer_of (admit_plan own plan n room)) need
       ∙ ap answer_of (sym (admit-same cap own plan (variables I) room))
 
 -- it is accepted
-module _ (c : tie.After-enum-told) where
-  abbrev asked : tie.After-admit-plan
+module _ (c : tie.In-Accepted) where
+  abbrev asked : tie.After-admit_plan-admitted
   asked = c.before.before
 
   accepts : Accepted ≡ answer_of (admit_plan (I asked) (plan asked) (variables (I asked)) (room asked))
-  accepts = sym c.enum_told.given.1 ∙ answered asked
+  accepts = sym c.in-Accepted.is ∙ answered asked
 
   fits : T (plan_fits (own asked) (plan asked))
   fits = plan-fits _ _ (sym (judge-same (cap asked) (own asked) (plan asked)) ∙ after-judged (I asked) (plan asked) (variables (I asked)) (room asked) accepts)
 
-within-cap-requires : tie.Need-within-cap-requires
+within-cap-requires : tie.Need-within_cap-requires
 within-cap-requires c κs =
     let s = start (asked c) in
-    let p = s.pre.0.counted.passed in
+    let p = s.requires.0.counted.passed in
     (p.packed.counts, omega (arith, nodes-inside _ _ (fits c), nodes-is s.args.b p))
 
 -- what the cap allows
-within : (w : tie.After-within-cap)
+within : (w : tie.After-within_cap)
     → let a = asked w.before in within_cap (I a) (plan_of (I a) (plan a)) ≡ w.within_cap.result
 within w = let a = asked w.before in ap (within_cap (I a)) (plan-same (cap a) (own a) (plan a)) ∙ sym w.within_cap.ensures
 
-returns : tie.Need-returns
-returns c = let w = c.before in encoded-over _ _ _ (accepts w.before) (within w ∙ not-true _ c.if1.true)
+returns : tie.Need-returns-then-not-within_cap
+returns c = let w = c.before in encoded-over _ _ _ (accepts w.before) (within w ∙ not-true _ c.if-not-within_cap.true)
 
-returns-2 : tie.Need-returns-2
+returns-2 : tie.Need-returns-in-Refused
 returns-2 c =
     let a = c.before.before.before in
-    encoded-refused _ _ _ (sym c.before.admitted.given.1 ∙ answered a)
+    encoded-refused _ _ _ (sym c.admitted-1.given.1 ∙ answered a)
 
-write-plan-requires : tie.Need-write-plan-requires
+write-plan-requires : tie.Need-write_plan-requires
 write-plan-requires c κs =
     let t = c.before.before.before in
     let s = start (asked t) in
-    (s.pre.0, s.pre.1, fits t, after-room _ _ _ _ (accepts t))
+    (s.requires.0, s.requires.1, fits t, after-room _ _ _ _ (accepts t))
 
-returns-3 : tie.Need-returns-3
+returns-3 : tie.Need-returns-else-not-within_cap
 returns-3 c =
     let k = c.before.before in
     let left = k.before.before in
     let w = left.before in
     let a = asked w.before in
-    encoded-accepted _ _ _ (accepts w.before) (within w ∙ not-false _ left.if1.false) (need a ∙ sym (length-assignment _ _))
-    (k.write-plan.ensures
+    encoded-accepted _ _ _ (accepts w.before) (within w ∙ not-false _ left.if-not-within_cap.false) (need a ∙ sym (length-assignment _ _))
+    (k.write_plan.ensures
     ∙ ap (λ (p : Plan). overwrite (start a).args.out.now (encode (I a) p)) (sym (plan-same (cap a) (own a) (plan a))))
 
-pub encode-by-spec : {M : Type 1} → statement M
-encode-by-spec =
+pub encode_by_spec : {M : Type 1} → statement M
+encode_by_spec =
     tie.close
     (tie.spec
     (λ c κs. search rules)

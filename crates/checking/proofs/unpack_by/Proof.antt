@@ -15,7 +15,7 @@ use Rattle.checking.proofs.unpack_by.Statement.{statement}
 use Rattle.checking.proofs.unpack_by.Tie as tie
 
 -- the length that is compared, and the output's
-module _ (c : tie.After-plan-length) where
+module _ (c : tie.After-plan_length-length) where
   abbrev start : tie.Start
   start = c.before.before.before.before.before.before
 
@@ -26,38 +26,38 @@ module _ (c : tie.After-plan-length) where
   abbrev own : Instance
   own = instance_of (held start.args.b)
 
-  need : c.plan-length.result ≡ plan_length (under cap own)
-  need = c.plan-length.ensures ∙ sym (length-same cap own)
+  need : c.plan_length-length.result ≡ plan_length (under cap own)
+  need = c.plan_length-length.ensures ∙ sym (length-same cap own)
 
-room : (c : tie.Else1) → plan_length (under (cap c.before) (own c.before)) ≤ length (start c.before).args.out.now
-room c = omega (arith, c.if1.false, need c.before)
+room : (c : tie.Else-out-length) → plan_length (under (cap c.before) (own c.before)) ≤ length (start c.before).args.out.now
+room c = omega (arith, c.if-out-length.false, need c.before)
 
-returns-2 : tie.Need-returns-2
+returns-2 : tie.Need-returns-in-Refused
 returns-2 c =
     let j = c.before.before.before in
-    unpacked-refused _ _ _ (room j.before) (sym c.before.judged.given.1 ∙ j.judge-assignment.ensures)
+    unpacked-refused _ _ _ (room j.before) (sym c.judged-1.given.1 ∙ j.judge_assignment-judged.ensures)
 
-returns-3 : tie.Need-returns-3
+returns-3 : tie.Need-returns-in-Accepted
 returns-3 c =
     let d = c.before.before.before in
     let e = d.before.before.before.before in
-    unpacked-accepted _ _ _ (room e) (sym d.before.enum_told.given.1 ∙ d.before.before.before.judge-assignment.ensures)
-    (need e.before ∙ sym (length-decode _ _)) (c.before.before.decode.ensures
+    unpacked-accepted _ _ _ (room e) (sym d.in-Accepted.is ∙ d.judge_assignment-judged.ensures)
+    (need e.before ∙ sym (length-decode _ _)) (c.decode.ensures
     ∙ ap (overwrite (start e.before).args.out.now)
     (sym (decode-same (cap e.before) (own e.before) (start e.before).args.values.now)))
 
-pub unpack-by-spec : {M : Type 1} → statement M
-unpack-by-spec =
+pub unpack_by_spec : {M : Type 1} → statement M
+unpack_by_spec =
     tie.close
     (tie.spec
     (λ c κs. search rules)
-    (λ c. let k = c.before in unpacked-short _ _ _ (omega (arith, c.if1.true, need k)))
+    (λ c. let k = c.before in unpacked-short _ _ _ (omega (arith, c.if-out-length.true, need k)))
     (λ c κs. search rules)
     (λ c. search rules)
     (λ c. search rules)
     (λ c κs.
     let e = c.before.before.before.before in
-    ((start e.before).pre.0.counted, omega (arith, room e, length-same (cap e.before) (own e.before))))
+    ((start e.before).requires.0.counted, omega (arith, room e, length-same (cap e.before) (own e.before))))
     returns-2
     (λ c. search rules)
     returns-3)

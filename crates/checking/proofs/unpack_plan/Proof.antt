@@ -14,7 +14,7 @@ use Rattle.checking.proofs.unpack_plan.Statement.{statement}
 use Rattle.checking.proofs.unpack_plan.Tie as tie
 
 -- the answer to the book's bytes
-module _ (c : tie.After-prepare-chains) where
+module _ (c : tie.After-prepare_chains-p) where
   abbrev start : tie.Start
   start = c.before.before.before.before.before.before.before
 
@@ -26,33 +26,33 @@ module _ (c : tie.After-prepare-chains) where
   onward I = unpacked_for I start.args.values.now (length start.args.out.now)
 
 -- the book is accepted
-module _ (c : tie.After-enum-told) where
-  abbrev prepared : tie.After-prepare-chains
+module _ (c : tie.In-Accepted) where
+  abbrev prepared : tie.After-prepare_chains-p
   prepared = c.before.before.before.before.before.before.before.before
 
-  ready : TablesReady prepared.prepare-chains.result prepared.prepare-chains.last.1.0 prepared.prepare-chains.last.1.1.1.0
-  ready = prepared.prepare-chains.ensures.1 c.enum_told.given.1
+  ready : TablesReady prepared.prepare_chains-p.result prepared.prepare_chains-p.last.1.0 prepared.prepare_chains-p.last.1.1.1.0
+  ready = prepared.prepare_chains-p.ensures.1 c.in-Accepted.is
 
-unpack-by-requires : tie.Need-unpack-by-requires
-unpack-by-requires c κs = let a = c.before.before.before.before in ((ready a).0, (prepared a).prepare-chains.ensures.2 a.enum_told.given.1, (ready a).2)
+unpack-by-requires : tie.Need-unpack_by-requires
+unpack-by-requires c κs = let a = c.before.before.before.before in ((ready a).0, (prepared a).prepare_chains-p.ensures.2 a.in-Accepted.is, (ready a).2)
 
-returns : tie.Need-returns
+returns : tie.Need-returns-in-Refused
 unfolding unpack_plan plan_output read_under and_then
 returns c =
     let r = c.before.before.before.before.before.before.before.before.before in
-    left-stopped _ (ap (λ (v : Verdict Instance). and_then v (onward r)) (stopped _ _ r.prepare-chains.ensures.0 (capped r) c.before.answer.given.1))
+    left-stopped _ (ap (λ (v : Verdict Instance). and_then v (onward r)) (stopped _ _ r.prepare_chains-p.ensures.0 (capped r) c.answer-1.given.1))
 
-returns-2 : tie.Need-returns-2
+returns-2 : tie.Need-returns-in-Accepted
 unfolding unpack_plan plan_output read_under and_then
 returns-2 c =
     let d = c.before.before in
     let a = d.before.before.before.before.before in
     let r = prepared a in
-    left-same _ (ap (λ (v : Verdict Instance). and_then v (onward r)) (went_on _ _ r.prepare-chains.ensures.0 a.enum_told.given.1 (capped r)))
-    d.unpack-by.ensures
+    left-same _ (ap (λ (v : Verdict Instance). and_then v (onward r)) (went_on _ _ r.prepare_chains-p.ensures.0 a.in-Accepted.is (capped r)))
+    d.unpack_by.ensures
 
-pub unpack-plan-spec : {M : Type 1} → statement M
-unpack-plan-spec =
+pub unpack_plan_spec : {M : Type 1} → statement M
+unpack_plan_spec =
     tie.close
     (tie.spec
     (λ c. sym runs-long)

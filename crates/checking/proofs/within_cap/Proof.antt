@@ -16,22 +16,22 @@ use Rattle.checking.proofs.within_cap.Tie as tie
 told : {k k' : Cap} (n : ℕ) → k ≡ k' → allows (held_cap k') n ≡ allows (held_cap k) n
 told n e = ap (λ (k : Cap). allows (held_cap k) n) (sym e)
 
-returns : tie.Need-returns
+returns : tie.Need-returns-in-No
 unfolding allows plan_of
 returns c =
-    let a = c.before.before.before.args in
+    let a = c.args in
     let I = instance_of (held a.b) in
-    told (set_count I (borders_of a.plan.now)) c.enum_told.given.1 ∙ sym (within-is (held_cap a.cap) I (plan_of I a.plan.now))
+    told (set_count I (borders_of a.plan.now)) c.in-No.is ∙ sym (within-is (held_cap a.cap-1) I (plan_of I a.plan.now))
 
-returns-2 : tie.Need-returns-2
+returns-2 : tie.Need-returns-in-AtMost
 unfolding allows plan_of
 returns-2 c =
     let k = c.before.before in
-    let a = k.before.before.before.args in
+    let a = k.args in
     let I = instance_of (held a.b) in
-    ap (λ (n : ℕ). leb n k.cap.given.0.0) c.count_set.ensures
-    ∙ told (set_count I (borders_of a.plan.now)) k.cap.given.1
-    ∙ sym (within-is (held_cap a.cap) I (plan_of I a.plan.now))
+    ap (λ (n : ℕ). leb n k.cap-1.given.0.0) c.count_set.ensures
+    ∙ told (set_count I (borders_of a.plan.now)) k.cap-1.given.1
+    ∙ sym (within-is (held_cap a.cap-1) I (plan_of I a.plan.now))
 
-pub within-cap-spec : {M : Type 1} → statement M
-within-cap-spec = tie.close (tie.spec (λ c. search rules) (λ c. search rules) (λ c κs. search rules) returns returns-2)
+pub within_cap_spec : {M : Type 1} → statement M
+within_cap_spec = tie.close (tie.spec (λ c. search rules) (λ c. search rules) (λ c κs. search rules) returns returns-2)

@@ -11,10 +11,10 @@ returns c =
     let h = c.before in
     let m = h.before.before in
     let b = m.before.before in
-    affirms _ _ _ _ _ _ _ _ b.before.before.before.before.requires m.more.ensures (c.flag.ensures ∙ ap bit h.«Holds-by».ensures) b.before.positive.ensures b.store.ensures
+    affirms _ _ _ _ _ _ _ _ b.requires m.more.ensures (c.flag.ensures ∙ ap bit h.«Holds-by».ensures) b.positive.ensures b.store.ensures
 
-pub affirm-spec : {M : Type 1} → statement M
-affirm-spec =
+pub affirm_spec : {M : Type 1} → statement M
+affirm_spec =
     tie.close
     (tie.spec
     (λ c κs. search rules)

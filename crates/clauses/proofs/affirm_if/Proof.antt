@@ -8,14 +8,14 @@ use Rattle.clauses.proofs.affirm_if.Tie as tie
 affirm-requires : tie.Need-affirm-requires
 affirm-requires c κs = search rules
 
-returns : tie.Need-returns
-returns c = walks_same (sym (only-true _ c.before.before.before.if1.true)) c.before.affirm.ensures
+returns : tie.Need-returns-then-test
+returns c = walks_same (sym (only-true _ c.if-test.true)) c.affirm.ensures
 
-same_length : tie.Need-same-length
+same_length : tie.Need-shape_of-out-then-test
 same_length c = walks-length (returns c)
 
-returns-2 : tie.Need-returns-2
-returns-2 c = walks-nothing (only-false _ c.if1.false)
+returns-2 : tie.Need-returns
+returns-2 c = walks-nothing (only-false _ c.if-test.false)
 
-pub affirm-if-spec : {M : Type 1} → statement M
-affirm-if-spec = tie.close (tie.spec affirm-requires same_length returns returns-2)
+pub affirm_if_spec : {M : Type 1} → statement M
+affirm_if_spec = tie.close (tie.spec affirm-requires same_length returns returns-2)

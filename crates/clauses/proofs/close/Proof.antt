@@ -11,4 +11,4 @@ close_spec =
     (λ c κs. search rules)
     (λ c κs. search rules)
     (λ c. search rules)
-    (λ c. closes _ _ _ _ _ c.closed-by.ensures c.before.before.before.store.ensures))
+    (λ c. closes _ _ _ _ _ c.closed_by.ensures c.store.ensures))

@@ -7,8 +7,8 @@ use Rattle.clauses.proofs.closed_by.Tie as tie
 returns : tie.Need-returns
 unfolding closed_by
 returns c =
-    let m = c.before.before.more.ensures in simp (m, c.before.more2.ensures, c.first-wrong.ensures)
+    let m = c.more-clauses.ensures in simp (m, c.more.ensures, c.first_wrong.ensures)
 
-pub closed-by-spec : {M : Type 1} → statement M
-closed-by-spec =
+pub closed_by_spec : {M : Type 1} → statement M
+closed_by_spec =
     tie.close (tie.spec (λ c κs. search rules) (λ c κs. search rules) (λ c κs. search rules) returns)

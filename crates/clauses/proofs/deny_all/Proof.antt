@@ -14,15 +14,15 @@ use Rattle.clauses.proofs.deny_all.Tie as tie
 abbrev words : ℕ → ℕ → List ℤ
 words from k = words_of (one (one (not' (from + k))))
 
-abbrev invariant-loop : tie.invariant-loop
+abbrev invariant-loop : tie.invariant-loop-k
 invariant-loop from n values out₀ next₀ k₀ out next k =
     Ahead values (each (range 0 n) (words from)) (each (range k n) (words from)) next₀ out₀ next out
 
-abbrev decreases-loop : tie.decreases-loop
+abbrev decreases-loop : tie.decreases-loop-k
 decreases-loop from n values out₀ next₀ k₀ out next k = n - k
 
-pub deny-all-spec : {M : Type 1} → statement M
-deny-all-spec =
+pub deny_all_spec : {M : Type 1} → statement M
+deny_all_spec =
     tie.close
     (tie.spec
     invariant-loop
@@ -32,6 +32,6 @@ deny-all-spec =
     (λ c κs. omega arith)
     (λ c. omega arith)
     (λ c. omega arith)
-    (λ c. let t = c.before.before.before in turn _ _ _ t.before.loop.invariant t.loop-test.true c.before.unit-not.ensures)
-    (λ c. c.before.loop.invariant.size)
-    (λ c. walks_same (words_row _ _) (turned _ _ _ c.before.loop.invariant c.loop-test.false)))
+    (λ c. let t = c.before.before.before in turn _ _ _ t.loop-k.invariant t.loop-k-test.true c.unit_not-next.ensures)
+    (λ c. c.loop-k.invariant.size)
+    (λ c. walks_same (words_row _ _) (turned _ _ _ c.loop-k.invariant c.loop-k-test.false)))

@@ -15,15 +15,15 @@ use Rattle.clauses.proofs.each_pair.Tie as tie
 abbrev words : ℕ → ℕ → ℕ → List ℤ
 words from m k = words_of (one (not' (from + m) ∷ one (not' (from + k))))
 
-abbrev invariant-loop : tie.invariant-loop
+abbrev invariant-loop : tie.invariant-loop-k
 invariant-loop from m n values out₀ next₀ k₀ out next k =
     Ahead values (each (range (m + 1) n) (words from m)) (each (range k n) (words from m)) next₀ out₀ next out
 
-abbrev decreases-loop : tie.decreases-loop
+abbrev decreases-loop : tie.decreases-loop-k
 decreases-loop from m n values out₀ next₀ k₀ out next k = n - k
 
-pub each-pair-spec : {M : Type 1} → statement M
-each-pair-spec =
+pub each_pair_spec : {M : Type 1} → statement M
+each_pair_spec =
     tie.close
     (tie.spec
     invariant-loop
@@ -35,6 +35,6 @@ each-pair-spec =
     (λ c κs. (omega arith, omega arith))
     (λ c. omega arith)
     (λ c. omega arith)
-    (λ c. let t = c.before.before.before in turn _ _ _ t.before.loop.invariant t.loop-test.true c.before.not-both.ensures)
-    (λ c. c.before.loop.invariant.size)
-    (λ c. walks_same (sym (words-map _ _)) (turned _ _ _ c.before.loop.invariant c.loop-test.false)))
+    (λ c. let t = c.before.before.before in turn _ _ _ t.loop-k.invariant t.loop-k-test.true c.not_both-next.ensures)
+    (λ c. c.loop-k.invariant.size)
+    (λ c. walks_same (sym (words-map _ _)) (turned _ _ _ c.loop-k.invariant c.loop-k-test.false)))

@@ -24,14 +24,14 @@ module _ (wrong number : ℕ) (holds : Bool) where
   found : wrong ≡ 0 → holds ≡ false → number ≡ cond (eqb wrong 0 && not holds) number wrong
   found e h = simp (e, h)
 
-returns : tie.Need-returns
-returns c = let a = c.before.args in stays a.wrong a.number a.holds c.if1.true
+returns : tie.Need-returns-then-wrong-ne0
+returns c = let a = c.args in stays a.wrong a.number a.holds c.if-wrong-ne0.true
 
-returns-2 : tie.Need-returns-2
-returns-2 c = let a = c.before.before.args in passes a.wrong a.number a.holds c.if2.true
+returns-2 : tie.Need-returns-then-holds
+returns-2 c = let a = c.args in passes a.wrong a.number a.holds c.if-holds.true
 
-returns-3 : tie.Need-returns-3
-returns-3 c = let a = c.before.before.args in found a.wrong a.number a.holds c.before.if1.false c.if2.false
+returns-3 : tie.Need-returns
+returns-3 c = let a = c.args in found a.wrong a.number a.holds c.if-wrong-ne0.false c.if-holds.false
 
-pub first-wrong-spec : {M : Type 1} → statement M
-first-wrong-spec = tie.close (tie.spec returns returns-2 returns-3)
+pub first_wrong_spec : {M : Type 1} → statement M
+first_wrong_spec = tie.close (tie.spec returns returns-2 returns-3)

@@ -4,13 +4,13 @@ use Rattle.spec.specs.Plan.{bit}
 use Rattle.clauses.proofs.flag.Statement.{statement}
 use Rattle.clauses.proofs.flag.Tie as tie
 
-returns : tie.Need-returns
+returns : tie.Need-returns-then-test
 unfolding bit
-returns c = ap bit (sym c.if1.true)
+returns c = ap bit (sym c.if-test.true)
 
-returns-2 : tie.Need-returns-2
+returns-2 : tie.Need-returns-else-test
 unfolding bit
-returns-2 c = ap bit (sym c.if1.false)
+returns-2 c = ap bit (sym c.if-test.false)
 
-pub flag-spec : {M : Type 1} → statement M
-flag-spec = tie.close (tie.spec returns returns-2)
+pub flag_spec : {M : Type 1} → statement M
+flag_spec = tie.close (tie.spec returns returns-2)

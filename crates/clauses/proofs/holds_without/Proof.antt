@@ -5,7 +5,7 @@ use borrow.Author.Rules.{rules}
 use Rattle.clauses.proofs.holds_without.Statement.{statement}
 use Rattle.clauses.proofs.holds_without.Tie as tie
 
-pub holds-without-spec : {M : Type 1} → statement M
-holds-without-spec =
+pub holds_without_spec : {M : Type 1} → statement M
+holds_without_spec =
     tie.close
-    (tie.spec (λ c κs. search rules) (λ c. search rules) (λ c. let h = c.before.if1.false in simp h (ap not c.value.ensures)))
+    (tie.spec (λ c κs. search rules) (λ c. search rules) (λ c. let h = c.if-held.false in simp h (ap not c.value.ensures)))

@@ -18,11 +18,11 @@ returns c =
     let half = first.before.before in
     let s = half.before.before.before in
     passes-two _ _ _ _ _ _ _ _ _ _ (denying _) (affirming _)
-    (judged.Holds-by.ensures ∙ simp (half.holds-without.ensures, affirmed, denied'))
-    c.closed-by.ensures (not-said _ _ s.requires.0 first.negative.ensures) (is_said _ _ s.requires.1 second.positive.ensures) kept.store_two.ensures
+    (judged.Holds-by.ensures ∙ simp (half.holds_without-first.ensures, affirmed, denied'))
+    c.closed_by.ensures (not-said _ _ s.requires.0 first.negative.ensures) (is_said _ _ s.requires.1 second.positive.ensures) kept.store_two.ensures
 
-pub implies-spec : {M : Type 1} → statement M
-implies-spec =
+pub implies_spec : {M : Type 1} → statement M
+implies_spec =
     tie.close
     (tie.spec
     (λ c κs. search rules)

@@ -20,12 +20,12 @@ returns c =
     let half = both.before in
     let s = half.before.before.before in
     passes-three _ _ _ _ _ _ _ _ _ _ _ _ (denying _) (affirming _) (affirming _)
-    (judged.holds-by2.ensures ∙ simp (both.Holds-by.ensures, half.holds-without.ensures, affirmed, denied'))
-    c.closed-by.ensures (not-said _ _ s.requires.0 first.negative.ensures) (is_said _ _ s.requires.1 second.positive.ensures)
-    (is_said _ _ s.requires.2 third.positive2.ensures) kept.store-three.ensures
+    (judged.holds_by.ensures ∙ simp (both.Holds-by.ensures, half.holds_without-first.ensures, affirmed, denied'))
+    c.closed_by.ensures (not-said _ _ s.requires.0 first.negative.ensures) (is_said _ _ s.requires.1 second.positive.ensures)
+    (is_said _ _ s.requires.2 third.positive-2.ensures) kept.store_three.ensures
 
-pub implies-either-spec : {M : Type 1} → statement M
-implies-either-spec =
+pub implies_either_spec : {M : Type 1} → statement M
+implies_either_spec =
     tie.close
     (tie.spec
     (λ c κs. search rules)

@@ -14,10 +14,10 @@ use Rattle.spec.specs.Formula.{is, not'}
 use Rattle.clauses.proofs.negative.Statement.{statement}
 use Rattle.clauses.proofs.negative.Tie as tie
 
-add-result : tie.Need-overflow-add-result
+add-result : tie.Need-overflow_add-result
 add-result c = search rules
 
-cast-result : tie.Need-overflow-cast-result
+cast-result : tie.Need-overflow_cast-result
 cast-result c = search rules
 
 -- what is negated is the literal that affirms
@@ -33,11 +33,11 @@ minus v =
 negated : (c : tie.Start) → pos 0 -ℤ to_z w32 (c.args.v + 1) ≡ not' c.args.v
 negated c = ap (λ (z : ℤ). pos 0 -ℤ z) (one_more_lem c) ∙ minus c.args.v
 
-sub-result : tie.Need-overflow-sub-result
+sub-result : tie.Need-overflow_sub-result
 sub-result c = subst (SFits w32) (sym (negated c)) (record { sfits = omega arith })
 
 returns : tie.Need-returns
 returns c = ap (λ (z : ℤ). to_z w32 (of_z w32 z)) (negated c) ∙ not-read c.args.v c.requires
 
-pub negative-spec : {M : Type 1} → statement M
-negative-spec = tie.close (tie.spec add-result cast-result sub-result returns)
+pub negative_spec : {M : Type 1} → statement M
+negative_spec = tie.close (tie.spec add-result cast-result sub-result returns)

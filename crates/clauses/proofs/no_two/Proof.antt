@@ -14,15 +14,15 @@ use Rattle.clauses.proofs.no_two.Tie as tie
 abbrev words : ℕ → ℕ → ℕ → List ℤ
 words from n m = words_of (map (λ k. not' (from + m) ∷ one (not' (from + k))) (range (m + 1) n))
 
-abbrev invariant-loop : tie.invariant-loop
+abbrev invariant-loop : tie.invariant-loop-m
 invariant-loop from n values out₀ next₀ m₀ out next m =
     Ahead values (each (range 0 n) (words from n)) (each (range m n) (words from n)) next₀ out₀ next out
 
-abbrev decreases-loop : tie.decreases-loop
+abbrev decreases-loop : tie.decreases-loop-m
 decreases-loop from n values out₀ next₀ m₀ out next m = n - m
 
-pub no-two-spec : {M : Type 1} → statement M
-no-two-spec =
+pub no_two_spec : {M : Type 1} → statement M
+no_two_spec =
     tie.close
     (tie.spec
     invariant-loop
@@ -31,6 +31,6 @@ no-two-spec =
     (λ c κs. (omega arith, omega arith, omega arith))
     (λ c. omega arith)
     (λ c. omega arith)
-    (λ c. let t = c.before.before.before in turn _ _ _ t.before.loop.invariant t.loop-test.true c.before.pairs_of.ensures)
-    (λ c. c.before.loop.invariant.size)
-    (λ c. walks_same (words-rows _ _) (turned _ _ _ c.before.loop.invariant c.loop-test.false)))
+    (λ c. let t = c.before.before.before in turn _ _ _ t.loop-m.invariant t.loop-m-test.true c.pairs_of-next.ensures)
+    (λ c. c.loop-m.invariant.size)
+    (λ c. walks_same (words-rows _ _) (turned _ _ _ c.loop-m.invariant c.loop-m-test.false)))

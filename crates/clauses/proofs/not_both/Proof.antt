@@ -18,11 +18,11 @@ returns c =
     let half = first.before.before in
     let s = half.before.before.before in
     passes-two _ _ _ _ _ _ _ _ _ _ (denying _) (denying _)
-    (judged.holds-without2.ensures ∙ simp (half.holds-without.ensures, denied'))
-    c.closed-by.ensures (not-said _ _ s.requires.0 first.negative.ensures) (not-said _ _ s.requires.1 second.negative2.ensures) kept.store_two.ensures
+    (judged.holds_without.ensures ∙ simp (half.holds_without-first.ensures, denied'))
+    c.closed_by.ensures (not-said _ _ s.requires.0 first.negative.ensures) (not-said _ _ s.requires.1 second.negative-2.ensures) kept.store_two.ensures
 
-pub not-both-spec : {M : Type 1} → statement M
-not-both-spec =
+pub not_both_spec : {M : Type 1} → statement M
+not_both_spec =
     tie.close
     (tie.spec
     (λ c κs. search rules)

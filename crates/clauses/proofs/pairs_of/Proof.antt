@@ -5,19 +5,19 @@ use borrow.Author.Rules.{rules}
 use Rattle.clauses.proofs.pairs_of.Statement.{statement}
 use Rattle.clauses.proofs.pairs_of.Tie as tie
 
-returns-2 : tie.Need-returns-2
+returns-2 : tie.Need-returns-then-out-eq0
 returns-2 c =
     let t = c.before.before in
-    skipped-pairs _ _ (sym t.before.value.ensures ∙ t.if1.false) _ _ _ _ _ _ c.before.if2.true c.skip-pairs.ensures
+    skipped-pairs _ _ (sym t.value.ensures ∙ t.if-value.false) _ _ _ _ _ _ c.if-out-eq0.true c.skip_pairs.ensures
 
-returns-3 : tie.Need-returns-3
+returns-3 : tie.Need-returns-then-at-k-2
 returns-3 c =
     let p = c.before.before in
     let t = p.before.before.before.before.before in
-    counted-pairs _ _ (sym t.before.value.ensures ∙ t.if1.false) _ _ _ _ _ _ _ c.skip-pairs2.ensures p.store-pairs.ensures
+    counted-pairs _ _ (sym t.value.ensures ∙ t.if-value.false) _ _ _ _ _ _ _ c.skip_pairs-then-at-k-2.ensures p.store_pairs.ensures
 
-pub pairs-of-spec : {M : Type 1} → statement M
-pairs-of-spec =
+pub pairs_of_spec : {M : Type 1} → statement M
+pairs_of_spec =
     tie.close
     (tie.spec
     (λ c. search rules)

@@ -20,10 +20,10 @@ unfolding skipped
 some {k = zero} w h e f = absurd (h refl)
 some {k = suc k} w h e f = simp (e, f)
 
-returns : tie.Need-returns
-returns c = none c.before.args.w c.if1.true
+returns : tie.Need-returns-then-k-eq0
+returns c = none c.args.w c.if-k-eq0.true
 
-mul-more : tie.Need-overflow-mul-more
+mul-more : tie.Need-overflow_mul-k
 mul-more c = search rules
 
 more-requires : tie.Need-more-requires
@@ -32,10 +32,10 @@ more-requires c κs = search rules
 more-requires-2 : tie.Need-more-requires-2
 more-requires-2 c κs = search rules
 
-returns-2 : tie.Need-returns-2
+returns-2 : tie.Need-returns
 returns-2 c =
-    let a = c.before.before.before.args in
-    some a.w c.before.before.if1.false c.before.more.ensures c.more2.ensures
+    let a = c.args in
+    some a.w c.if-k-eq0.false c.more.ensures c.more-2.ensures
 
-pub skip-pairs-spec : {M : Type 1} → statement M
-skip-pairs-spec = tie.close (tie.spec returns mul-more more-requires more-requires-2 returns-2)
+pub skip_pairs_spec : {M : Type 1} → statement M
+skip_pairs_spec = tie.close (tie.spec returns mul-more more-requires more-requires-2 returns-2)

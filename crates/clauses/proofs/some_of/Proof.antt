@@ -16,21 +16,21 @@ use Rattle.clauses.proofs.some_of.Tie as tie
 abbrev words : ℕ → ℕ → List ℤ
 words from k = one (is (from + k))
 
-abbrev invariant-loop : tie.invariant-loop
+abbrev invariant-loop : tie.invariant-loop-k
 invariant-loop from n values out₀ next₀ k₀ out next k =
     Ahead values (each (range 0 n) (words from)) (each (range k n) (words from)) next₀ out₀ next out
 
-abbrev decreases-loop : tie.decreases-loop
+abbrev decreases-loop : tie.decreases-loop-k
 decreases-loop from n values out₀ next₀ k₀ out next k = n - k
 
 returns : tie.Need-returns invariant-loop decreases-loop
 returns c =
     let l = c.before.before.before in
-    let row = walks_same (literals-row _ _) (turned _ _ _ l.before.loop.invariant l.loop-test.false) in
-    walks_same (words-one _) (walks-behind row c.before.close.ensures)
+    let row = walks_same (literals-row _ _) (turned _ _ _ l.loop-k.invariant l.loop-k-test.false) in
+    walks_same (words-one _) (walks-behind row c.close.ensures)
 
-pub some-of-spec : {M : Type 1} → statement M
-some-of-spec =
+pub some_of_spec : {M : Type 1} → statement M
+some_of_spec =
     tie.close
     (tie.spec
     invariant-loop
@@ -40,7 +40,7 @@ some-of-spec =
     (λ c κs. omega arith)
     (λ c. omega arith)
     (λ c. omega arith)
-    (λ c. let t = c.before.before.before in turn _ _ _ t.before.loop.invariant t.loop-test.true c.before.affirm.ensures)
+    (λ c. let t = c.before.before.before in turn _ _ _ t.loop-k.invariant t.loop-k-test.true c.affirm-next.ensures)
     (λ c κs. search rules)
     (λ c. walks-length (returns c))
     returns)

@@ -6,4 +6,4 @@ use Rattle.clauses.proofs.store.Statement.{statement}
 use Rattle.clauses.proofs.store.Tie as tie
 
 pub store_spec : {M : Type 1} → statement M
-store_spec = tie.close (tie.spec (λ c. search rules) (λ c. search rules) (λ c. search rules) (λ c. search rules) (λ c. sym (set_out _ _ _ c.if1.false)))
+store_spec = tie.close (tie.spec (λ c. search rules) (λ c. search rules) (λ c. search rules) (λ c. search rules) (λ c. sym (set_out _ _ _ c.if-at-out.false)))

@@ -20,22 +20,22 @@ use Rattle.clauses.proofs.store_pairs.Tie as tie
 abbrev rows : ℕ → ℕ → ℕ → ℕ → List ℤ
 rows from m n k = words_of (map (λ j. not' (from + m) ∷ one (not' (from + j))) (range k n))
 
-abbrev invariant-loop : tie.invariant-loop
+abbrev invariant-loop : tie.invariant-loop-k
 invariant-loop out₀ at from m n first i₀ k₀ out i k =
     (m + 1 ≤ k) × (k ≤ n) × (i ≡ at + 3 * (k - (m + 1))) × (length out ≡ length out₀)
     × (stored at (rows from m n (m + 1)) out₀ ≡ stored i (rows from m n k) out)
 
-abbrev decreases-loop : tie.decreases-loop
+abbrev decreases-loop : tie.decreases-loop-k
 decreases-loop out₀ at from m n first i₀ k₀ out i k = n - k
 
 -- a literal, read back from its bits
 read_back : {l : ℤ} (v : ℕ) → v < literal_room → l ≡ not' v → not' v ≡ to_z w32 (of_z w32 l)
 read_back v h e = sym (ap (λ (z : ℤ). to_z w32 (of_z w32 z)) e ∙ not-read v h)
 
-loop-again : tie.Need-loop-preserved invariant-loop decreases-loop
+loop-again : tie.Need-loop-k-preserved invariant-loop decreases-loop
 loop-again c =
-    let x = c.before.before.loop in
-    let a = c.before.before.before.before.args in
+    let x = c.loop-k in
+    let a = c.args in
     let inv = x.invariant in (
       omega arith,
       omega arith,
@@ -44,18 +44,18 @@ loop-again c =
       inv.4
           ∙ stored-pair (a.from + a.m) a.from x.k a.n x.i x.out (omega arith) (omega arith)
           ∙ ap₂ (λ (u v : ℤ). stored (x.i + 3) (rows a.from a.m a.n (x.k + 1)) (set (set (set x.out x.i u) (x.i + 1) v) (x.i + 2) (pos 0)))
-          (read_back (a.from + a.m) (omega arith) c.before.before.before.negative.ensures)
-          (read_back (a.from + x.k) (omega arith) c.negative2.ensures),
+          (read_back (a.from + a.m) (omega arith) c.negative-first.ensures)
+          (read_back (a.from + x.k) (omega arith) c.negative-second.ensures),
     )
 
 returns : tie.Need-returns invariant-loop decreases-loop
 returns c =
-    let a = c.before.before.before.args in
-    let x = c.before.loop in
+    let a = c.args in
+    let x = c.loop-k in
     sym (x.invariant.4 ∙ stored-all (a.from + a.m) a.from x.k a.n x.i x.out (omega arith))
 
-pub store-pairs-spec : {M : Type 1} → statement M
-store-pairs-spec =
+pub store_pairs_spec : {M : Type 1} → statement M
+store_pairs_spec =
     tie.close
     (tie.spec
     invariant-loop
@@ -78,5 +78,5 @@ store-pairs-spec =
     (λ c. omega arith)
     (λ c. omega arith)
     loop-again
-    (λ c. c.before.loop.invariant.3)
+    (λ c. c.loop-k.invariant.3)
     returns)

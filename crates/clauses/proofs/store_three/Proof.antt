@@ -14,32 +14,32 @@ use Rattle.clauses.proofs.store_three.Statement.{statement}
 use Rattle.clauses.proofs.store_three.Tie as tie
 
 -- after both tests there is room
-abbrev entry : tie.Then3 → tie.Start
+abbrev entry : tie.Then-at-out → tie.Start
 entry c = c.before.before.before
 
-room : (c : tie.Then3) → (entry c).args.at + 4 ≤ length (entry c).args.out.now
-room c = leb-true _ _ c.if3.true
+room : (c : tie.Then-at-out) → (entry c).args.at + 4 ≤ length (entry c).args.out.now
+room c = leb-true _ _ c.if-at-out.true
 
-returns-2 : tie.Need-returns-2
+returns-2 : tie.Need-returns-then-at-out
 unfolding stored
 returns-2 c =
     let s = entry c in
     rw (to_z-of_z s.fits.l, to_z-of_z s.fits.m, to_z-of_z s.fits.n)
     (sym
-    (stored-four s.args.at s.args.l s.args.m s.args.n (pos 0) [] s.args.out.now (omega (arith, c.before.if2.true))))
+    (stored-four s.args.at s.args.l s.args.m s.args.n (pos 0) [] s.args.out.now (omega (arith, c.if-at.true))))
 
 -- without room for all, the first, and the others behind it
-returns-3 : tie.Need-returns-3
+returns-3 : tie.Need-returns
 unfolding stored
 returns-3 c =
     let s = c.before.before.before.before.before.before.before.before.before in
     cc (to_z-of_z s.ranges.l, to_z-of_z s.ranges.m, to_z-of_z s.ranges.n)
 
-pub store-three-spec : {M : Type 1} → statement M
-store-three-spec =
+pub store_three_spec : {M : Type 1} → statement M
+store_three_spec =
     tie.close
     (tie.spec
-    (λ c. empty-stored _ _ _ c.if1.true)
+    (λ c. empty-stored _ _ _ c.if-out-eq0.true)
     (λ c. search rules)
     (λ c. search rules)
     (λ c. search rules)

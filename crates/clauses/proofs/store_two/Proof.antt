@@ -14,21 +14,21 @@ use Rattle.clauses.proofs.store_two.Statement.{statement}
 use Rattle.clauses.proofs.store_two.Tie as tie
 
 -- after both tests there is room
-abbrev entry : tie.Then3 → tie.Start
+abbrev entry : tie.Then-at-out → tie.Start
 entry c = c.before.before.before
 
-room : (c : tie.Then3) → (entry c).args.at + 3 ≤ length (entry c).args.out.now
-room c = leb-true _ _ c.if3.true
+room : (c : tie.Then-at-out) → (entry c).args.at + 3 ≤ length (entry c).args.out.now
+room c = leb-true _ _ c.if-at-out.true
 
-returns-2 : tie.Need-returns-2
+returns-2 : tie.Need-returns-then-at-out
 unfolding stored
 returns-2 c =
     let s = entry c in
     rw (to_z-of_z s.fits.l, to_z-of_z s.fits.m)
-    (sym (stored-three s.args.at s.args.l s.args.m (pos 0) [] s.args.out.now (omega (arith, c.before.if2.true))))
+    (sym (stored-three s.args.at s.args.l s.args.m (pos 0) [] s.args.out.now (omega (arith, c.if-at.true))))
 
 -- without room for all, one store behind the other
-returns-3 : tie.Need-returns-3
+returns-3 : tie.Need-returns
 unfolding stored
 returns-3 c =
     let third = c.before in
@@ -37,11 +37,11 @@ returns-3 c =
     let s = first.before.before.before.before.before in
     cc (to_z-of_z s.ranges.l, to_z-of_z s.ranges.m)
 
-pub store-two-spec : {M : Type 1} → statement M
-store-two-spec =
+pub store_two_spec : {M : Type 1} → statement M
+store_two_spec =
     tie.close
     (tie.spec
-    (λ c. empty-stored _ _ _ c.if1.true)
+    (λ c. empty-stored _ _ _ c.if-out-eq0.true)
     (λ c. search rules)
     (λ c. search rules)
     (λ c. search rules)

@@ -8,7 +8,7 @@ use Rattle.clauses.proofs.unit_is.Tie as tie
 
 returns : tie.Need-returns
 unfolding words_of each
-returns c = walks-behind c.before.before.before.before.affirm.ensures c.before.close.ensures
+returns c = walks-behind c.affirm-a.ensures c.close.ensures
 
-pub unit-is-spec : {M : Type 1} → statement M
-unit-is-spec = tie.close (tie.spec (λ c κs. search rules) (λ c κs. search rules) (λ c. walks-length (returns c)) returns)
+pub unit_is_spec : {M : Type 1} → statement M
+unit_is_spec = tie.close (tie.spec (λ c κs. search rules) (λ c κs. search rules) (λ c. walks-length (returns c)) returns)

@@ -8,7 +8,7 @@ use Rattle.clauses.proofs.unit_not.Tie as tie
 
 returns : tie.Need-returns
 unfolding words_of each
-returns c = walks-behind c.before.before.before.before.deny.ensures c.before.close.ensures
+returns c = walks-behind c.deny-a.ensures c.close.ensures
 
-pub unit-not-spec : {M : Type 1} → statement M
-unit-not-spec = tie.close (tie.spec (λ c κs. search rules) (λ c κs. search rules) (λ c. walks-length (returns c)) returns)
+pub unit_not_spec : {M : Type 1} → statement M
+unit_not_spec = tie.close (tie.spec (λ c κs. search rules) (λ c κs. search rules) (λ c. walks-length (returns c)) returns)

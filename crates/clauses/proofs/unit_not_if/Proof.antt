@@ -7,18 +7,18 @@ use Rattle.clauses.proofs.Laws.{walks_same, walks-nothing, walks-length, only-tr
 use Rattle.clauses.proofs.unit_not_if.Statement.{statement}
 use Rattle.clauses.proofs.unit_not_if.Tie as tie
 
-unit-not-requires : tie.Need-unit-not-requires
+unit-not-requires : tie.Need-unit_not-requires
 unit-not-requires c κs = search rules
 
-returns : tie.Need-returns
-returns c = walks_same (ap words_of (sym (only-true _ c.before.before.before.if1.true))) c.before.unit-not.ensures
+returns : tie.Need-returns-then-test
+returns c = walks_same (ap words_of (sym (only-true _ c.if-test.true))) c.unit_not.ensures
 
-same_length : tie.Need-same-length
+same_length : tie.Need-shape_of-out-then-test
 same_length c = walks-length (returns c)
 
-returns-2 : tie.Need-returns-2
+returns-2 : tie.Need-returns
 unfolding words_of each
-returns-2 c = walks-nothing (ap words_of (only-false _ c.if1.false))
+returns-2 c = walks-nothing (ap words_of (only-false _ c.if-test.false))
 
-pub unit-not-if-spec : {M : Type 1} → statement M
-unit-not-if-spec = tie.close (tie.spec unit-not-requires same_length returns returns-2)
+pub unit_not_if_spec : {M : Type 1} → statement M
+unit_not_if_spec = tie.close (tie.spec unit-not-requires same_length returns returns-2)

@@ -14,7 +14,7 @@ use Rattle.fewest.proofs.decide.Statement.{statement}
 use Rattle.fewest.proofs.decide.Tie as tie
 
 -- the answer to the book's bytes
-module _ (c : tie.After-prepare-chains) where
+module _ (c : tie.After-prepare_chains-p) where
   abbrev start : tie.Start
   start = c.before.before.before.before.before.before.before.before.before.before
 
@@ -22,32 +22,32 @@ module _ (c : tie.After-prepare-chains) where
   abbrev onward : Instance → Verdict (Unit {0})
   onward I =
       let a = start.args in
-      fewest_for I a.n a.assignment.now a.refutation.now (lengths a.words.now a.starts.now a.values.now a.trail.now)
+      fewest_for I a.n a.assignment.now a.refutation.now (lengths a.words-1.now a.starts-1.now a.values-1.now a.trail-1.now)
 
 -- the book is accepted
-module _ (c : tie.After-enum-told) where
-  abbrev prepared : tie.After-prepare-chains
+module _ (c : tie.In-Accepted) where
+  abbrev prepared : tie.After-prepare_chains-p
   prepared = c.before.before.before.before.before.before.before.before
 
-  ready : TablesReady prepared.prepare-chains.result prepared.prepare-chains.last.1.0 prepared.prepare-chains.last.1.1.1.0
-  ready = prepared.prepare-chains.ensures.1 c.enum_told.given.1
+  ready : TablesReady prepared.prepare_chains-p.result prepared.prepare_chains-p.last.1.0 prepared.prepare_chains-p.last.1.1.1.0
+  ready = prepared.prepare_chains-p.ensures.1 c.in-Accepted.is
 
-returns : tie.Need-returns
+returns : tie.Need-returns-in-Refused
 unfolding check_fewest
 returns c =
     let r = c.before.before.before.before.before.before.before.before.before in
-    ap answer_of (sym (stopped _ _ r.prepare-chains.ensures.0 (onward r) c.before.answer.given.1))
+    ap answer_of (sym (stopped _ _ r.prepare_chains-p.ensures.0 (onward r) c.answer-1.given.1))
 
-returns-2 : tie.Need-returns-2
+returns-2 : tie.Need-returns-in-Accepted
 unfolding check_fewest
 returns-2 c =
     let d = c.before.before.before.before.before.before.before in
     let a = d.before.before.before.before.before.before.before.before in
     let r = prepared a in
-    d.fewest-by.ensures ∙ ap answer_of (went_on _ _ r.prepare-chains.ensures.0 a.enum_told.given.1 (onward r))
+    d.fewest_by.ensures ∙ ap answer_of (went_on _ _ r.prepare_chains-p.ensures.0 a.in-Accepted.is (onward r))
 
-pub decide-spec : {M : Type 1} → statement M
-decide-spec =
+pub decide_spec : {M : Type 1} → statement M
+decide_spec =
     tie.close
     (tie.spec
     (λ c. sym runs-long)
@@ -62,7 +62,7 @@ decide-spec =
     (λ c. let a = c.before.before.before in sym (length-take-le _ _ (ready a).1))
     (λ c κs.
     let a = c.before.before.before.before.before.before.before in
-    ((ready a).0, (prepared a).prepare-chains.ensures.2 a.enum_told.given.1, (ready a).2))
+    ((ready a).0, (prepared a).prepare_chains-p.ensures.2 a.in-Accepted.is, (ready a).2))
     returns
     (λ c. search rules)
     (λ c. search rules)

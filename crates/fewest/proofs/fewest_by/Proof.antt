@@ -11,15 +11,15 @@ use Rattle.refutations.specs.Lent.{lengths}
 use Rattle.fewest.proofs.fewest_by.Statement.{statement}
 use Rattle.fewest.proofs.fewest_by.Tie as tie
 
-returns : tie.Need-returns
+returns : tie.Need-returns-then-n-eq0
 returns c =
-    let a = c.before.before.before.before.before.before.before.before.before.before.args in
-    let lent = lengths a.words.now a.starts.now a.values.now a.trail.now in
-    c.fewest-none.ensures lent
-    ∙ ap (λ (k : ℕ). answer_of (fewest_for (instance_of (held a.b)) k a.assignment.now a.refutation.now lent)) (sym c.before.if1.true)
+    let a = c.args in
+    let lent = lengths a.words-1.now a.starts-1.now a.values-1.now a.trail-1.now in
+    c.fewest_none.ensures lent
+    ∙ ap (λ (k : ℕ). answer_of (fewest_for (instance_of (held a.b)) k a.assignment.now a.refutation.now lent)) (sym c.if-n-eq0.true)
 
-pub fewest-by-spec : {M : Type 1} → statement M
-fewest-by-spec =
+pub fewest_by_spec : {M : Type 1} → statement M
+fewest_by_spec =
     tie.close
     (tie.spec
     (λ c κs. search rules)

@@ -7,18 +7,18 @@ use Rattle.fewest.proofs.Counting.{is-refused, is-accepted}
 use Rattle.fewest.proofs.fewest_none.Statement.{statement}
 use Rattle.fewest.proofs.fewest_none.Tie as tie
 
-returns : tie.Need-returns
+returns : tie.Need-returns-in-Refused
 returns c lent =
     let k = c.before.before.before in
-    ap answer_of (sym (counts_some _ _ _ lent (is-refused _ k.judge-count.ensures c.before.counted.given.1)))
+    ap answer_of (sym (counts_some _ _ _ lent (is-refused _ k.judge_count-counted.ensures c.counted-1.given.1)))
 
-returns-2 : tie.Need-returns-2
+returns-2 : tie.Need-returns-in-Accepted
 returns-2 c lent =
     let t = c.before in
     let k = t.before.before in
-    c.none_below.ensures ∙ ap answer_of (sym (then-empty _ _ _ lent (is-accepted _ k.judge-count.ensures t.enum_told.given.1)))
+    c.none_below.ensures ∙ ap answer_of (sym (then-empty _ _ _ lent (is-accepted _ k.judge_count-counted.ensures t.in-Accepted.is)))
 
-pub fewest-none-spec : {M : Type 1} → statement M
-fewest-none-spec =
+pub fewest_none_spec : {M : Type 1} → statement M
+fewest_none_spec =
     tie.close
     (tie.spec (λ c κs. search rules) (λ c. search rules) (λ c. search rules) (λ c κs. search rules) returns returns-2)

@@ -14,7 +14,7 @@ use Rattle.spec.specs.Refutation.{Lent, clauses_fit}
 use Rattle.spec.specs.Held.{held}
 use Rattle.spec.specs.Entry.{formula_fits, refuted_for, fewest_for}
 use Rattle.reader.specs.BookAnswers.{answer_of}
-use Rattle.refutation_steps.specs.declared.one_step_lem.Extent.{Extent}
+use Rattle.refutation_steps.specs.declared.one_step.Extent.{Extent}
 use Rattle.refutations.specs.Lent.{lengths}
 use Rattle.refutations.specs.Standing.{extent_of}
 use Rattle.refutations.proofs.Loaded.{loaded-stands}
@@ -30,7 +30,7 @@ unfolding room_for formula_fits clauses_fit
 room_fits J lent = refl
 
 -- once the formula is loaded
-module _ (l : tie.After-load-formula) where
+module _ (l : tie.After-load_formula-formula) where
   abbrev start : tie.Start
   start = l.before.before.before.before.before.before.before.before.before.before.before
 
@@ -45,7 +45,7 @@ module _ (l : tie.After-load-formula) where
   J = under (some m) I
 
   is-n : suc m ≡ start.args.n
-  is-n = omega (arith, start.pre.3)
+  is-n = omega (arith, start.requires.3)
 
   abbrev s : Bytes
   s = start.args.assignment.now
@@ -56,24 +56,24 @@ module _ (l : tie.After-load-formula) where
   abbrev lent : Lent
   lent =
       let a = start.args in
-      lengths a.words.now a.starts.now a.values.now a.trail.now
+      lengths a.words-1.now a.starts-1.now a.values-1.now a.trail-1.now
 
   -- slices of other lengths of words and clauses
   abbrev lent_by : ℕ → ℕ → Lent
-  lent_by words clauses = record { words = words; clauses = clauses; values = lent.values; trail = lent.trail }
+  lent_by words clauses = record { words = words; clauses = clauses; values = lent.values-1; trail = lent.trail-1 }
 
 -- and it is known whether there is room
-module _ (h : tie.After-has-room) where
-  abbrev load : tie.After-load-formula
+module _ (h : tie.After-has_room) where
+  abbrev load : tie.After-load_formula-formula
   load = h.before.before.before.before.before
 
   room-is : h.has_room.result ≡ formula_fits (lent load) (J load)
   room-is =
-      let kept = load.load-formula.kept in
-      let words = length load.load-formula.last.1.1.1.1.1.1.0 in
-      let clauses = length load.load-formula.last.1.1.1.1.1.1.1.0 in
+      let kept = load.load_formula-formula.kept in
+      let words = length load.load_formula-formula.last.1.1.1.1.1.1.0 in
+      let clauses = length load.load_formula-formula.last.1.1.1.1.1.1.1.0 in
       h.has_room.ensures
-      ∙ ap₂ (λ (e : Extent) (v : ℕ). room_for e v (lent_by load words clauses)) load.load-formula.ensures.0 h.before.variable-count.ensures.0
+      ∙ ap₂ (λ (e : Extent) (v : ℕ). room_for e v (lent_by load words clauses)) load.load_formula-formula.ensures.0 h.variable_count-variables.ensures.0
       ∙ ap₂ (λ (w c : ℕ). room_for (extent_of (J load)) (variables (J load)) (lent_by load w c)) kept.1.1.1.1.1.1.0 kept.1.1.1.1.1.1.1.0
       ∙ room_fits (J load) (lent load)
 
@@ -83,53 +83,53 @@ module _ (h : tie.After-has-room) where
   on-n e =
       ap answer_of (sym e) ∙ ap (λ (k : ℕ). answer_of (fewest_for (I load) k (s load) (r load) (lent load))) (is-n load)
 
-returns : tie.Need-returns
+returns : tie.Need-returns-then-not-has_room
 returns c =
     let h = c.before in
     let l = load h in
-    on-n h (no_room (I l) (s l) (r l) (lent l) (m l) (sym (room-is h) ∙ not-true _ c.if1.true))
+    on-n h (no_room (I l) (s l) (r l) (lent l) (m l) (sym (room-is h) ∙ not-true _ c.if-not-has_room.true))
 
 -- there is room
-module _ (e : tie.Else1) where
+module _ (e : tie.Else-not-has_room) where
   fits : formula_fits (lent (load e.before)) (J (load e.before)) ≡ true
-  fits = sym (room-is e.before) ∙ not-false _ e.if1.false
+  fits = sym (room-is e.before) ∙ not-false _ e.if-not-has_room.false
 
 -- the verdict on the assignment and on n
-module _ (k : tie.After-judge-count) where
-  abbrev here : tie.After-load-formula
+module _ (k : tie.After-judge_count-counted) where
+  abbrev here : tie.After-load_formula-formula
   here = load k.before.before
 
   counted : {v : Verdict (Unit {0})} → counted_for (I here) (start here).args.n (s here) ≡ v → counted_for (I here) (suc (m here)) (s here) ≡ v
   counted e = ap (λ (n : ℕ). counted_for (I here) n (s here)) (is-n here) ∙ e
 
-check-loaded-requires : tie.Need-check-loaded-requires
+check-loaded-requires : tie.Need-check_loaded-requires
 check-loaded-requires c κs =
     let l = load c.before.before.before.before.before.before.before.before in
     let a = (start l).args in
-    let e = l.load-formula.ensures in
-    ((start l).pre.0.counted, e.0, loaded-stands _ a.words.now a.starts.now e.1 e.2)
+    let e = l.load_formula-formula.ensures in
+    ((start l).requires.0.counted-1, e.0, loaded-stands _ a.words-1.now a.starts-1.now e.1 e.2)
 
-returns-2 : tie.Need-returns-2
+returns-2 : tie.Need-returns-in-Refused
 returns-2 c =
     let k = c.before.before.before in
     let e = k.before in
     let l = here k in
-    on-n e.before (counts-wrong (I l) (s l) (r l) (lent l) (m l) (fits e) (counted k (is-refused _ k.judge-count.ensures c.before.counted.given.1)))
+    on-n e.before (counts-wrong (I l) (s l) (r l) (lent l) (m l) (fits e) (counted k (is-refused _ k.judge_count-counted.ensures c.counted-1.given.1)))
 
-returns-3 : tie.Need-returns-3
+returns-3 : tie.Need-returns-in-Accepted
 returns-3 c =
     let d = c.before.before.before.before.before.before.before in
     let t = d.before.before.before.before.before in
     let k = t.before.before in
     let e = k.before in
     let l = here k in
-    let kept = l.load-formula.kept in
-    d.check-loaded.ensures
+    let kept = l.load_formula-formula.kept in
+    d.check_loaded.ensures
     ∙ ap₂ (λ (w n : ℕ). answer_of (refuted_for (J l) (r l) (lent_by l w n))) kept.1.1.1.1.1.1.0 kept.1.1.1.1.1.1.1.0
-    ∙ on-n e.before (then-refuted (I l) (s l) (r l) (lent l) (m l) (fits e) (counted k (is-accepted _ k.judge-count.ensures t.enum_told.given.1)))
+    ∙ on-n e.before (then-refuted (I l) (s l) (r l) (lent l) (m l) (fits e) (counted k (is-accepted _ k.judge_count-counted.ensures t.in-Accepted.is)))
 
-pub fewest-some-spec : {M : Type 1} → statement M
-fewest-some-spec =
+pub fewest_some_spec : {M : Type 1} → statement M
+fewest_some_spec =
     tie.close
     (tie.spec
     (λ c. search rules)

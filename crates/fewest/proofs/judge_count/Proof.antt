@@ -17,7 +17,7 @@ use Rattle.fewest.proofs.judge_count.Statement.{statement}
 use Rattle.fewest.proofs.judge_count.Tie as tie
 
 -- the judgement
-module _ (c : tie.After-judge-assignment) where
+module _ (c : tie.After-judge_assignment-judged) where
   abbrev start : tie.Start
   start = c.before.before.before.before.before
 
@@ -28,41 +28,41 @@ module _ (c : tie.After-judge-assignment) where
   s = start.args.assignment.now
 
   passed : Passed start.args.b
-  passed = start.pre.0.counted.passed
+  passed = start.requires.0.counted.passed
 
-  judged : c.judge-assignment.result ≡ answer_of (judge_assignment I s)
-  judged = c.judge-assignment.ensures ∙ ap (λ (J : Instance). answer_of (judge_assignment J s)) (none-under (held start.args.b))
+  judged : c.judge_assignment-judged.result ≡ answer_of (judge_assignment I s)
+  judged = c.judge_assignment-judged.ensures ∙ ap (λ (J : Instance). answer_of (judge_assignment J s)) (none-under (held start.args.b))
 
 -- it is accepted
-module _ (c : tie.After-enum-told) where
-  abbrev call : tie.After-judge-assignment
+module _ (c : tie.In-Accepted) where
+  abbrev call : tie.After-judge_assignment-judged
   call = c.before.before
 
   accepts : judge_assignment (I call) (s call) ≡ accepted tt
-  accepts = is-accepted _ (judged call) c.enum_told.given.1
+  accepts = is-accepted _ (judged call) c.in-Accepted.is
 
-count-set-requires : tie.Need-count-set-requires
+count-set-requires : tie.Need-count_set-requires
 count-set-requires c κs =
     let k = call c in
     ((passed k).packed.counts, omega (arith, nodes-is (start k).args.b (passed k), has-borders (I k) (s k) (accepts c)))
 
-returns : tie.Need-returns
+returns : tie.Need-returns-then-count_set-n
 returns c =
     let t = c.before.before in
-    ap answer_of (sym (other-count (I (call t)) (s (call t)) _ (accepts t) c.before.count_set.ensures c.if1.true))
+    ap answer_of (sym (other-count (I (call t)) (s (call t)) _ (accepts t) c.count_set.ensures c.if-count_set-n.true))
 
-returns-2 : tie.Need-returns-2
+returns-2 : tie.Need-returns-in-Refused
 returns-2 c =
     let k = c.before.before.before in
-    ap answer_of (sym (not-judged (I k) (s k) _ (is-refused _ (judged k) c.before.judged.given.1)))
+    ap answer_of (sym (not-judged (I k) (s k) _ (is-refused _ (judged k) c.judged-1.given.1)))
 
-returns-3 : tie.Need-returns-3
+returns-3 : tie.Need-returns-else-count_set-n
 returns-3 c =
     let t = c.before.before in
-    ap answer_of (sym (right-count (I (call t)) (s (call t)) _ (accepts t) c.before.count_set.ensures c.if1.false))
+    ap answer_of (sym (right-count (I (call t)) (s (call t)) _ (accepts t) c.count_set.ensures c.if-count_set-n.false))
 
-pub judge-count-spec : {M : Type 1} → statement M
-judge-count-spec =
+pub judge_count_spec : {M : Type 1} → statement M
+judge_count_spec =
     tie.close
     (tie.spec
     (λ c κs. search rules)

@@ -23,11 +23,11 @@ unfolding empty demand
 some [] h = absurd (h refl)
 some (x ∷ s) h = refl
 
-returns : tie.Need-returns
-returns c = none _ c.if1.true
+returns : tie.Need-returns-then-refutation-eq0
+returns c = none _ c.if-refutation-eq0.true
 
-returns-2 : tie.Need-returns-2
-returns-2 c = some _ c.if1.false
+returns-2 : tie.Need-returns
+returns-2 c = some _ c.if-refutation-eq0.false
 
-pub none-below-spec : {M : Type 1} → statement M
-none-below-spec = tie.close (tie.spec returns returns-2)
+pub none_below_spec : {M : Type 1} → statement M
+none_below_spec = tie.close (tie.spec returns returns-2)

@@ -13,35 +13,36 @@ use Rattle.frames.specs.Framed.{out_of_order_by}
 use Rattle.frames.proofs.Order.{not_first, second_head, order-rest, agrees, differs}
 use Rattle.frames.proofs.out_of_order.Statement.{statement}
 use Rattle.frames.proofs.out_of_order.Tie as tie
+use Rattle.frames.proofs.out_of_order.Lts.{else-last-eq0, then-last-eq0}
 
-returns : tie.Need-returns
-returns c = not_first _ _ _ c.before.if1.true c.if2.true
+returns : tie.Need-returns-then-kind-ne-KIND
+returns c = not_first _ _ _ c.if-last-eq0.true c.if-kind-ne-KIND.true
 
-returns-2 : tie.Need-returns-2
-returns-2 c = second_head _ _ _ c.before.if1.false c.if3.true
+returns-2 : tie.Need-returns-then-kind-eq-KIND
+returns-2 c = second_head _ _ _ c.if-last-eq0.false c.if-kind-eq-KIND.true
 
 rank-requires : tie.Need-rank-requires
 rank-requires c κs = search rules
 
 -- past the two early answers
 rest : (c : tie.After-rank)
-    → out_of_order_by c.before.before.args.last c.before.before.args.kind c.before.before.args.left
-    ≡ (ltb c.rank.result c.before.before.args.last || is_end c.before.before.args.kind && not (eqb c.before.before.args.left 0))
+    → out_of_order_by c.args.last c.args.kind c.args.left
+    ≡ (ltb c.rank.result c.args.last || is_end c.args.kind && not (eqb c.args.left 0))
 rest c =
-    order-rest _ _ _ (⊎_elim (λ w. inl (w.0.taken, w.1.left)) (λ w. inr (w.0.left, w.1.left)) c.before.if1.branch)
+    order-rest _ _ _ (elim (c.if-last-eq0.branch) [ then-last-eq0 w ↦ inl (w.if-last-eq0.true, w.if-kind-ne-KIND.false) | else-last-eq0 w ↦ inr (w.if-last-eq0.false, w.if-kind-eq-KIND.false) ]
     ∙ simp (← c.rank.ensures)
 
-returns-3 : tie.Need-returns-3
-returns-3 c = sym (rest c.before ∙ simp (lt-ltb _ _ c.if4.true))
+returns-3 : tie.Need-returns-then-rank-last
+returns-3 c = sym (rest c.before ∙ simp (lt-ltb _ _ c.if-rank-last.true))
 
-returns-4 : tie.Need-returns-4
+returns-4 : tie.Need-returns-then-kind-eq-KIND-2
 unfolding is_end kind_number
-returns-4 c = sym (rest c.before.before ∙ simp (le-ltb _ _ c.before.if4.false, agrees _ 8 c.if5.true))
+returns-4 c = sym (rest c.before.before ∙ simp (le-ltb _ _ c.if-rank-last.false, agrees _ 8 c.if-kind-eq-KIND-2.true))
 
-returns-5 : tie.Need-returns-5
+returns-5 : tie.Need-returns-else-kind-eq-KIND-2
 unfolding is_end kind_number
-returns-5 c = sym (rest c.before.before ∙ simp (le-ltb _ _ c.before.if4.false, differs _ 8 c.if5.false))
+returns-5 c = sym (rest c.before.before ∙ simp (le-ltb _ _ c.if-rank-last.false, differs _ 8 c.if-kind-eq-KIND-2.false))
 
-pub out-of-order-spec : {M : Type 1} → statement M
-out-of-order-spec =
+pub out_of_order_spec : {M : Type 1} → statement M
+out_of_order_spec =
     tie.close (tie.spec returns returns-2 rank-requires returns-3 returns-4 returns-5)

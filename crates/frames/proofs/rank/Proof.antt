@@ -13,8 +13,8 @@ use Rattle.frames.proofs.rank.Tie as tie
 placed : (n : ℕ) (k found : Kind) → k ≡ kind_said (find_kind n kind_order) → k ≡ found → place_of found ≡ rank n
 placed n k found e f = ap place_of (sym f ∙ e) ∙ sym (rank-placed n)
 
-pub rank-spec : {M : Type 1} → statement M
-rank-spec =
+pub rank_spec : {M : Type 1} → statement M
+rank_spec =
     tie.close
     (tie.spec
     (λ c κs. search rules)
@@ -27,12 +27,12 @@ rank-spec =
     (λ c. search rules)
     (λ c. search rules)
     (λ c. search rules)
-    (λ c. placed _ _ _ c.before.before.kind-of.ensures c.enum_told.given.1)
-    (λ c. placed _ _ _ c.before.before.kind-of.ensures c.enum-told2.given.1)
-    (λ c. placed _ _ _ c.before.before.kind-of.ensures c.enum-told3.given.1)
-    (λ c. placed _ _ _ c.before.before.kind-of.ensures c.enum-told4.given.1)
-    (λ c. placed _ _ _ c.before.before.kind-of.ensures c.enum-told5.given.1)
-    (λ c. placed _ _ _ c.before.before.kind-of.ensures c.enum-told6.given.1)
-    (λ c. placed _ _ _ c.before.before.kind-of.ensures c.enum-told7.given.1)
-    (λ c. placed _ _ _ c.before.before.kind-of.ensures c.enum-told8.given.1)
-    (λ c. placed _ _ _ c.before.before.kind-of.ensures c.enum-told9.given.1))
+    (λ c. placed _ _ _ c.kind_of-kind.ensures c.in-Head.is)
+    (λ c. placed _ _ _ c.kind_of-kind.ensures c.in-Node.is)
+    (λ c. placed _ _ _ c.kind_of-kind.ensures c.in-Segment.is)
+    (λ c. placed _ _ _ c.kind_of-kind.ensures c.in-Join.is)
+    (λ c. placed _ _ _ c.kind_of-kind.ensures c.in-Train.is)
+    (λ c. placed _ _ _ c.kind_of-kind.ensures c.in-Call.is)
+    (λ c. placed _ _ _ c.kind_of-kind.ensures c.in-Unbreakable.is)
+    (λ c. placed _ _ _ c.kind_of-kind.ensures c.in-End.is)
+    (λ c. placed _ _ _ c.kind_of-kind.ensures c.in-Unknown.is))

@@ -13,11 +13,11 @@ asked : (capped cap : ℕ) → 0 < capped → some cap ≡ cap_asked capped cap
 asked zero cap h = let no' : ⊥ = omega (arith, h) in absurd no'
 asked (suc n) cap h = refl
 
-returns : tie.Need-returns
-returns c = sym (ap (λ (n : ℕ). cap_asked n c.before.args.cap) c.if1.true)
+returns : tie.Need-returns-then-capped-eq0
+returns c = sym (ap (λ (n : ℕ). cap_asked n c.args.cap) c.if-capped-eq0.true)
 
-returns-2 : tie.Need-returns-2
-returns-2 c = asked c.before.args.capped c.before.args.cap (omega (arith, c.if1.false))
+returns-2 : tie.Need-returns
+returns-2 c = asked c.args.capped c.args.cap (omega (arith, c.if-capped-eq0.false))
 
-pub cap-from-spec : {M : Type 1} → statement M
-cap-from-spec = tie.close (tie.spec returns returns-2)
+pub cap_from_spec : {M : Type 1} → statement M
+cap_from_spec = tie.close (tie.spec returns returns-2)

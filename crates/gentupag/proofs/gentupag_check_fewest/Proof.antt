@@ -12,19 +12,19 @@ use Rattle.gentupag.proofs.gentupag_check_fewest.Tie as tie
 returns : tie.Need-returns
 returns c =
     let a = c.before.before.before.before.before.before.before.before in
-    let s = a.before.before.before.before.before.before.before.before.before.before.before.args in
-    let e = a.check-fewest.ensures in
-    let lent = lengths s.words.now s.clauses.now s.values.now s.trail.now in
+    let s = a.args in
+    let e = a.check_fewest-answer.ensures in
+    let lent = lengths s.words-1.now s.clauses-1.now s.values-1.now s.trail-1.now in
     let v = check_fewest s.book.now s.n s.assignment.now s.refutation.now lent in (
-      c.verdict-from.ensures ∙ ap verdict_shown {y = answer_of v} e.0 ∙ verdict-shown v,
+      c.verdict_from.ensures ∙ ap verdict_shown {y = answer_of v} e.0 ∙ verdict-shown v,
       e.1,
       e.2,
       e.3,
       e.4,
     )
 
-pub gentupag-check-fewest-spec : {M : Type 1} → statement M
-gentupag-check-fewest-spec =
+pub gentupag_check_fewest_spec : {M : Type 1} → statement M
+gentupag_check_fewest_spec =
     tie.close
     (tie.spec
     (λ c κs. search rules)

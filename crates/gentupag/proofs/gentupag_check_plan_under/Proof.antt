@@ -17,21 +17,21 @@ returns : tie.Need-returns
 returns c =
     let a = c.before.before.before in
     let k = a.before.before in
-    let s = k.before.before.before.before.args in
-    let e = a.check-plan.ensures in
-    let h = k.cap-from.ensures in
-    let limit = held_cap k.cap-from.result in
-    let v = check_plan limit s.book.now s.plan.now (length s.out.now) in (
-      c.output-from.ensures
+    let s = k.args in
+    let e = a.check_plan-answer.ensures in
+    let h = k.cap_from.ensures in
+    let limit = held_cap k.cap_from.result in
+    let v = check_plan limit s.book.now s.plan.now (length s.out-1.now) in (
+      c.output_from.ensures
           ∙ ap output_shown {y = output_answer v} e.0
           ∙ output-shown v
-          ∙ ap (λ (o : Option ℕ). output_of (check_plan o s.book.now s.plan.now (length s.out.now))) h,
-      ◌∙◌ {b = assignment_output limit s.book.now s.plan.now s.out.now} e.1
-          (ap (λ (o : Option ℕ). assignment_output o s.book.now s.plan.now s.out.now) h),
+          ∙ ap (λ (o : Option ℕ). output_of (check_plan o s.book.now s.plan.now (length s.out-1.now))) h,
+      ◌∙◌ {b = assignment_output limit s.book.now s.plan.now s.out-1.now} e.1
+          (ap (λ (o : Option ℕ). assignment_output o s.book.now s.plan.now s.out-1.now) h),
     )
 
-pub gentupag-check-plan-under-spec : {M : Type 1} → statement M
-gentupag-check-plan-under-spec =
+pub gentupag_check_plan_under_spec : {M : Type 1} → statement M
+gentupag_check_plan_under_spec =
     tie.close
     (tie.spec
     (λ c κs. search rules)

@@ -17,22 +17,22 @@ returns : tie.Need-returns
 returns c =
     let a = c.before.before.before.before.before.before.before.before in
     let k = a.before.before.before.before.before in
-    let s = k.before.before.before.before.before.before.args in
-    let e = a.check-refutation.ensures in
-    let lent = lengths s.words.now s.clauses.now s.values.now s.trail.now in
-    let v = check_refutation (held_cap k.cap-from.result) s.book.now s.refutation.now lent in (
-      c.verdict-from.ensures
+    let s = k.args in
+    let e = a.check_refutation-answer.ensures in
+    let lent = lengths s.words-1.now s.clauses-1.now s.values-1.now s.trail-1.now in
+    let v = check_refutation (held_cap k.cap_from.result) s.book.now s.refutation.now lent in (
+      c.verdict_from.ensures
           ∙ ap verdict_shown {y = answer_of v} e.0
           ∙ verdict-shown v
-          ∙ ap (λ (o : Option ℕ). verdict_of (check_refutation o s.book.now s.refutation.now lent)) k.cap-from.ensures,
+          ∙ ap (λ (o : Option ℕ). verdict_of (check_refutation o s.book.now s.refutation.now lent)) k.cap_from.ensures,
       e.1,
       e.2,
       e.3,
       e.4,
     )
 
-pub gentupag-check-refutation-under-spec : {M : Type 1} → statement M
-gentupag-check-refutation-under-spec =
+pub gentupag_check_refutation_under_spec : {M : Type 1} → statement M
+gentupag_check_refutation_under_spec =
     tie.close
     (tie.spec
     (λ c κs. search rules)

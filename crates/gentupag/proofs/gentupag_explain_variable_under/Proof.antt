@@ -11,11 +11,11 @@ use Rattle.gentupag.proofs.gentupag_explain_variable_under.Tie as tie
 returns : tie.Need-returns
 returns c =
     let k = c.before in
-    let s = k.before.before.args in
-    c.variable-of.ensures ∙ ap (λ (o : Option ℕ). variable_answer (ask_variable o s.book.now s.variable)) k.cap-from.ensures
+    let s = k.args in
+    c.variable_of.ensures ∙ ap (λ (o : Option ℕ). variable_answer (ask_variable o s.book.now s.variable)) k.cap_from.ensures
 
-pub gentupag-explain-variable-under-spec : {M : Type 1} → statement M
-gentupag-explain-variable-under-spec =
+pub gentupag_explain_variable_under_spec : {M : Type 1} → statement M
+gentupag_explain_variable_under_spec =
     tie.close
     (tie.spec
     (λ c κs. search rules)

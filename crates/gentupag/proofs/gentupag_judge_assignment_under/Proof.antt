@@ -14,14 +14,14 @@ returns : tie.Need-returns
 returns c =
     let a = c.before in
     let k = a.before in
-    let s = k.before.before.before.args in
-    c.verdict-from.ensures
-    ∙ ap verdict_shown a.check-assignment.ensures
-    ∙ verdict-shown (check_assignment (held_cap k.cap-from.result) s.book.now s.values.now)
-    ∙ ap (λ (o : Option ℕ). verdict_of (check_assignment o s.book.now s.values.now)) k.cap-from.ensures
+    let s = k.args in
+    c.verdict_from.ensures
+    ∙ ap verdict_shown a.check_assignment-answer.ensures
+    ∙ verdict-shown (check_assignment (held_cap k.cap_from.result) s.book.now s.values.now)
+    ∙ ap (λ (o : Option ℕ). verdict_of (check_assignment o s.book.now s.values.now)) k.cap_from.ensures
 
-pub gentupag-judge-assignment-under-spec : {M : Type 1} → statement M
-gentupag-judge-assignment-under-spec =
+pub gentupag_judge_assignment_under_spec : {M : Type 1} → statement M
+gentupag_judge_assignment_under_spec =
     tie.close
     (tie.spec
     (λ c κs. search rules)

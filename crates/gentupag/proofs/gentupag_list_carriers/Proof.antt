@@ -11,12 +11,12 @@ use Rattle.gentupag.proofs.gentupag_list_carriers.Tie as tie
 returns : tie.Need-returns
 returns c =
     let a = c.before.before.before in
-    let s = a.before.before.before.before.before.args in
-    let e = a.list-carriers.ensures in
-    (c.output-from.ensures ∙ ap output_shown e.0 ∙ output-shown (list_carriers s.book.now s.plan.now (length s.out.now)), e.1)
+    let s = a.args in
+    let e = a.list_carriers-answer.ensures in
+    (c.output_from.ensures ∙ ap output_shown e.0 ∙ output-shown (list_carriers s.book.now s.plan.now (length s.out-1.now)), e.1)
 
-pub gentupag-list-carriers-spec : {M : Type 1} → statement M
-gentupag-list-carriers-spec =
+pub gentupag_list_carriers_spec : {M : Type 1} → statement M
+gentupag_list_carriers_spec =
     tie.close
     (tie.spec
     (λ c κs. search rules)

@@ -11,11 +11,11 @@ use Rattle.gentupag.proofs.gentupag_measure_book_under.Tie as tie
 returns : tie.Need-returns
 returns c =
     let k = c.before in
-    let s = k.before.before.args in
-    c.measure-book.ensures ∙ ap (λ (o : Option ℕ). sizes_answer (measure_book o s.book.now)) k.cap-from.ensures
+    let s = k.args in
+    c.measure_book.ensures ∙ ap (λ (o : Option ℕ). sizes_answer (measure_book o s.book.now)) k.cap_from.ensures
 
-pub gentupag-measure-book-under-spec : {M : Type 1} → statement M
-gentupag-measure-book-under-spec =
+pub gentupag_measure_book_under_spec : {M : Type 1} → statement M
+gentupag_measure_book_under_spec =
     tie.close
     (tie.spec
     (λ c κs. search rules)

@@ -11,12 +11,12 @@ use Rattle.gentupag.proofs.gentupag_print_graph.Tie as tie
 returns : tie.Need-returns
 returns c =
     let a = c.before.before.before in
-    let s = a.before.before.before.before.before.args in
-    let e = a.print-graph.ensures in
-    (c.output-from.ensures ∙ ap output_shown e.0 ∙ output-shown (print_graph s.book.now s.plan.now (length s.out.now)), e.1)
+    let s = a.args in
+    let e = a.print_graph-answer.ensures in
+    (c.output_from.ensures ∙ ap output_shown e.0 ∙ output-shown (print_graph s.book.now s.plan.now (length s.out-1.now)), e.1)
 
-pub gentupag-print-graph-spec : {M : Type 1} → statement M
-gentupag-print-graph-spec =
+pub gentupag_print_graph_spec : {M : Type 1} → statement M
+gentupag_print_graph_spec =
     tie.close
     (tie.spec
     (λ c κs. search rules)

@@ -10,12 +10,12 @@ use Rattle.gentupag.proofs.gentupag_read_book.Tie as tie
 
 returns : tie.Need-returns
 returns c =
-    let s = c.before.before.before.args in
-    c.verdict-from.ensures ∙ ap (λ (r : BookRead). verdict_shown r.answer) c.before.read-book.ensures
+    let s = c.args in
+    c.verdict_from.ensures ∙ ap (λ (r : BookRead). verdict_shown r.answer) c.read_book-read.ensures
     ∙ read-shown (read_book s.book.now)
 
-pub gentupag-read-book-spec : {M : Type 1} → statement M
-gentupag-read-book-spec =
+pub gentupag_read_book_spec : {M : Type 1} → statement M
+gentupag_read_book_spec =
     tie.close
     (tie.spec
     (λ c κs. search rules)

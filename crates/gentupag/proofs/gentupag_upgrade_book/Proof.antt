@@ -11,12 +11,12 @@ use Rattle.gentupag.proofs.gentupag_upgrade_book.Tie as tie
 returns : tie.Need-returns
 returns c =
     let a = c.before.before.before in
-    let s = a.before.before.before.before.args in
-    let e = a.upgrade-book.ensures in
-    (c.output-from.ensures ∙ ap output_shown e.0 ∙ output-shown (upgrade_book s.old.now (length s.out.now)), e.1)
+    let s = a.args in
+    let e = a.upgrade_book-answer.ensures in
+    (c.output_from.ensures ∙ ap output_shown e.0 ∙ output-shown (upgrade_book s.old.now (length s.out-1.now)), e.1)
 
-pub gentupag-upgrade-book-spec : {M : Type 1} → statement M
-gentupag-upgrade-book-spec =
+pub gentupag_upgrade_book_spec : {M : Type 1} → statement M
+gentupag_upgrade_book_spec =
     tie.close
     (tie.spec
     (λ c κs. search rules)

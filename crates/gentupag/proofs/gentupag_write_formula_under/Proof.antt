@@ -16,18 +16,18 @@ returns : tie.Need-returns
 returns c =
     let a = c.before.before in
     let k = a.before.before in
-    let s = k.before.before.args in
-    let e = a.write-formula.ensures in
-    let h = k.cap-from.ensures in (
-      c.totals-from.ensures
+    let s = k.args in
+    let e = a.write_formula-answer.ensures in
+    let h = k.cap_from.ensures in (
+      c.totals_from.ensures
           ∙ ap totals_shown e.0
-          ∙ totals-shown (write_formula (held_cap k.cap-from.result) s.book.now (length s.out.now))
-          ∙ ap (λ (o : Option ℕ). totals_of (write_formula o s.book.now (length s.out.now))) h,
-      e.1 ∙ ap (λ (o : Option ℕ). formula_output o s.book.now s.out.now) h,
+          ∙ totals-shown (write_formula (held_cap k.cap_from.result) s.book.now (length s.out-1.now))
+          ∙ ap (λ (o : Option ℕ). totals_of (write_formula o s.book.now (length s.out-1.now))) h,
+      e.1 ∙ ap (λ (o : Option ℕ). formula_output o s.book.now s.out-1.now) h,
     )
 
-pub gentupag-write-formula-under-spec : {M : Type 1} → statement M
-gentupag-write-formula-under-spec =
+pub gentupag_write_formula_under_spec : {M : Type 1} → statement M
+gentupag_write_formula_under_spec =
     tie.close
     (tie.spec
     (λ c κs. search rules)

@@ -5,11 +5,11 @@ use Rattle.gentupag.specs.Answers.{output_shown}
 use Rattle.gentupag.proofs.output_from.Statement.{statement}
 use Rattle.gentupag.proofs.output_from.Tie as tie
 
-pub output-from-spec : {M : Type 1} → statement M
-output-from-spec =
+pub output_from_spec : {M : Type 1} → statement M
+output_from_spec =
     tie.close
     (tie.spec
     (λ c. search rules)
     (λ c. search rules)
-    (λ c. sym (ap output_shown c.before.answer.given.1))
-    (λ c. sym (ap output_shown c.before.answer2.given.1)))
+    (λ c. sym (ap output_shown c.answer-1.given.1))
+    (λ c. sym (ap output_shown c.answer-in-Refused-1.given.1)))

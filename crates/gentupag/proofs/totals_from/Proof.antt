@@ -5,11 +5,11 @@ use Rattle.gentupag.specs.Answers.{totals_shown}
 use Rattle.gentupag.proofs.totals_from.Statement.{statement}
 use Rattle.gentupag.proofs.totals_from.Tie as tie
 
-pub totals-from-spec : {M : Type 1} → statement M
-totals-from-spec =
+pub totals_from_spec : {M : Type 1} → statement M
+totals_from_spec =
     tie.close
     (tie.spec
     (λ c. search rules)
     (λ c. search rules)
-    (λ c. sym (ap totals_shown c.before.answer.given.1))
-    (λ c. sym (ap totals_shown c.before.answer2.given.1)))
+    (λ c. sym (ap totals_shown c.answer-1.given.1))
+    (λ c. sym (ap totals_shown c.answer-in-Refused-1.given.1)))

@@ -5,11 +5,11 @@ use Rattle.gentupag.specs.Answers.{verdict_shown}
 use Rattle.gentupag.proofs.verdict_from.Statement.{statement}
 use Rattle.gentupag.proofs.verdict_from.Tie as tie
 
-pub verdict-from-spec : {M : Type 1} → statement M
-verdict-from-spec =
+pub verdict_from_spec : {M : Type 1} → statement M
+verdict_from_spec =
     tie.close
     (tie.spec
     (λ c. search rules)
     (λ c. search rules)
-    (λ c. sym (ap verdict_shown c.enum_told.given.1))
-    (λ c. sym (ap verdict_shown c.before.answer.given.1)))
+    (λ c. sym (ap verdict_shown c.in-Accepted.is))
+    (λ c. sym (ap verdict_shown c.answer-1.given.1)))

@@ -22,7 +22,7 @@ use Rattle.graph.proofs.page_by.Statement.{statement}
 use Rattle.graph.proofs.page_by.Tie as tie
 
 -- the answer to the plan, by the page's length
-module _ (a : tie.After-admit-plan) where
+module _ (a : tie.After-admit_plan-admitted) where
   abbrev start : tie.Start
   start = a.before.before.before.before.before.before
 
@@ -34,33 +34,33 @@ module _ (a : tie.After-admit-plan) where
 
   need : start.args.b.intervals * 81 ≡ page_bytes I
   unfolding page_bytes
-  need = mul_comm start.args.b.intervals 81 ∙ ap (λ (n : ℕ). 81 * n) (sym (intervals-is start.args.b start.pre.0.counted.passed))
+  need = mul_comm start.args.b.intervals 81 ∙ ap (λ (n : ℕ). 81 * n) (sym (intervals-is start.args.b start.requires.0.counted.passed))
 
-  answered : a.admit-plan.result ≡ answer_of (admit_plan I start.args.plan.now (page_bytes I) room)
-  answered = a.admit-plan.ensures ∙ ap (λ (n : ℕ). answer_of (admit_plan I start.args.plan.now n room)) need
+  answered : a.admit_plan-admitted.result ≡ answer_of (admit_plan I start.args.plan.now (page_bytes I) room)
+  answered = a.admit_plan-admitted.ensures ∙ ap (λ (n : ℕ). answer_of (admit_plan I start.args.plan.now n room)) need
 
 -- it is accepted
-module _ (c : tie.After-enum-told) where
-  abbrev asked : tie.After-admit-plan
+module _ (c : tie.In-Accepted) where
+  abbrev asked : tie.After-admit_plan-admitted
   asked = c.before.before
 
   accepts : Accepted ≡ answer_of (admit_plan (I asked) (start asked).args.plan.now (page_bytes (I asked)) (room asked))
-  accepts = sym c.enum_told.given.1 ∙ answered asked
+  accepts = sym c.in-Accepted.is ∙ answered asked
 
-put-page-requires : tie.Need-put-page-requires
+put-page-requires : tie.Need-put_page-requires
 put-page-requires c κs =
     let a = c.before in
     let s = start (asked a) in
     let judged = after-judged _ s.args.plan.now (page_bytes (I (asked a))) (room (asked a)) (accepts a) in
-    (s.pre.0, ((plan-iff _ s.args.plan.now).0 judged).0, after-room _ s.args.plan.now _ _ (accepts a))
+    (s.requires.0, ((plan-iff _ s.args.plan.now).0 judged).0, after-room _ s.args.plan.now _ _ (accepts a))
 
-returns : tie.Need-returns
+returns : tie.Need-returns-in-Refused
 unfolding page_for
 returns c =
     let a = c.before.before.before in
-    left-stopped _ (after-refused _ (start a).args.plan.now _ _ _ (sym c.before.admitted.given.1 ∙ answered a))
+    left-stopped _ (after-refused _ (start a).args.plan.now _ _ _ (sym c.admitted-1.given.1 ∙ answered a))
 
-returns-2 : tie.Need-returns-2
+returns-2 : tie.Need-returns-in-Accepted
 unfolding page_for
 returns-2 c =
     let w = c.before.before in
@@ -69,13 +69,13 @@ returns-2 c =
     let s = start k in
     let p = plan_of (I k) s.args.plan.now in
     left-written _ (page (I k) p) (after-goes _ s.args.plan.now _ _ (accepts a) (λ p. accepted (page (I k) p)))
-    (need k ∙ sym (page-long (held s.args.b) s.pre.0.counted.passed.formed p)) w.put-page.ensures
+    (need k ∙ sym (page-long (held s.args.b) s.requires.0.counted.passed.formed p)) w.put_page.ensures
 
-pub page-by-spec : {M : Type 1} → statement M
-page-by-spec =
+pub page_by_spec : {M : Type 1} → statement M
+page_by_spec =
     tie.close
     (tie.spec
-    (λ c. omega (arith, c.before.before.before.before.before.requires.0.counted.passed.packed.numbers.intervals))
+    (λ c. omega (arith, c.requires.0.counted.passed.packed.numbers.intervals))
     (λ c κs. search rules)
     (λ c. search rules)
     (λ c. search rules)

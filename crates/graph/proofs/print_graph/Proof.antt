@@ -13,7 +13,7 @@ use Rattle.graph.proofs.print_graph.Statement.{statement}
 use Rattle.graph.proofs.print_graph.Tie as tie
 
 -- the answer to the book's bytes
-module _ (c : tie.After-prepare) where
+module _ (c : tie.After-prepare-p) where
   abbrev start : tie.Start
   start = c.before.before.before.before.before.before
 
@@ -22,29 +22,29 @@ module _ (c : tie.After-prepare) where
   onward I = page_for I start.args.plan.now (length start.args.page.now)
 
 -- the book is accepted
-module _ (c : tie.After-enum-told) where
-  abbrev prepared : tie.After-prepare
+module _ (c : tie.In-Accepted) where
+  abbrev prepared : tie.After-prepare-p
   prepared = c.before.before.before.before.before.before.before
 
-  ready : TablesReady prepared.prepare.result prepared.prepare.last.1.0 prepared.prepare.last.1.1.0
-  ready = prepared.prepare.ensures.1 c.enum_told.given.1
+  ready : TablesReady prepared.prepare-p.result prepared.prepare-p.last.1.0 prepared.prepare-p.last.1.1.0
+  ready = prepared.prepare-p.ensures.1 c.in-Accepted.is
 
-returns : tie.Need-returns
+returns : tie.Need-returns-in-Refused
 unfolding print_graph page_output
 returns c =
     let r = c.before.before.before.before.before.before.before.before in
-    left-stopped _ (stopped _ _ r.prepare.ensures.0 (onward r) c.before.answer.given.1)
+    left-stopped _ (stopped _ _ r.prepare-p.ensures.0 (onward r) c.answer-1.given.1)
 
-returns-2 : tie.Need-returns-2
+returns-2 : tie.Need-returns-in-Accepted
 unfolding print_graph page_output
 returns-2 c =
     let d = c.before.before in
     let a = d.before.before.before.before in
     let r = prepared a in
-    left-same _ (went_on _ _ r.prepare.ensures.0 a.enum_told.given.1 (onward r)) d.page-by.ensures
+    left-same _ (went_on _ _ r.prepare-p.ensures.0 a.in-Accepted.is (onward r)) d.page_by.ensures
 
-pub print-graph-spec : {M : Type 1} → statement M
-print-graph-spec =
+pub print_graph_spec : {M : Type 1} → statement M
+print_graph_spec =
     tie.close
     (tie.spec
     (λ c. sym runs-long)

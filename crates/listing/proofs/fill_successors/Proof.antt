@@ -16,33 +16,33 @@ use Rattle.listing.proofs.Leaves.{sets-map-next}
 use Rattle.listing.proofs.fill_successors.Statement.{statement}
 use Rattle.listing.proofs.fill_successors.Tie as tie
 
-abbrev invariant-loop : tie.invariant-loop
+abbrev invariant-loop : tie.invariant-loop-d
 invariant-loop b table₀ fans₀ n d₀ table widths d =
     (d ≤ n) × (length table ≡ length table₀) × (length widths ≡ length fans₀)
     × (table ≡ successor_table (held b) d table₀) × (widths ≡ sets fans₀ 0 (fan_widths (held b) d))
 
-abbrev decreases-loop : tie.decreases-loop
+abbrev decreases-loop : tie.decreases-loop-d
 decreases-loop b table₀ fans₀ n d₀ table widths d = n - d
 
-loop-holds : tie.Need-loop-init invariant-loop decreases-loop
+loop-holds : tie.Need-loop-d-init invariant-loop decreases-loop
 unfolding successor_table fan_widths up_to count
 loop-holds c = (omega arith, refl, refl, refl, refl)
 
-loop-again : tie.Need-loop-preserved invariant-loop decreases-loop
+loop-again : tie.Need-loop-d-preserved invariant-loop decreases-loop
 unfolding successor_table fan_widths
 loop-again c =
     let s = c.before.before.before.before.before in
-    let a = s.before.before.before.before.args in
-    let d = s.loop.d in
+    let a = s.args in
+    let d = s.loop-d.d in
     let b = held a.b in
-    let call = c.before.before.fill-fan in (
+    let call = c.fill_fan in (
       omega arith,
-      call.auto.1.1.0 ∙ s.loop.invariant.1,
-      simp length-set s.loop.invariant.2,
+      call.auto.1.1.0 ∙ s.loop-d.invariant.1,
+      simp length-set s.loop-d.invariant.2,
       call.ensures.2
-          ∙ ap (λ (table : List ℕ). sets table (d * 128) (successors b d)) s.loop.invariant.3
-          ∙ ap (λ (k : ℕ). successor_table b k a.table.now) (sym (add-one d)),
-      ap₂ (λ (widths : List ℕ) (x : ℕ). set widths d x) s.loop.invariant.4 call.ensures.0
+          ∙ ap (λ (table : List ℕ). sets table (d * 128) (successors b d)) s.loop-d.invariant.3
+          ∙ ap (λ (k : ℕ). successor_table b k a.table-1.now) (sym (add-one d)),
+      ap₂ (λ (widths : List ℕ) (x : ℕ). set widths d x) s.loop-d.invariant.4 call.ensures.0
           ∙ ap (λ (k : ℕ). set (sets a.widths.now 0 (fan_widths b d)) k (length (successors b d))) (sym (zero-add d))
           ∙ sets-map-next (λ d. length (successors b d)) a.widths.now 0 d,
     )
@@ -50,14 +50,14 @@ loop-again c =
 returns : tie.Need-returns invariant-loop decreases-loop
 returns c =
     let s = c.before in
-    let a = s.before.before.before.before.args in
-    let done : s.loop.d ≡ 2 * a.b.segment_count = omega arith in (
-      s.loop.invariant.3 ∙ ap (λ (k : ℕ). successor_table (held a.b) k a.table.now) done,
-      s.loop.invariant.4 ∙ ap (λ (k : ℕ). sets a.widths.now 0 (fan_widths (held a.b) k)) done,
+    let a = s.args in
+    let done : s.loop-d.d ≡ 2 * a.b.segment_count = omega arith in (
+      s.loop-d.invariant.3 ∙ ap (λ (k : ℕ). successor_table (held a.b) k a.table-1.now) done,
+      s.loop-d.invariant.4 ∙ ap (λ (k : ℕ). sets a.widths.now 0 (fan_widths (held a.b) k)) done,
     )
 
-pub fill-successors-spec : {M : Type 1} → statement M
-fill-successors-spec =
+pub fill_successors_spec : {M : Type 1} → statement M
+fill_successors_spec =
     tie.close
     (tie.spec
     invariant-loop
@@ -70,6 +70,6 @@ fill-successors-spec =
     (λ c. omega arith)
     (λ c. omega arith)
     loop-again
-    (λ c. c.before.loop.invariant.1)
-    (λ c. c.before.loop.invariant.2)
+    (λ c. c.loop-d.invariant.1)
+    (λ c. c.loop-d.invariant.2)
     returns)

@@ -9,10 +9,10 @@ use Rattle.laws.proofs.Last.{last-take}
 use Rattle.listing.proofs.last_of.Statement.{statement}
 use Rattle.listing.proofs.last_of.Tie as tie
 
-sub-last : tie.Need-overflow-sub-last
+sub-last : tie.Need-overflow_sub-last
 sub-last c = search rules
 
-element-copy-out-wide : tie.Need-element-copy-out-wide
+element-copy-out-wide : tie.Need-bounds-path-last
 element-copy-out-wide c = search rules
 
 wide-requires : tie.Need-wide-requires
@@ -22,9 +22,9 @@ returns : tie.Need-returns
 unfolding path_of
 returns c =
     let s = c.before.before in
-    let e : length s.args.t1.at ≡ 16 = search rules in
-    let fits : s.args.t1.n ≤ length s.args.t1.at = omega arith in
-    c.wide.ensures.0 ∙ sym (last-take s.args.t1.at s.args.t1.n 0 0 s.requires.0 fits)
+    let e : length s.args.path.at ≡ 16 = search rules in
+    let fits : s.args.path.n ≤ length s.args.path.at = omega arith in
+    c.wide.ensures.0 ∙ sym (last-take s.args.path.at s.args.path.n 0 0 s.requires.0 fits)
 
-pub last-of-spec : {M : Type 1} → statement M
-last-of-spec = tie.close (tie.spec sub-last element-copy-out-wide wide-requires returns)
+pub last_of_spec : {M : Type 1} → statement M
+last_of_spec = tie.close (tie.spec sub-last element-copy-out-wide wide-requires returns)

@@ -13,19 +13,19 @@ use Rattle.listing.proofs.Levels.{further-short, places-stay, covered-stay}
 use Rattle.listing.proofs.list_further.Statement.{statement}
 use Rattle.listing.proofs.list_further.Tie as tie
 
-abbrev invariant-loop : tie.invariant-loop
+abbrev invariant-loop : tie.invariant-loop-j
 invariant-loop table widths runs₀ places l k found₀ j₀ runs found j =
     (j ≤ k) × Listed places runs₀ (further_by table widths (places_in runs₀ l places) j) found runs
 
-abbrev decreases-loop : tie.decreases-loop
+abbrev decreases-loop : tie.decreases-loop-j
 decreases-loop table widths runs₀ places l k found₀ j₀ runs found j = k - j
 
-loop-holds : tie.Need-loop-init invariant-loop decreases-loop
+loop-holds : tie.Need-loop-j-init invariant-loop decreases-loop
 unfolding further_by
 loop-holds c = (omega arith, rw each-nothing (listed-none _ _ (omega arith)))
 
 -- what is known at the loop
-module _ (c : tie.At-loop invariant-loop decreases-loop) where
+module _ (c : tie.At-loop-j invariant-loop decreases-loop) where
   abbrev start : tie.Start invariant-loop decreases-loop
   start = c.before.before.before.before
 
@@ -41,18 +41,18 @@ module _ (c : tie.At-loop invariant-loop decreases-loop) where
   abbrev places : List (List ℕ)
   places = places_in start.args.runs.now l start.args.places
 
-  are-short : T (all short (further_by table widths places c.loop.j))
+  are-short : T (all short (further_by table widths places c.loop-j.j))
   are-short =
-      let p = start.pre in
-      further-short table widths start.args.runs.now l start.args.places c.loop.j (omega arith)
+      let p = start.requires in
+      further-short table widths start.args.runs.now l start.args.places c.loop-j.j (omega arith)
 
   l-fits : l ≤ 16
-  l-fits = let p = start.pre in omega arith
+  l-fits = let p = start.requires in omega arith
 
-list-longer-requires : tie.Need-list-longer-requires invariant-loop decreases-loop
+list-longer-requires : tie.Need-list_longer-found-requires invariant-loop decreases-loop
 list-longer-requires c κs =
     let at = c.before.before in
-    let i = at.loop.invariant.1 in
+    let i = at.loop-j.invariant.1 in
     let p = (start at).requires in (
       listed-long i ∙ p.0,
       listed-from i p.1,
@@ -62,25 +62,25 @@ list-longer-requires c κs =
       covered-stay i (l at) (l-fits at) p.4,
     )
 
-loop-again : tie.Need-loop-preserved invariant-loop decreases-loop
+loop-again : tie.Need-loop-j-preserved invariant-loop decreases-loop
 unfolding further_by
 loop-again c =
-    let e = c.before.before.list-longer.ensures in
+    let e = c.list_longer-found.ensures in
     let at = c.before.before.before.before.before in (
       omega arith,
-      listed_next (λ j. longer_by (table at) (widths at) (places at) (j + 1)) at.loop.invariant.1 (are-short at)
-          (rw (← places-stay at.loop.invariant.1 (l at) (l-fits at)) (record { counted = e.0; filled = e.1 })),
+      listed_next (λ j. longer_by (table at) (widths at) (places at) (j + 1)) at.loop-j.invariant.1 (are-short at)
+          (rw (← places-stay at.loop-j.invariant.1 (l at) (l-fits at)) (record { counted = e.0; filled = e.1 })),
     )
 
 returns : tie.Need-returns invariant-loop decreases-loop
 returns c =
     let at = c.before in
-    let e : at.loop.j ≡ (start at).args.k = omega arith in
-    let r = rw e at at.loop.invariant.1 in
+    let e : at.loop-j.j ≡ (start at).args.k = omega arith in
+    let r = rw e at at.loop-j.invariant.1 in
     (r.counted, r.filled)
 
-pub list-further-spec : {M : Type 1} → statement M
-list-further-spec =
+pub list_further_spec : {M : Type 1} → statement M
+list_further_spec =
     tie.close
     (tie.spec
     invariant-loop
@@ -90,5 +90,5 @@ list-further-spec =
     list-longer-requires
     (λ c. omega arith)
     loop-again
-    (λ c. listed-long c.before.loop.invariant.1)
+    (λ c. listed-long c.loop-j.invariant.1)
     returns)

@@ -18,19 +18,19 @@ use Rattle.listing.specs.Listed.{path_of}
 use Rattle.listing.proofs.uses.Statement.{statement}
 use Rattle.listing.proofs.uses.Tie as tie
 
-abbrev invariant-loop : tie.invariant-loop
+abbrev invariant-loop : tie.invariant-loop-i
 invariant-loop segment path i₀ i =
     has segment (map segment_of (path_of path)) ≡ any (λ d. eqb segment (segment_of d)) (slice i path.n path.at)
 
-abbrev decreases-loop : tie.decreases-loop
+abbrev decreases-loop : tie.decreases-loop-i
 decreases-loop segment path i₀ i = path.n - i
 
-loop-holds : tie.Need-loop-init invariant-loop decreases-loop
+loop-holds : tie.Need-loop-i-init invariant-loop decreases-loop
 unfolding has path_of
 loop-holds c = any-map _ _ _
 
-room : (c : tie.Start invariant-loop decreases-loop) → c.args.t1.n ≤ length c.args.t1.at
-room c = let e : length c.args.t1.at ≡ 16 = search rules in omega arith
+room : (c : tie.Start invariant-loop decreases-loop) → c.args.path.n ≤ length c.args.path.at
+room c = let e : length c.args.path.at ≡ 16 = search rules in omega arith
 
 -- a turn: the segment of this element, or those behind it
 module _ (c : tie.After-wide invariant-loop decreases-loop) where
@@ -38,18 +38,18 @@ module _ (c : tie.After-wide invariant-loop decreases-loop) where
   given = c.before.before.before.before
 
   abbrev behind : ℕ → Bool
-  behind i = any (λ d. eqb given.args.segment (segment_of d)) (slice i given.args.t1.n given.args.t1.at)
+  behind i = any (λ d. eqb given.args.segment (segment_of d)) (slice i given.args.path.n given.args.path.at)
 
-  turn : has given.args.segment (map segment_of (path_of given.args.t1))
-      ≡ (eqb given.args.segment (c.wide.result / 2) || behind (c.before.before.before.loop.i + 1))
+  turn : has given.args.segment (map segment_of (path_of given.args.path))
+      ≡ (eqb given.args.segment (c.wide.result / 2) || behind (c.loop-i.i + 1))
   unfolding segment_of
   turn =
-      c.before.before.before.loop.invariant
-      ∙ any_next _ _ _ 0 c.before.before.loop-test.true (room given) _
+      c.loop-i.invariant
+      ∙ any_next _ _ _ 0 c.loop-i-test.true (room given) _
       ∙ simp c.wide.ensures.0
 
-pub uses-spec : {M : Type 1} → statement M
-uses-spec =
+pub uses_spec : {M : Type 1} → statement M
+uses_spec =
     tie.close
     (tie.spec
     invariant-loop
@@ -57,8 +57,8 @@ uses-spec =
     loop-holds
     (λ c. omega arith)
     (λ c κs. search rules)
-    (λ c. let h = eq-eqb _ _ c.if1.true in sym (turn c.before ∙ simp h))
+    (λ c. let h = eq-eqb _ _ c.if-segment-wide.true in sym (turn c.before ∙ simp h))
     (λ c. omega arith)
     (λ c. omega arith)
-    (λ c. let h = ne_eqb _ _ c.if1.false in turn c.before ∙ simp h)
-    (λ c. sym (c.before.loop.invariant ∙ any-end _ _ _ c.loop-test.false _)))
+    (λ c. let h = ne_eqb _ _ c.if-segment-wide.false in turn c.before ∙ simp h)
+    (λ c. sym (c.loop-i.invariant ∙ any-end _ _ _ c.loop-i-test.false _)))

@@ -17,7 +17,7 @@ use Rattle.spec.specs.Held.{held, held_cap}
 use Rattle.demands.proofs.Words.{formula-in-range}
 use Rattle.demands.proofs.Wellformed.{sound, sound-under}
 use Rattle.tables.specs.Tables.{Passed}
-use Rattle.refutation_steps.specs.declared.one_step_lem.Extent.{Extent}
+use Rattle.refutation_steps.specs.declared.one_step.Extent.{Extent}
 use Rattle.refutations.specs.Lent.{lengths}
 use Rattle.refutations.specs.Standing.{has_room, Stands}
 use Rattle.refutations.proofs.Lengths.{Room, short, checked}
@@ -26,12 +26,12 @@ use Rattle.refutations.proofs.check_loaded.Statement.{statement}
 use Rattle.refutations.proofs.check_loaded.Tie as tie
 
 -- what is known from the start
-module _ (v : tie.After-variable-count) where
+module _ (v : tie.After-variable_count-variables) where
   abbrev start : tie.Start
   start = v.before.before.before.before.before
 
   passed : Passed start.args.b
-  passed = start.pre.0.passed
+  passed = start.requires.0.passed
 
   abbrev I : Instance
   I = under (held_cap start.args.cap) (instance_of (held start.args.b))
@@ -39,53 +39,53 @@ module _ (v : tie.After-variable-count) where
   abbrev filled : Extent
   filled = start.args.formula
 
-  word_count : filled.words ≡ length (words_of (formula I))
-  word_count = ap (λ (f : Extent). f.words) start.pre.1
+  word_count : filled.words-1 ≡ length (words_of (formula I))
+  word_count = ap (λ (f : Extent). f.words-1) start.requires.1
 
   clause-count : filled.clauses ≡ length (formula I)
-  clause-count = ap (λ (f : Extent). f.clauses) start.pre.1
+  clause-count = ap (λ (f : Extent). f.clauses) start.requires.1
 
   abbrev lent : Lent
   lent =
       let a = start.args in
-      lengths a.words.now a.starts.now a.values.now a.trail.now
+      lengths a.words-1.now a.starts-1.now a.values-1.now a.trail-1.now
 
   -- the variables: how many, that they are few, and that the formula's literals are of them
   abbrev vars : ℕ
-  vars = v.variable-count.result
+  vars = v.variable_count-variables.result
 
   variable-count : vars ≡ variables I
-  variable-count = v.variable-count.ensures.0
+  variable-count = v.variable_count-variables.ensures.0
 
   few : vars < 2147483648
-  few = omega (arith, v.variable-count.ensures.1)
+  few = omega (arith, v.variable_count-variables.ensures.1)
 
   ranged : T (in_range vars (formula I))
   ranged =
       subst (λ (n : ℕ). T (in_range n (formula I))) (sym variable-count)
       (formula-in-range I (sound-under (held_cap start.args.cap) (sound (held start.args.b) passed.formed)))
 
-returns : tie.Need-returns
+returns : tie.Need-returns-then-words-formula
 returns c =
     let v = c.before.before in
     short (I v) _ (lent v) λ r.
-    elim c.if1.branch [
-      | inl x ↦ omega (arith, r.words, x.taken, word_count v)
-      | inr x ↦ omega (arith, r.clauses, ltb-true (lent v).clauses (filled v).clauses x.2.taken, clause-count v)
+    elim c.if-words-formula.branch [
+      | inl x ↦ omega (arith, r.words-1, x.true, word_count v)
+      | inr x ↦ omega (arith, r.clauses, ltb-true (lent v).clauses (filled v).clauses x.2.true, clause-count v)
     ]
 
-returns-2 : tie.Need-returns-2
+returns-2 : tie.Need-returns-then-values-variables
 returns-2 c =
     let v = c.before.before.before.before.before in
     short (I v) _ (lent v) λ r.
-    elim c.if3.branch [
-      | inl x ↦ omega (arith, r.values, x.taken, variable-count v)
-      | inr x ↦ omega (arith, r.trail, ltb-true (lent v).trail (vars v) x.1.taken, variable-count v)
+    elim c.if-values-variables.branch [
+      | inl x ↦ omega (arith, r.values-1, x.true, variable-count v)
+      | inr x ↦ omega (arith, r.trail-1, ltb-true (lent v).trail-1 (vars v) x.1.true, variable-count v)
     ]
 
 -- what holds once the bytes of the variables are zeroed
-module _ (k : tie.After-clear-bytes) where
-  abbrev known : tie.After-variable-count
+module _ (k : tie.After-clear_bytes) where
+  abbrev known : tie.After-variable_count-variables
   known = k.before.before.before.before.before.before.before.before
 
   -- the four tests
@@ -95,50 +95,50 @@ module _ (k : tie.After-clear-bytes) where
       let third = fourth.before in
       let second = third.before in
       let first = second.before.before in
-      let clauses = ltb-false (lent known).clauses (filled known).clauses second.if2.left in
-      let trail = ltb-false (lent known).trail (vars known) fourth.if4.left in
+      let clauses = ltb-false (lent known).clauses (filled known).clauses second.if-starts-formula.false in
+      let trail = ltb-false (lent known).trail-1 (vars known) fourth.if-trail-variables.false in
       record {
-        words = omega (arith, first.if1.left, word_count known);
+        words = omega (arith, first.if-words-formula.false, word_count known);
         clauses = omega (arith, clauses, clause-count known);
-        values = omega (arith, third.if3.left, variable-count known);
+        values = omega (arith, third.if-values-variables.false, variable-count known);
         trail = omega (arith, trail, variable-count known);
       }
 
   -- the words in front are the formula's, and say its clauses; where each begins stands in front too
   stands : Stands (I known) (start known).args.words.now (start known).args.starts.now
-  stands = (start known).pre.2
+  stands = (start known).requires.2
 
   loaded : T (has_room (I known) (start known).args.words.now (start known).args.starts.now)
-  loaded = (room-iff (I known) (start known).args.words.now (start known).args.starts.now).1 (room.words, room.clauses)
+  loaded = (room-iff (I known) (start known).args.words.now (start known).args.starts.now).1 (room.words-1, room.clauses)
 
-  are-said : clauses_of (take (filled known).words (start known).args.words.now) ≡ formula (I known)
+  are-said : clauses_of (take (filled known).words-1 (start known).args.words.now) ≡ formula (I known)
   are-said = said _ _ (ranged known) (ap (λ (n : ℕ). take n (start known).args.words.now) (word_count known) ∙ stands.front loaded)
 
   -- as many bytes are handed on as there are variables
   abbrev values : List ℕ
-  values = k.clear-bytes.last.0
+  values = k.clear_bytes.last.0
 
   handed : length (take (vars known) values) ≡ vars known
-  handed = length-take-le _ values (omega (arith, room.values, variable-count known, k.clear-bytes.kept.0))
+  handed = length-take-le _ values (omega (arith, room.values-1, variable-count known, k.clear_bytes.kept.0))
 
-check-steps-requires : tie.Need-check-steps-requires
+check-steps-requires : tie.Need-check_steps-requires
 check-steps-requires c κs =
     let k = c.before.before.before.before.before.before in
     let v = known k in
     let r = room k in
     ready (vars v) (formula (I v)) (ranged v) (start v).args.words.now (start v).args.starts.now _ (word_count v) (clause-count v)
-    ((stands k).front (loaded k)) ((stands k).begins (loaded k)) r.words r.clauses k.clear-bytes.ensures
-    (omega (arith, r.values, variable-count v)) (omega (arith, r.trail, variable-count v)) (few v)
+    ((stands k).front (loaded k)) ((stands k).begins (loaded k)) r.words-1 r.clauses k.clear_bytes.ensures
+    (omega (arith, r.values-1, variable-count v)) (omega (arith, r.trail-1, variable-count v)) (few v)
 
-returns-3 : tie.Need-returns-3
+returns-3 : tie.Need-returns
 returns-3 c =
     let d = c.before.before.before.before.before.before.before in
     let k = d.before.before.before.before.before.before.before in
     let v = known k in
-    checked (I v) _ (lent v) (room k) refl refl (handed k ∙ variable-count v) (are-said k) d.check-steps.ensures.0
+    checked (I v) _ (lent v) (room k) refl refl (handed k ∙ variable-count v) (are-said k) d.check_steps.ensures.0
 
-pub check-loaded-spec : {M : Type 1} → statement M
-check-loaded-spec =
+pub check_loaded_spec : {M : Type 1} → statement M
+check_loaded_spec =
     tie.close
     (tie.spec
     (λ c κs. search rules)

@@ -13,17 +13,17 @@ returns c =
     let values = trail.before.before.before.before in
     let starts = values.before.before.before.before in
     let words = starts.before.before.before in
-    let r = words.before.before.before.before.before.before.before.before.before.refute in
+    let r = words.refute-answer in
     let k = r.auto.1.1.1 in (
       r.ensures,
-      (words.clear-words.ensures ∙ ap (zeroed (pos 0)) k.0),
-      (starts.clear-numbers.ensures ∙ ap (zeroed 0) k.1.0),
-      (values.clear-bytes.ensures ∙ ap (zeroed 0) k.1.1.0),
-      (trail.clear-numbers2.ensures ∙ ap (zeroed 0) k.1.1.1.0),
+      (words.clear_words.ensures ∙ ap (zeroed (pos 0)) k.0),
+      (starts.clear_numbers.ensures ∙ ap (zeroed 0) k.1.0),
+      (values.clear_bytes.ensures ∙ ap (zeroed 0) k.1.1.0),
+      (trail.clear_numbers-2.ensures ∙ ap (zeroed 0) k.1.1.1.0),
     )
 
-pub check-refutation-spec : {M : Type 1} → statement M
-check-refutation-spec =
+pub check_refutation_spec : {M : Type 1} → statement M
+check_refutation_spec =
     tie.close
     (tie.spec
     (λ c κs. search rules)

@@ -21,7 +21,7 @@ use Rattle.tables.specs.Tables.{Passed}
 use Rattle.tables.proofs.MeetTables.{take-sets}
 use Rattle.formula.proofs.Totals.{nothing-ahead, walks_from, walk-words, walk-clauses, is-small}
 use Rattle.propagation.specs.Kept.{starts_from}
-use Rattle.refutation_steps.specs.declared.one_step_lem.Extent.{Extent}
+use Rattle.refutation_steps.specs.declared.one_step.Extent.{Extent}
 use Rattle.refutations.specs.Standing.{extent_of}
 use Rattle.refutations.proofs.Loaded.{words-written, room, no_room, said, closed}
 use Rattle.refutations.proofs.load_formula.Statement.{statement}
@@ -31,90 +31,90 @@ abbrev extent_by : ℕ → ℕ → Extent
 extent_by words clauses = record { words = words; clauses = clauses }
 
 -- what holds once the formula is measured
-module _ (m : tie.After-walk-formula) where
+module _ (m : tie.After-walk_formula-measured) where
   abbrev start : tie.Start
   start = m.before.before.before.before.before.before.before
 
   passed : Passed start.args.b
-  passed = start.pre.0.counted.passed
+  passed = start.requires.0.counted.passed
 
   abbrev I : Instance
   I = under (held_cap start.args.cap) (instance_of (held start.args.b))
 
   -- nothing was written
-  unwritten : m.walk-formula.last.1.1.1.1.1.1.1.0 ++ start.args.words.now ≡ start.args.words.now
-  unwritten = nothing-ahead m.walk-formula.ensures refl start.args.words.now
+  unwritten : m.walk_formula-measured.last.1.1.1.1.1.1.1.0 ++ start.args.words.now ≡ start.args.words.now
+  unwritten = nothing-ahead m.walk_formula-measured.ensures refl start.args.words.now
 
   -- the totals
-  word_count : m.walk-formula.result.words ≡ length (words_of (formula I))
-  word_count = walk-words start.args.b passed (held_cap start.args.cap) m.walk-formula.ensures
+  word_count : m.walk_formula-measured.result.words-1 ≡ length (words_of (formula I))
+  word_count = walk-words start.args.b passed (held_cap start.args.cap) m.walk_formula-measured.ensures
 
-  clause-count : m.walk-formula.result.clauses ≡ length (formula I)
-  clause-count = walk-clauses start.args.b passed (held_cap start.args.cap) m.walk-formula.ensures
+  clause-count : m.walk_formula-measured.result.clauses ≡ length (formula I)
+  clause-count = walk-clauses start.args.b passed (held_cap start.args.cap) m.walk_formula-measured.ensures
 
-  extent : extent_by m.walk-formula.result.words m.walk-formula.result.clauses ≡ extent_of I
+  extent : extent_by m.walk_formula-measured.result.words-1 m.walk_formula-measured.result.clauses ≡ extent_of I
   extent = ap₂ extent_by word_count clause-count
 
   -- the formula's literals are of its variables
   ranged : T (in_range (variables I) (formula I))
   ranged = formula-in-range I (sound-under (held_cap start.args.cap) (sound (held start.args.b) passed.formed))
 
-returns : tie.Need-returns
+returns : tie.Need-returns-then-words-measured
 returns c =
     let m = c.before.before.before in
-    let r = m.walk-formula.result in
+    let r = m.walk_formula-measured.result in
     let old = (start m).args in
     let none = no_room (I m) old.words.now old.starts.now (λ fits.
-    elim c.if1.branch [
-      | inl x ↦ omega (arith, fits.0, x.taken, word_count m, ap length (unwritten m))
-      | inr x ↦ omega (arith, fits.1, clause-count m, ltb-true (length old.starts.now) r.clauses x.2.taken)
+    elim c.if-words-measured.branch [
+      | inl x ↦ omega (arith, fits.0, x.true, word_count m, ap length (unwritten m))
+      | inr x ↦ omega (arith, fits.1, clause-count m, ltb-true (length old.starts.now) r.clauses x.2.true)
     ]) in
     (extent m, unwritten m ∙ sym none.0, sym none.1)
 
 -- what holds once it is written
-module _ (w : tie.After-walk-formula2) where
-  abbrev measured : tie.After-walk-formula
+module _ (w : tie.After-walk_formula) where
+  abbrev measured : tie.After-walk_formula-measured
   measured = w.before.before.before.before.before.before.before
 
   abbrev words : List ℤ
-  words = w.walk-formula2.last.1.1.1.1.1.1.1.0
+  words = w.walk_formula.last.1.1.1.1.1.1.1.0
 
   -- the two tests
   words-fit : length (words_of (formula (I measured))) ≤ length (start measured).args.words.now
   words-fit =
       let first = w.before.before.before.before in
-      omega (arith, first.if1.left, word_count measured, ap length (unwritten measured))
+      omega (arith, first.if-words-measured.false, word_count measured, ap length (unwritten measured))
 
   clauses-fit : length (formula (I measured)) ≤ length (start measured).args.starts.now
   clauses-fit =
       let second = w.before.before in
       let clauses = length (start measured).args.starts.now in
-      omega (arith, ltb-false clauses measured.walk-formula.result.clauses second.if2.left, clause-count measured)
+      omega (arith, ltb-false clauses measured.walk_formula-measured.result.clauses second.if-starts-measured.false, clause-count measured)
 
   -- the slice is as long as it was
   same_size : length words ≡ length (start measured).args.words.now
-  same_size = w.walk-formula2.kept.1.1.1.1.1.1.1.0 ∙ ap length (unwritten measured)
+  same_size = w.walk_formula.kept.1.1.1.1.1.1.1.0 ∙ ap length (unwritten measured)
 
   -- the formula's words were written
   were-written : words ≡ sets (start measured).args.words.now 0 (words_of (formula (I measured)))
   were-written =
-      words-written (formula (I measured)) _ (is-small _ (passed measured) (held_cap (start measured).args.cap)) (walks_from (unwritten measured) w.walk-formula2.ensures)
+      words-written (formula (I measured)) _ (is-small _ (passed measured) (held_cap (start measured).args.cap)) (walks_from (unwritten measured) w.walk_formula.ensures)
 
   -- they are in front
-  in-front : take measured.walk-formula.result.words words ≡ words_of (formula (I measured))
+  in-front : take measured.walk_formula-measured.result.words-1 words ≡ words_of (formula (I measured))
   in-front =
       ap₂ take (word_count measured) were-written ∙ take-sets (start measured).args.words.now (words_of (formula (I measured))) words-fit
 
   -- and say its clauses
-  are-said : clauses_of (take measured.walk-formula.result.words words) ≡ formula (I measured)
+  are-said : clauses_of (take measured.walk_formula-measured.result.words-1 words) ≡ formula (I measured)
   are-said = said _ _ (ranged measured) in-front
 
-index-clauses-requires : tie.Need-index-clauses-requires
+index-clauses-requires : tie.Need-index_clauses-requires
 index-clauses-requires c κs =
     let w = c.before.before.before in
     (closed _ _ (ranged (measured w)) (in-front w), omega (arith, clauses-fit w, ap length (are-said w)))
 
-returns-2 : tie.Need-returns-2
+returns-2 : tie.Need-returns
 returns-2 c =
     let i = c.before.before in
     let w = i.before.before.before.before in
@@ -123,11 +123,11 @@ returns-2 c =
     let there = room (I m) old.words.now old.starts.now (words-fit w, clauses-fit w) in (
       extent m,
       were-written w ∙ sym there.0,
-      i.index-clauses.ensures ∙ ap (λ (cs : List Clause). sets old.starts.now 0 (starts_from 0 cs)) (are-said w) ∙ sym there.1,
+      i.index_clauses.ensures ∙ ap (λ (cs : List Clause). sets old.starts.now 0 (starts_from 0 cs)) (are-said w) ∙ sym there.1,
     )
 
-pub load-formula-spec : {M : Type 1} → statement M
-load-formula-spec =
+pub load_formula_spec : {M : Type 1} → statement M
+load_formula_spec =
     tie.close
     (tie.spec
     (λ c. search rules)

@@ -18,7 +18,7 @@ use Rattle.refutations.proofs.refute.Statement.{statement}
 use Rattle.refutations.proofs.refute.Tie as tie
 
 -- the answer to the book's bytes
-module _ (c : tie.After-prepare-chains) where
+module _ (c : tie.After-prepare_chains-p) where
   abbrev start : tie.Start
   start = c.before.before.before.before.before.before.before.before.before
 
@@ -29,49 +29,49 @@ module _ (c : tie.After-prepare-chains) where
   abbrev onward : Instance → Verdict (Unit {0})
   onward I =
       let a = start.args in
-      refuted_for I a.r.now (lengths a.words.now a.starts.now a.values.now a.trail.now)
+      refuted_for I a.r.now (lengths a.words-1.now a.starts-1.now a.values-1.now a.trail-1.now)
 
 -- the book is accepted
-module _ (c : tie.After-enum-told) where
-  abbrev prepared : tie.After-prepare-chains
+module _ (c : tie.In-Accepted) where
+  abbrev prepared : tie.After-prepare_chains-p
   prepared = c.before.before.before.before.before.before.before.before
 
-  ready : TablesReady prepared.prepare-chains.result prepared.prepare-chains.last.1.0 prepared.prepare-chains.last.1.1.1.0
-  ready = prepared.prepare-chains.ensures.1 c.enum_told.given.1
+  ready : TablesReady prepared.prepare_chains-p.result prepared.prepare_chains-p.last.1.0 prepared.prepare_chains-p.last.1.1.1.0
+  ready = prepared.prepare_chains-p.ensures.1 c.in-Accepted.is
 
-load-formula-requires : tie.Need-load-formula-requires
+load-formula-requires : tie.Need-load_formula-formula-requires
 load-formula-requires c κs =
     let a = c.before.before.before.before.before in
-    ((ready a).0, (prepared a).prepare-chains.ensures.2 a.enum_told.given.1, (ready a).2)
+    ((ready a).0, (prepared a).prepare_chains-p.ensures.2 a.in-Accepted.is, (ready a).2)
 
 -- the formula stands in the slices
-module _ (l : tie.After-load-formula) where
-  abbrev told : tie.After-enum-told
+module _ (l : tie.After-load_formula-formula) where
+  abbrev told : tie.In-Accepted
   told = l.before.before.before.before.before.before
 
-returns : tie.Need-returns
+returns : tie.Need-returns-in-Refused
 unfolding check_refutation
 returns c =
     let r = c.before.before.before.before.before.before.before.before.before in
-    ap answer_of (sym (stopped-under _ _ r.prepare-chains.ensures.0 (cap r) (onward r) c.before.answer.given.1))
+    ap answer_of (sym (stopped-under _ _ r.prepare_chains-p.ensures.0 (cap r) (onward r) c.answer-1.given.1))
 
-returns-2 : tie.Need-returns-2
+returns-2 : tie.Need-returns-in-Accepted
 unfolding check_refutation
 returns-2 c =
     let d = c.before.before.before.before.before.before.before in
     let l = d.before.before.before.before.before.before.before.before in
     let r = prepared (told l) in
     let a = (start r).args in
-    d.check-loaded.ensures
+    d.check_loaded.ensures
     ∙ ap₂
     (λ (m n : ℕ).
     answer_of
-    (refuted_for (under (cap r) (instance_of (held (prepared (told l)).prepare-chains.result.read.book))) a.r.now (record { words = m; clauses = n; values = length a.values.now; trail = length a.trail.now })))
-    l.load-formula.auto.1.1.1.1.1.1.0 l.load-formula.auto.1.1.1.1.1.1.1.0
-    ∙ ap answer_of (went-under _ _ r.prepare-chains.ensures.0 (told l).enum_told.given.1 (cap r) (onward r))
+    (refuted_for (under (cap r) (instance_of (held (prepared (told l)).prepare_chains-p.result.read-1.book))) a.r.now (record { words = m; clauses = n; values = length a.values-1.now; trail = length a.trail-1.now })))
+    l.load_formula-formula.auto.1.1.1.1.1.1.0 l.load_formula-formula.auto.1.1.1.1.1.1.1.0
+    ∙ ap answer_of (went-under _ _ r.prepare_chains-p.ensures.0 (told l).in-Accepted.is (cap r) (onward r))
 
-pub refute-spec : {M : Type 1} → statement M
-refute-spec =
+pub refute_spec : {M : Type 1} → statement M
+refute_spec =
     tie.close
     (tie.spec
     (λ c. sym runs-long)
@@ -88,7 +88,7 @@ refute-spec =
     (λ c κs.
     let l = c.before.before.before.before.before.before.before in
     let old = (start (prepared (told l))).args in
-    let e = l.load-formula.ensures in
+    let e = l.load_formula-formula.ensures in
     ((ready (told l)).0.counted, e.0, loaded-stands _ old.words.now old.starts.now e.1 e.2))
     returns
     (λ c. search rules)

@@ -17,68 +17,68 @@ use Rattle.reader.proofs.Whole.{whole_room}
 use Rattle.upgrading.proofs.put_frames.Statement.{statement}
 use Rattle.upgrading.proofs.put_frames.Tie as tie
 
-abbrev invariant-loop : tie.invariant-loop
+abbrev invariant-loop : tie.invariant-loop-at
 invariant-loop old new₀ at₀ to₀ new at to = Rewriting old new₀ at to new
 
-abbrev decreases-loop : tie.decreases-loop
+abbrev decreases-loop : tie.decreases-loop-at
 decreases-loop old new₀ at₀ to₀ new at to = length old - at
 
 -- every element is a byte
-old-bytes : (c : tie.After-shared-slice-known invariant-loop decreases-loop) → T (bytes c.before.args.old.now)
-old-bytes c = bytes_of c.before.args.old.now (λ i. omega (arith, c.shared-slice-known.given i))
+old-bytes : (c : tie.After-shared_slice_known-1 invariant-loop decreases-loop) → T (bytes c.args.old.now)
+old-bytes c = bytes_of c.args.old.now (λ i. omega (arith, c.shared_slice_known-1.given i))
 
-loop-holds : tie.Need-loop-init invariant-loop decreases-loop
+loop-holds : tie.Need-loop-at-init invariant-loop decreases-loop
 loop-holds c =
     let start = c.before.before in
     rewriting-none _ _ (upgraded-frames _ _ (old-bytes c.before) start.requires.0.1).0
 
 -- no frame is cut short
-module _ (c : tie.After-enum-told invariant-loop decreases-loop) where
+module _ (c : tie.In-Cut invariant-loop decreases-loop) where
   never : {A : Type 0} → A
   never =
-      let cut = sym c.before.before.frame_at.ensures.0 ∙ c.enum_told.given.1 in
-      never-cut c.before.before.before.before.loop.invariant (omega arith) cut
+      let cut = sym c.frame_at.ensures.0 ∙ c.in-Cut.is in
+      never-cut c.loop-at.invariant (omega arith) cut
 
 -- a whole frame
-module _ (c : tie.After-known-told invariant-loop decreases-loop) where
-  abbrev looped : tie.At-loop invariant-loop decreases-loop
+module _ (c : tie.In-Whole invariant-loop decreases-loop) where
+  abbrev looped : tie.At-loop-at invariant-loop decreases-loop
   looped = c.before.before.before.before.before
 
   abbrev start : tie.Start invariant-loop decreases-loop
   start = looped.before.before.before
 
-  inside : looped.loop.at < length start.args.old.now
+  inside : looped.loop-at.at < length start.args.old.now
   inside = omega arith
 
-  whole : framed_at (drop looped.loop.at start.args.old.now) ≡ Whole c.before.kind.given.0.0 c.before.kind.given.0.1.0
-  whole = sym c.before.before.before.frame_at.ensures.0 ∙ c.before.kind.given.1
+  whole : framed_at (drop looped.loop-at.at start.args.old.now) ≡ Whole c.kind-1.given.0.0 c.kind-1.given.0.1.0
+  whole = sym c.frame_at.ensures.0 ∙ c.kind-1.given.1
 
-  within : looped.loop.at + (4 + c.before.kind.given.0.1.0) ≤ length start.args.old.now
-  within = whole_room start.args.old.now looped.loop.at _ _ looped.loop.inv.inside whole
+  within : looped.loop-at.at + (4 + c.kind-1.given.0.1.0) ≤ length start.args.old.now
+  within = whole_room start.args.old.now looped.loop-at.at _ _ looped.loop-at.invariant.inside whole
 
-put-frame-requires : tie.Need-put-frame-requires invariant-loop decreases-loop
+put-frame-requires : tie.Need-put_frame-to-requires invariant-loop decreases-loop
 put-frame-requires c κs =
     let t = c.before.before in
-    let r = (looped t).loop.invariant in (
+    let r = (looped t).loop-at.invariant in (
       kind-small r (inside t) (whole t) (old-bytes (looped t).before.before),
       has-times r (inside t) (whole t),
       room-here r (inside t) (whole t) (start t).requires.1,
     )
 
-loop-again : tie.Need-loop-preserved invariant-loop decreases-loop
+loop-again : tie.Need-loop-at-preserved invariant-loop decreases-loop
 loop-again c =
     let t = c.before.before.before.before.before in
-    let p = c.before.before.put-frame in
-    rewriting-next (looped t).loop.invariant (inside t) (whole t) p.ensures.0 p.ensures.1
+    let p = c.put_frame-to in
+    rewriting-next (looped t).loop-at.invariant (inside t) (whole t) p.ensures.0 p.ensures.1
 
-pub put-frames-spec : {M : Type 1} → statement M
-put-frames-spec =
+pub put_frames_spec : {M : Type 1} → statement M
+put_frames_spec =
     tie.close
     (tie.spec
     invariant-loop
     decreases-loop
     loop-holds
-    (λ c κs. c.before.loop.invariant.inside)
+    (λ c κs. c.loop-at.invariant.inside)
     (λ c. search rules)
     (λ c. never c)
     (λ c. never c)
@@ -91,5 +91,5 @@ put-frames-spec =
     put-frame-requires
     (λ c. omega (arith, within c.before.before.before.before.before))
     loop-again
-    (λ c. stored-length c.before.loop.invariant.bytes-there)
-    (λ c. rewriting-all c.before.loop.invariant (omega arith)))
+    (λ c. stored-length c.loop-at.invariant.bytes-there)
+    (λ c. rewriting-all c.loop-at.invariant (omega arith)))

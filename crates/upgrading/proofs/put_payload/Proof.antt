@@ -16,10 +16,10 @@ use Rattle.laws.proofs.Stores.{Stored, stored-none, stored, stored-behind, store
 use Rattle.upgrading.proofs.put_payload.Statement.{statement}
 use Rattle.upgrading.proofs.put_payload.Tie as tie
 
-abbrev invariant-loop : tie.invariant-loop
+abbrev invariant-loop : tie.invariant-loop-i
 invariant-loop p new₀ to first n end₀ i₀ new end i = (i ≤ n) × Stored new₀ end₀ (times_widened p first i) new end
 
-abbrev decreases-loop : tie.decreases-loop
+abbrev decreases-loop : tie.decreases-loop-i
 decreases-loop p new₀ to first n end₀ i₀ new end i = n - i
 
 -- no time yet
@@ -32,60 +32,60 @@ ahead : (s : tie.Start invariant-loop decreases-loop) → length (take s.args.ti
 ahead s = length-take-le _ s.args.p.now (omega (arith, s.requires.0))
 
 -- it is stored
-module _ (c : tie.After-put-bytes invariant-loop decreases-loop) where
+module _ (c : tie.After-put_bytes-end invariant-loop decreases-loop) where
   abbrev given : tie.Start invariant-loop decreases-loop
   given = c.before.before.before.before.before
 
   abbrev payload : Bytes
   payload = given.args.p.now
 
-  opened : Stored given.args.new.now given.args.to (take given.args.times.at payload) c.put-bytes.new.0 c.put-bytes.result
-  opened = stored _ _ _ c.put-bytes.ensures.0 c.put-bytes.ensures.1
+  opened : Stored given.args.new.now given.args.to (take given.args.times.at payload) c.put_bytes-end.new-1.0 c.put_bytes-end.result
+  opened = stored _ _ _ c.put_bytes-end.ensures.0 c.put_bytes-end.ensures.1
 
 -- and some of the times behind it
-module _ (l : tie.At-loop invariant-loop decreases-loop) where
-  abbrev first : tie.After-put-bytes invariant-loop decreases-loop
+module _ (l : tie.At-loop-i invariant-loop decreases-loop) where
+  abbrev first : tie.After-put_bytes-end invariant-loop decreases-loop
   first = l.before.before.before
 
-  ends : l.loop.end ≡ (given first).args.to + (given first).args.times.at + l.loop.i * 2
+  ends : l.loop-i.end ≡ (given first).args.to + (given first).args.times.at + l.loop-i.i * 2
   ends =
       let t = (given first).args.times.at in
-      omega (arith, l.loop.inv.1.ends, length-times (payload first) t l.loop.i, first.put-bytes.ensures.0, ahead (given first))
+      omega (arith, l.loop-i.invariant.1.ends, length-times (payload first) t l.loop-i.i, first.put_bytes-end.ensures.0, ahead (given first))
 
-  long : length l.loop.new ≡ length (given first).args.new.now
-  long = stored-length l.loop.inv.1 ∙ stored-length (opened first)
+  long : length l.loop-i.new-1 ≡ length (given first).args.new.now
+  long = stored-length l.loop-i.invariant.1 ∙ stored-length (opened first)
 
-  room : (given first).args.to + (length (payload first) + (given first).args.times.count) ≤ length l.loop.new
-  room = omega (arith, long, (given first).pre.1)
+  room : (given first).args.to + (length (payload first) + (given first).args.times.count) ≤ length l.loop-i.new-1
+  room = omega (arith, long, (given first).requires.1)
 
-put-pair-requires : tie.Need-put-pair-requires invariant-loop decreases-loop
+put-pair-requires : tie.Need-put_pair-requires invariant-loop decreases-loop
 put-pair-requires c κs =
     let l = c.before.before.before in
-    (omega (arith, ends l, room l, (given (first l)).pre.0), c.time.ensures.1)
+    (omega (arith, ends l, room l, (given (first l)).requires.0), c.time.ensures.1)
 
-add-end : tie.Need-overflow-add-end invariant-loop decreases-loop
+add-end : tie.Need-overflow_add-end invariant-loop decreases-loop
 add-end c =
     let l = c.before.before.before.before.before.before in
-    omega (arith, ends l, room l, (given (first l)).pre.0)
+    omega (arith, ends l, room l, (given (first l)).requires.0)
 
-loop-again : tie.Need-loop-preserved invariant-loop decreases-loop
+loop-again : tie.Need-loop-i-preserved invariant-loop decreases-loop
 loop-again c =
     let t = c.before.before.before in
     let l = t.before.before.before in
     let p = payload (first l) in
     let at = (given (first l)).args.times.at in
-    let i = l.loop.i in
+    let i = l.loop-i.i in
     let e : t.time.result ≡ field p (at + i * 1) 1 = t.time.ensures.0 ∙ ap (λ (k : ℕ). field p k 1) (omega arith) in
-    let next = stored l.loop.new l.loop.end (little_endian 2 t.time.result) (ap (λ (k : ℕ). l.loop.end + k) (sym (length-little_endian 2 _)))
-    c.before.before.put-pair.ensures in (
+    let next = stored l.loop-i.new-1 l.loop-i.end (little_endian 2 t.time.result) (ap (λ (k : ℕ). l.loop-i.end + k) (sym (length-little_endian 2 _)))
+    c.put_pair.ensures in (
       omega arith,
-      stored_same (stored-behind l.loop.invariant.1 next)
+      stored_same (stored-behind l.loop-i.invariant.1 next)
           (ap (λ (k : ℕ). times_widened p at i ++ little_endian 2 k) e ∙ sym (times_more p at i) ∙ ap (times_widened p at) (sym (add-one i))),
     )
 
 -- behind the last time: what stands behind the times in the old payload
 module _ (c : tie.After-put-bytes-arg4 invariant-loop decreases-loop) where
-  abbrev done : tie.At-loop invariant-loop decreases-loop
+  abbrev done : tie.At-loop-i invariant-loop decreases-loop
   done = c.before.before.before
 
   abbrev behind : ℕ
@@ -100,12 +100,12 @@ module _ (c : tie.After-put-bytes-arg4 invariant-loop decreases-loop) where
   length_rest : length rest ≡ length (payload (first done)) - behind
   length_rest = ap length rest-is ∙ length-drop behind (payload (first done))
 
-put-bytes-requires-2 : tie.Need-put-bytes-requires-2 invariant-loop decreases-loop
-put-bytes-requires-2 c κs = omega (arith, length_rest c, ends (done c), room (done c), (given (first (done c))).pre.0, (given (first (done c))).fits.to)
+put-bytes-requires-2 : tie.Need-put_bytes-requires invariant-loop decreases-loop
+put-bytes-requires-2 c κs = omega (arith, length_rest c, ends (done c), room (done c), (given (first (done c))).requires.0, (given (first (done c))).fits.to)
 
 -- the whole payload
-module _ (c : tie.After-put-bytes2 invariant-loop decreases-loop) where
-  abbrev looped : tie.At-loop invariant-loop decreases-loop
+module _ (c : tie.After-put_bytes invariant-loop decreases-loop) where
+  abbrev looped : tie.At-loop-i invariant-loop decreases-loop
   looped = done c.before
 
   abbrev at : ℕ
@@ -114,21 +114,21 @@ module _ (c : tie.After-put-bytes2 invariant-loop decreases-loop) where
   abbrev n : ℕ
   n = (given (first looped)).args.times.count
 
-  whole : Stored (given (first looped)).args.new.now (given (first looped)).args.to (widened_at (payload (first looped)) at n) c.put-bytes2.new.0
-      c.put-bytes2.result
+  whole : Stored (given (first looped)).args.new.now (given (first looped)).args.to (widened_at (payload (first looped)) at n) c.put_bytes.new-1.0
+      c.put_bytes.result
   unfolding widened_at
   whole =
       let p = payload (first looped) in
-      let e : looped.loop.i ≡ n = omega arith in
-      let times = stored_same looped.loop.inv.1 (ap (times_widened p at) e) in
-      let last = stored looped.loop.new looped.loop.end (rest c.before) c.put-bytes2.ensures.0 c.put-bytes2.ensures.1 in
+      let e : looped.loop-i.i ≡ n = omega arith in
+      let times = stored_same looped.loop-i.invariant.1 (ap (times_widened p at) e) in
+      let last = stored looped.loop-i.new-1 looped.loop-i.end (rest c.before) c.put_bytes.ensures.0 c.put_bytes.ensures.1 in
       let same : behind c.before ≡ at + n * 1 = omega arith in
       stored_same (stored-behind (stored-behind (opened (first looped)) times) last)
       (append_assoc (take at p) (times_widened p at n) (rest c.before)
       ∙ ap (λ (r : Bytes). take at p ++ (times_widened p at n ++ r)) (rest-is c.before ∙ ap (λ (k : ℕ). drop k p) same))
 
-pub put-payload-spec : {M : Type 1} → statement M
-put-payload-spec =
+pub put_payload_spec : {M : Type 1} → statement M
+put_payload_spec =
     tie.close
     (tie.spec
     invariant-loop
@@ -138,7 +138,7 @@ put-payload-spec =
     (λ c. (omega arith, stored_same (stored-none _ _) (no-times _ _)))
     (λ c. omega arith)
     (λ c. omega arith)
-    (λ c κs. omega (arith, c.before.before.before.before.before.before.before.before.before.before.requires))
+    (λ c κs. omega (arith, c.requires))
     put-pair-requires
     add-end
     (λ c. omega arith)

@@ -11,8 +11,8 @@ use Rattle.upgrading.proofs.times_of.Tie as tie
 found : (kind case : Kind) → kind ≡ case → times_in (kind_in case) ≡ times_in (kind_in kind)
 found kind case e = ap (λ (k : Kind). times_in (kind_in k)) (sym e)
 
-pub times-of-spec : {M : Type 1} → statement M
-times-of-spec =
+pub times_of_spec : {M : Type 1} → statement M
+times_of_spec =
     tie.close
     (tie.spec
     (λ c. search rules)
@@ -24,12 +24,12 @@ times-of-spec =
     (λ c. search rules)
     (λ c. search rules)
     (λ c. search rules)
-    (λ c. found _ _ c.enum_told.given.1)
-    (λ c. found _ _ c.enum-told2.given.1)
-    (λ c. found _ _ c.enum-told3.given.1)
-    (λ c. found _ _ c.enum-told4.given.1)
-    (λ c. found _ _ c.enum-told5.given.1)
-    (λ c. found _ _ c.enum-told6.given.1)
-    (λ c. found _ _ c.enum-told7.given.1)
-    (λ c. found _ _ c.enum-told8.given.1)
-    (λ c. found _ _ c.enum-told9.given.1))
+    (λ c. found _ _ c.in-Head.is)
+    (λ c. found _ _ c.in-Train.is)
+    (λ c. found _ _ c.in-Call.is)
+    (λ c. found _ _ c.in-Node.is)
+    (λ c. found _ _ c.in-Segment.is)
+    (λ c. found _ _ c.in-Join.is)
+    (λ c. found _ _ c.in-Unbreakable.is)
+    (λ c. found _ _ c.in-End.is)
+    (λ c. found _ _ c.in-Unknown.is))

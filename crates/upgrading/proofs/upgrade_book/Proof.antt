@@ -28,8 +28,8 @@ use Rattle.upgrading.proofs.upgrade_book.Statement.{statement}
 use Rattle.upgrading.proofs.upgrade_book.Tie as tie
 
 -- the old book is read
-module _ (c : tie.After-enum-told) where
-  abbrev read : tie.After-read-as
+module _ (c : tie.In-Accepted) where
+  abbrev read : tie.After-read_as-read
   read = c.before.before.before.before
 
   abbrev start : tie.Start
@@ -39,13 +39,13 @@ module _ (c : tie.After-enum-told) where
   old = start.args.old.now
 
   abbrev book : BookStruct
-  book = read.read_as.result.book
+  book = read.read_as-read.result.book
 
   is_bytes : T (bytes old)
-  is_bytes = bytes_of old (λ i. omega (arith, read.before.before.before.shared-slice-known.given i))
+  is_bytes = bytes_of old (λ i. omega (arith, read.shared_slice_known-1.given i))
 
   found : (b : Book) × (read_as old_format old ≡ accepted b) × (book ≡ packed b)
-  found = accepted-by read.read_as.result (read_as old_format old) read.read_as.ensures.0 c.enum_told.given.1
+  found = accepted-by read.read_as-read.result (read_as old_format old) read.read_as-read.ensures.0 c.in-Accepted.is
 
   reads : read_as old_format old ≡ accepted (held book)
   reads = found.1 ∙ ap accepted (sym (ap held found.2 ∙ held-packed found.0))
@@ -56,14 +56,14 @@ module _ (c : tie.After-enum-told) where
       subst Packed (sym found.2) (well-formed-packed found.0 h.2 h.3)
 
 -- and it is known how long the new one is
-module _ (c : tie.After-book-times) where
-  long : length (old c.before) + c.book-times.result * 1 ≡ length (upgraded (old c.before))
+module _ (c : tie.After-book_times) where
+  long : length (old c.before) + c.book_times.result * 1 ≡ length (upgraded (old c.before))
   unfolding book_times
   long =
       let a = c.before in
-      omega (arith, (upgraded-frames (old a) (held (book a)) (is_bytes a) (reads a)).1, c.book-times.ensures.0)
+      omega (arith, (upgraded-frames (old a) (held (book a)) (is_bytes a) (reads a)).1, c.book_times.ensures.0)
 
-returns : tie.Need-returns
+returns : tie.Need-returns-then-new-n
 unfolding upgrade_output
 returns c =
     let n = c.before in
@@ -71,16 +71,16 @@ returns c =
     left-stopped (start a).args.new.now
     ((upgrade-refused (old a) (length (start a).args.new.now) 12 0).1 (inr (held (book a), reads a, omega (arith, long n), refl, refl)))
 
-returns-2 : tie.Need-returns-2
+returns-2 : tie.Need-returns-in-Refused
 unfolding upgrade_output
 returns-2 c =
     let r = c.before.before.before.before.before in
     let s = r.before.before.before.before in
     left-stopped s.args.new.now
     ((upgrade-refused s.args.old.now (length s.args.new.now) _ _).1
-    (inl (refused-by r.read_as.result (read_as old_format s.args.old.now) r.read_as.ensures.0 c.before.answer.given.1)))
+    (inl (refused-by r.read_as-read.result (read_as old_format s.args.old.now) r.read_as-read.ensures.0 c.answer-1.given.1)))
 
-returns-3 : tie.Need-returns-3
+returns-3 : tie.Need-returns-else-new-n
 unfolding upgrade_output
 returns-3 c =
     let p = c.before.before in
@@ -90,10 +90,10 @@ returns-3 c =
     let room : length (upgraded (old a)) ≤ length new = omega (arith, long n) in
     left-written new (upgraded (old a))
     ((upgrade-accepted (old a) (upgraded (old a)) (length new)).1 (held (book a), reads a, room, refl))
-    (long n) (p.put-frames.ensures ∙ stored-first new (upgraded (old a)) room)
+    (long n) (p.put_frames.ensures ∙ stored-first new (upgraded (old a)) room)
 
-pub upgrade-book-spec : {M : Type 1} → statement M
-upgrade-book-spec =
+pub upgrade_book_spec : {M : Type 1} → statement M
+upgrade_book_spec =
     tie.close
     (tie.spec
     (λ c. search rules)

@@ -14,42 +14,42 @@ use Rattle.writing.proofs.write_formula.Statement.{statement}
 use Rattle.writing.proofs.write_formula.Tie as tie
 
 -- the book is accepted
-module _ (c : tie.After-enum-told) where
-  abbrev prepared : tie.After-prepare-chains
+module _ (c : tie.In-Accepted) where
+  abbrev prepared : tie.After-prepare_chains-p
   prepared = c.before.before.before.before.before.before.before.before
 
-  ready : TablesReady prepared.prepare-chains.result prepared.prepare-chains.last.1.0 prepared.prepare-chains.last.1.1.1.0
-  ready = prepared.prepare-chains.ensures.1 c.enum_told.given.1
+  ready : TablesReady prepared.prepare_chains-p.result prepared.prepare_chains-p.last.1.0 prepared.prepare_chains-p.last.1.1.1.0
+  ready = prepared.prepare_chains-p.ensures.1 c.in-Accepted.is
 
-write-by-requires : tie.Need-write-by-requires
+write-by-requires : tie.Need-write_by-requires
 write-by-requires c κs =
     let a = c.before.before.before.before in
-    ((ready a).0, (prepared a).prepare-chains.ensures.2 a.enum_told.given.1, (ready a).2)
+    ((ready a).0, (prepared a).prepare_chains-p.ensures.2 a.in-Accepted.is, (ready a).2)
 
-returns : tie.Need-returns
+returns : tie.Need-returns-in-Refused
 unfolding write_formula formula_output
 returns c =
     let r = c.before.before.before.before.before.before.before.before.before in
-    let a = r.before.before.before.before.before.args in
+    let a = r.args in
     let cap = held_cap a.cap in
-    let old = a.out.now in
-    let k = stopped-under _ _ r.prepare-chains.ensures.0 cap (λ I. written_for I (length old)) c.before.answer.given.1 in
+    let old = a.out-1.now in
+    let k = stopped-under _ _ r.prepare_chains-p.ensures.0 cap (λ I. written_for I (length old)) c.answer-1.given.1 in
     (stopped-answer k, stopped-output old k)
 
-returns-2 : tie.Need-returns-2
+returns-2 : tie.Need-returns-in-Accepted
 unfolding write_formula formula_output
 returns-2 c =
     let t = c.before.before.before.before.before.before in
     let r = prepared t in
-    let a = r.before.before.before.before.before.args in
+    let a = r.args in
     let cap = held_cap a.cap in
-    let old = a.out.now in
-    let k = went-under _ _ r.prepare-chains.ensures.0 t.enum_told.given.1 cap (λ I. written_for I (length old)) in
-    let w = c.before.write-by.ensures in
+    let old = a.out-1.now in
+    let k = went-under _ _ r.prepare_chains-p.ensures.0 t.in-Accepted.is cap (λ I. written_for I (length old)) in
+    let w = c.write_by.ensures in
     (w.0 ∙ ap formula_answer k, w.1 ∙ ap (words_after old) k)
 
-pub write-formula-spec : {M : Type 1} → statement M
-write-formula-spec =
+pub write_formula_spec : {M : Type 1} → statement M
+write_formula_spec =
     tie.close
     (tie.spec
     (λ c. sym runs-long)

@@ -49,16 +49,16 @@ module _ (I : Instance) (p : Plan) where
       let fewer = pick-fewer (carries I p) (is_free I) (up_to n) (λ m h. (simp and-iff at h).0.0) in
       omega (arith, long, fewer, pick-room (is_free I) I.nodes n l free)
 
-abbrev invariant-loop : tie.invariant-loop
+abbrev invariant-loop : tie.invariant-loop-node
 invariant-loop b counts runs meets plan₀ out₀ nodes end₀ node₀ plan out end node =
     (node ≤ nodes) × (plan ≡ plan₀)
     × Stored out₀ 0 (list_below (instance_of (held b)) (plan_of (instance_of (held b)) plan₀) node) out end
 
-abbrev decreases-loop : tie.decreases-loop
+abbrev decreases-loop : tie.decreases-loop-node
 decreases-loop b counts runs meets plan₀ out₀ nodes end₀ node₀ plan out end node = nodes - node
 
 -- the node that the loop is at
-module _ (c : tie.In-loop invariant-loop decreases-loop) where
+module _ (c : tie.In-loop-node invariant-loop decreases-loop) where
   abbrev start : tie.Start invariant-loop decreases-loop
   start = c.before.before.before.before.before.before
 
@@ -69,27 +69,27 @@ module _ (c : tie.In-loop invariant-loop decreases-loop) where
   p = plan_of I start.args.plan.now
 
   abbrev node : ℕ
-  node = c.before.loop.node
+  node = c.loop-node.node
 
   known : node < I.nodes
-  known = omega (arith, c.loop-test.true, nodes-is start.args.b start.pre.0.counted.passed)
+  known = omega (arith, c.loop-node-test.true, nodes-is start.args.b start.requires.0.counted.passed)
 
-  fits : T (plan_fits I c.before.loop.plan)
-  fits = subst (λ (s : Bytes). T (plan_fits I s)) (sym c.before.loop.invariant.1) start.pre.2
+  fits : T (plan_fits I c.loop-node.plan-1)
+  fits = subst (λ (s : Bytes). T (plan_fits I s)) (sym c.loop-node.invariant.1) start.requires.2
 
-  room : T (is_free I node) → c.before.loop.end + 4 ≤ length c.before.loop.out
+  room : T (is_free I node) → c.loop-node.end + 4 ≤ length c.loop-node.out-1
   room free =
-      let list = c.before.loop.invariant.2 in
-      omega (arith, list.ends, stored-length list, list-room I p node known free, start.pre.3)
+      let list = c.loop-node.invariant.2 in
+      omega (arith, list.ends, stored-length list, list-room I p node known free, start.requires.3)
 
-loop-again : tie.Need-loop-preserved invariant-loop decreases-loop
+loop-again : tie.Need-loop-node-preserved invariant-loop decreases-loop
 loop-again c =
     let called = c.before.before.before.before in
     let l = called.before.before.before in
-    let e = rw l.before.loop.invariant.1 at called.put-node.ensures in (
-      omega (arith, l.loop-test.true),
+    let e = rw l.loop-node.invariant.1 at called.put_node-end.ensures in (
+      omega (arith, l.loop-node-test.true),
       e.0,
-      stored_same (stored-behind l.before.loop.invariant.2 (stored _ _ (entry_of (I l) (p l) (node l)) e.1 e.2)) (sym (list-next (I l) (p l) (node l))),
+      stored_same (stored-behind l.loop-node.invariant.2 (stored _ _ (entry_of (I l) (p l) (node l)) e.1 e.2)) (sym (list-next (I l) (p l) (node l))),
     )
 
 returns : tie.Need-returns invariant-loop decreases-loop
@@ -98,23 +98,23 @@ returns c =
     let b = s.args.b in
     let K = instance_of (held b) in
     let q = plan_of K s.args.plan.now in
-    let inv = c.before.loop.invariant in
-    let end : c.before.loop.node ≡ K.nodes = omega (arith, inv.0, c.loop-test.false, nodes-is b s.requires.0.counted.passed) in
+    let inv = c.loop-node.invariant in
+    let end : c.loop-node.node ≡ K.nodes = omega (arith, inv.0, c.loop-node-test.false, nodes-is b s.requires.0.counted.passed) in
     let list = stored_same inv.2 (ap (list_below K q) end ∙ list_all K q) in
     (inv.1, omega (arith, list.ends), list.bytes ∙ stored-first _ (carrier_list K q) (omega (arith, list-fits K q, s.requires.3)))
 
-pub put-carriers-spec : {M : Type 1} → statement M
-put-carriers-spec =
+pub put_carriers_spec : {M : Type 1} → statement M
+put_carriers_spec =
     tie.close
     (tie.spec
     invariant-loop
     decreases-loop
     (λ c. (omega arith, refl, stored_same (stored-none _ 0) (sym (list-none _ _))))
-    (λ c κs. let l = c.before.before in let s = start l in (s.pre.0, s.pre.1, fits l, l.loop-test.true, room l))
+    (λ c κs. let l = c.before.before in let s = start l in (s.requires.0, s.requires.1, fits l, l.loop-node-test.true, room l))
     (λ c. let l = c.before.before.before.before.before.before.before in
-    omega (arith, l.loop-test.true, (start l).requires.0.counted.passed.packed.counts.nodes))
-    (λ c. let l = c.before.before.before.before.before.before.before in omega (arith, l.loop-test.true))
+    omega (arith, l.loop-node-test.true, (start l).requires.0.counted.passed.packed.counts.nodes))
+    (λ c. let l = c.before.before.before.before.before.before.before in omega (arith, l.loop-node-test.true))
     loop-again
-    (λ c. ap length c.before.loop.invariant.1)
-    (λ c. stored-length c.before.loop.invariant.2)
+    (λ c. ap length c.loop-node.invariant.1)
+    (λ c. stored-length c.loop-node.invariant.2)
     returns)

@@ -40,14 +40,14 @@ module _ (I : Instance) (q : Plan) (n : ℕ) where
       let higher = g ∙ ap₂ (higher_train I q) e lower in
       λ z. n ∷ e z ∷ lower z ∷ higher z ∷ []
 
-label-sections-requires : tie.Need-label-sections-requires
+label-sections-requires : tie.Need-label_sections-requires
 label-sections-requires c κs =
     let s = c.before.before.before.before.before in
     let p = s.requires.0.counted.passed in
     (p, s.requires.1, omega (arith, nodes-inside _ _ s.requires.2, nodes-is s.args.b p), refl)
 
 -- the labels are there
-module _ (c : tie.After-labels3) where
+module _ (c : tie.After-labels-3-1) where
   abbrev start : tie.Start
   start = c.before.before.before.before.before.before.before.before
 
@@ -58,23 +58,23 @@ module _ (c : tie.After-labels3) where
   q = plan_of I start.args.plan.now
 
   intervals : I.intervals ≡ start.args.b.intervals
-  intervals = intervals-is start.args.b start.pre.0.counted.passed
+  intervals = intervals-is start.args.b start.requires.0.counted.passed
 
 -- trains meet
-module _ (c : tie.Else1) where
-  abbrev labelled : tie.After-labels3
+module _ (c : tie.Else-interval-b) where
+  abbrev labelled : tie.After-labels-3-1
   labelled = c.before.before.before
 
   abbrev found : ℕ
-  found = c.before.before.earliest-meeting.result
+  found = c.earliest_meeting-interval.result
 
   found-is : found ≡ earliest (I labelled) (q labelled)
-  found-is = c.before.before.earliest-meeting.ensures
+  found-is = c.earliest_meeting-interval.ensures
 
   broken : rule6 (I labelled) (q labelled) ≡ false
   broken =
       sym (earliest-is (I labelled) (q labelled))
-      ∙ ne_eqb _ _ (λ e. c.if1.false (found-is ∙ e ∙ intervals labelled))
+      ∙ ne_eqb _ _ (λ e. c.if-interval-b.false (found-is ∙ e ∙ intervals labelled))
 
   inside : found < (start labelled).args.b.intervals
   inside = omega (arith, found-is, earliest-below (I labelled) (q labelled) (from-denied broken), intervals labelled)
@@ -84,30 +84,30 @@ module _ (c : tie.Else1) where
       subst (λ (t : ℕ). T (not (apart_in (I labelled) (q labelled) t))) (sym found-is)
       (earliest-meets (I labelled) (q labelled) (earliest-below (I labelled) (q labelled) (from-denied broken)))
 
-earliest-meeting-requires : tie.Need-earliest-meeting-requires
+earliest-meeting-requires : tie.Need-earliest_meeting-interval-requires
 earliest-meeting-requires c κs =
     let s = start c in
-    (s.pre.0, s.pre.2, plan-labelled s.args.b s.pre.0.counted.passed _ _ refl c.before.before.label-sections.ensures)
+    (s.requires.0, s.requires.2, plan-labelled s.args.b s.requires.0.counted.passed _ _ refl c.label_sections.ensures)
 
-returns : tie.Need-returns
+returns : tie.Need-returns-then-interval-b
 returns c =
     let e = c.before.before in
     let l = e.before in
     let none_left = no-entry (I l) (q l) (start l).args.node
-    (sym (earliest-is (I l) (q l)) ∙ eq-eqb _ _ (sym e.earliest-meeting.ensures ∙ c.if1.true ∙ sym (intervals l))) in
+    (sym (earliest-is (I l) (q l)) ∙ eq-eqb _ _ (sym e.earliest_meeting-interval.ensures ∙ c.if-interval-b.true ∙ sym (intervals l))) in
     rw none_left (omega arith, refl)
 
-first-pair-requires : tie.Need-first-pair-requires
+first-pair-requires : tie.Need-first_pair-pair-requires
 first-pair-requires c κs =
     let s = start (labelled c.before) in (
-      (s.pre.0, s.pre.2, plan-labelled s.args.b s.pre.0.counted.passed _ _ refl (labelled c.before).before.before.label-sections.ensures),
+      (s.requires.0, s.requires.2, plan-labelled s.args.b s.requires.0.counted.passed _ _ refl (labelled c.before).label_sections.ensures),
       inside c.before,
       meeting c.before,
     )
 
 -- the pair is known
-module _ (c : tie.After-first-pair) where
-  abbrev else : tie.Else1
+module _ (c : tie.After-first_pair-pair) where
+  abbrev else : tie.Else-interval-b
   else = c.before.before
 
   abbrev args : tie.Start
@@ -116,18 +116,18 @@ module _ (c : tie.After-first-pair) where
   few : args.args.b.train_count ≤ 8
   few = args.pre.0.counted.passed.packed.counts.trains
 
-returns-2 : tie.Need-returns-2
+returns-2 : tie.Need-returns
 returns-2 c =
     let k = c.before.before in
     let f = k.before.before.before.before.before in
     let l = labelled (else f) in
     let e = the-entry (I l) (q l) (args f).args.node (broken (else f)) in
-    let w = f.first-pair.ensures in
+    let w = f.first_pair-pair.ensures in
     let same = four (I l) (q l) (args f).args.node (found-is (else f)) w.0 w.1 in
-    rw (e, ← same) k.put-bytes.ensures
+    rw (e, ← same) k.put_bytes.ensures
 
-pub put-entry-spec : {M : Type 1} → statement M
-put-entry-spec =
+pub put_entry_spec : {M : Type 1} → statement M
+put_entry_spec =
     tie.close
     (tie.spec
     (λ c. search rules)
@@ -139,9 +139,9 @@ put-entry-spec =
     first-pair-requires
     (λ c. omega (arith, (args c).requires.3, (args c).requires.0.counted.passed.packed.counts.nodes))
     (λ c. omega (arith, inside (else c), intervals (labelled (else c)), few-intervals (held (args c).args.b) (args c).requires.0.counted.passed.formed))
-    (λ c. let w = c.before.first-pair.ensures in omega (arith, w.2, w.3, few c.before))
-    (λ c. let w = c.before.before.first-pair.ensures in omega (arith, w.3, few c.before.before))
+    (λ c. let w = c.first_pair-pair.ensures in omega (arith, w.2, w.3, few c.before))
+    (λ c. let w = c.first_pair-pair.ensures in omega (arith, w.3, few c.before.before))
     (λ c. search rules)
-    (λ c κs. let s = args c.before.before.before.before in omega (arith, s.pre.4, s.good))
+    (λ c κs. let s = args c.before.before.before.before in omega (arith, s.requires.4, s.good))
     (λ c. search rules)
     returns-2)

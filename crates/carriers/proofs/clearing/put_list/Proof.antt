@@ -37,33 +37,33 @@ copied n s copy l e =
     ap (take (length s)) (e ∙ stored-first (replicate n 0) s (omega (arith, l, length-replicate {A = ℕ} n 0)))
     ∙ take_at s (drop (length s) (replicate n 0)) (length s) (λ z. length s)
 
-module _ (c : tie.After-put-bytes) where
+module _ (c : tie.After-put_bytes) where
   abbrev start : tie.Start
   start = c.before.before.before.before.before.before
 
   short : length start.args.plan.now ≤ 4192
-  short = plan-few start.args.b start.pre.0.counted.passed start.args.plan.now start.pre.2
+  short = plan-few start.args.b start.requires.0.counted.passed start.args.plan.now start.requires.2
 
-  long : length c.put-bytes.new.0 ≡ 4192
-  long = ap length c.put-bytes.ensures.1 ∙ length-sets _ 0 start.args.plan.now
+  long : length c.put_bytes.new.0 ≡ 4192
+  long = ap length c.put_bytes.ensures.1 ∙ length-sets _ 0 start.args.plan.now
 
-  is-copy : take (length start.args.plan.now) c.put-bytes.new.0 ≡ start.args.plan.now
-  is-copy = copied 4192 start.args.plan.now _ short c.put-bytes.ensures.1
+  is-copy : take (length start.args.plan.now) c.put_bytes.new.0 ≡ start.args.plan.now
+  is-copy = copied 4192 start.args.plan.now _ short c.put_bytes.ensures.1
 
-put-carriers-requires : tie.Need-put-carriers-requires
+put-carriers-requires : tie.Need-put_carriers-requires
 put-carriers-requires c κs =
     let k = c.before.before.before in
     let s = start k in
-    (s.pre.0, s.pre.1, rw (is-copy k) s.pre.2, s.pre.3)
+    (s.requires.0, s.requires.1, rw (is-copy k) s.requires.2, s.requires.3)
 
 returns : tie.Need-returns
 returns c =
     let k = c.before.before.before.before.before.before.before in
-    let e = rw (is-copy k) at c.before.before.before.put-carriers.ensures in
+    let e = rw (is-copy k) at c.put_carriers.ensures in
     (e.1, e.2)
 
-pub put-list-spec : {M : Type 1} → statement M
-put-list-spec =
+pub put_list_spec : {M : Type 1} → statement M
+put_list_spec =
     tie.close
     (tie.spec
     (λ c. search rules)

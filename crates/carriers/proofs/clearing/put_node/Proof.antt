@@ -45,7 +45,7 @@ module _ (I : Instance) (p : Plan) (n : ℕ) where
 
 module _ (s : tie.Start) where
   abbrev I : Instance
-  I = instance_of (held s.args.t1)
+  I = instance_of (held s.args.b)
 
   abbrev plan : Bytes
   plan = s.args.plan.now
@@ -54,59 +54,59 @@ module _ (s : tie.Start) where
   node = s.args.node
 
   known : node < I.nodes
-  known = omega (arith, s.pre.3, nodes-is s.args.t1 s.pre.0.counted.passed)
+  known = omega (arith, s.requires.3, nodes-is s.args.b s.requires.0.counted.passed)
 
   long : I.nodes ≤ length plan
-  long = nodes-inside I plan s.pre.2
+  long = nodes-inside I plan s.requires.2
 
   -- the border set again
   as-was : get_or plan node 0 ≡ 1 → set (set plan node 0) node 1 ≡ plan
   as-was e = set-set plan node 0 1 ∙ ap (set plan node) (sym e) ∙ set-get_or plan node 0
 
 -- what the test says of the node
-module _ (c : tie.After-is-free) where
+module _ (c : tie.After-is_free) where
   abbrev start : tie.Start
   start = c.before.before.before.before.before.before
 
   free-is : is_free (I start) (node start) ≡ c.is_free.result
   unfolding is_free instance_of compile
   free-is =
-      ap (λ (k : ℕ). not (denies_border k) && not (forces_border k)) (kind_at start.args.t1 (node start) start.pre.3) ∙ sym c.is_free.ensures
+      ap (λ (k : ℕ). not (denies_border k) && not (forces_border k)) (kind_at start.args.b (node start) start.requires.3) ∙ sym c.is_free.ensures
 
-returns : tie.Need-returns
+returns : tie.Need-returns-then-not-is_free
 returns c =
     let s = start c.before in
-    rw (not_free (I s) (plan_of (I s) (plan s)) (node s) (free-is c.before ∙ not-true _ c.if1.true)) (refl, omega arith, refl)
+    rw (not_free (I s) (plan_of (I s) (plan s)) (node s) (free-is c.before ∙ not-true _ c.if-not-is_free.true)) (refl, omega arith, refl)
 
-returns-2 : tie.Need-returns-2
+returns-2 : tie.Need-returns-then-plan-node-ne1
 unfolding plan_of
 returns-2 c =
     let s = start c.before.before.before in
-    rw (not_set (I s) (plan_of (I s) (plan s)) (node s) (ne_eqb _ _ c.if2.true)) (refl, omega arith, refl)
+    rw (not_set (I s) (plan_of (I s) (plan s)) (node s) (ne_eqb _ _ c.if-plan-node-ne1.true)) (refl, omega arith, refl)
 
 -- a set border of kind 1
-module _ (c : tie.Else2) where
+module _ (c : tie.Else-plan-node-ne1) where
   abbrev set-start : tie.Start
   set-start = start c.before.before.before
 
   is_one : get_or (plan set-start) (node set-start) 0 ≡ 1
-  is_one = c.if2.false
+  is_one = c.if-plan-node-ne1.false
 
   free : is_free (I set-start) (node set-start) ≡ true
-  free = free-is c.before.before.before ∙ not-false _ c.before.before.if1.false
+  free = free-is c.before.before.before ∙ not-false _ c.if-not-is_free.false
 
-returns-3 : tie.Need-returns-3
+returns-3 : tie.Need-returns
 unfolding plan_of
 returns-3 c =
     let e = c.before.before.before.before.before in
     let s = set-start e in
     let p = plan_of (I s) (plan s) in
     let w = rw (cleared-bytes (I s) (plan s) (node s) (known s) (long s), judged (I s) p (node s) (free e) (eq-eqb _ _ (is_one e)))
-    at c.before.before.put-entry.ensures in
+    at c.put_entry-end.ensures in
     (as-was s (is_one e), w.0, w.1)
 
-pub put-node-spec : {M : Type 1} → statement M
-put-node-spec =
+pub put_node_spec : {M : Type 1} → statement M
+put_node_spec =
     tie.close
     (tie.spec
     (λ c. let s = c.before.before.before.before in omega (arith, s.requires.3, s.requires.0.counted.passed.packed.counts.nodes))
@@ -116,7 +116,7 @@ put-node-spec =
     returns-2
     (λ c. let s = set-start c in omega (arith, known s, long s))
     (λ c κs. let e = c.before.before in let s = set-start e in
-    (s.pre.0, s.pre.1, cleared-fits (I s) (plan s) (node s) (known s) (long s) s.pre.2, s.pre.3, s.pre.4 (from-true (free e))))
+    (s.requires.0, s.requires.1, cleared-fits (I s) (plan s) (node s) (known s) (long s) s.requires.2, s.requires.3, s.requires.4 (from-true (free e))))
     (λ c. let s = set-start c.before.before.before.before.before in rw length-set (omega (arith, known s, long s)))
     (λ c. search rules)
     (λ c. search rules)

@@ -23,14 +23,14 @@ I b = instance_of (held b)
 abbrev p : BookStruct → Bytes → Plan
 p b plan = plan_of (I b) plan
 
-abbrev invariant-loop : tie.invariant-loop
+abbrev invariant-loop : tie.invariant-loop-lower
 invariant-loop b counts runs labels plan interval trains lower₀ lower =
     (lower ≤ trains) × (lower_train (I b) (p b plan) interval ≡ least_from (meets_higher (I b) (p b plan) interval) lower (trains - lower))
 
-abbrev decreases-loop : tie.decreases-loop
+abbrev decreases-loop : tie.decreases-loop-lower
 decreases-loop b counts runs labels plan interval trains lower₀ lower = trains - lower
 
-loop-holds : tie.Need-loop-init invariant-loop decreases-loop
+loop-holds : tie.Need-loop-lower-init invariant-loop decreases-loop
 unfolding lower_train
 loop-holds c =
     let s = c.before.before.before in
@@ -38,8 +38,8 @@ loop-holds c =
     (omega arith, ap (least_from (meets_higher (I s.args.b) (p s.args.b s.args.plan.now) s.args.interval) 0) n)
 
 -- the train that the loop is at, and the least higher one that it meets
-module _ (c : tie.After-higher-train invariant-loop decreases-loop) where
-  abbrev loop : tie.In-loop invariant-loop decreases-loop
+module _ (c : tie.After-higher_train-higher invariant-loop decreases-loop) where
+  abbrev loop : tie.In-loop-lower invariant-loop decreases-loop
   loop = c.before
 
   abbrev start : tie.Start invariant-loop decreases-loop
@@ -55,57 +55,57 @@ module _ (c : tie.After-higher-train invariant-loop decreases-loop) where
   t = start.args.interval
 
   abbrev i : ℕ
-  i = loop.before.loop.lower
+  i = loop.loop-lower.lower
 
   trains : (I b).trains ≡ b.train_count
-  trains = trains-is b start.pre.0.0.counted.passed
+  trains = trains-is b start.requires.0.0.counted.passed
 
-  above : i < c.higher-train.result
-  above = omega (arith, c.higher-train.ensures, higher-above (I b) q t i)
+  above : i < c.higher_train-higher.result
+  above = omega (arith, c.higher_train-higher.ensures, higher-above (I b) q t i)
 
   -- it meets one exactly where that is a train
-  found : c.higher-train.result < b.train_count → meets_higher (I b) q t i ≡ true
+  found : c.higher_train-higher.result < b.train_count → meets_higher (I b) q t i ≡ true
   found l =
-      let k : higher_train (I b) q t i < (I b).trains = omega (arith, c.higher-train.ensures, trains, l) in
+      let k : higher_train (I b) q t i < (I b).trains = omega (arith, c.higher_train-higher.ensures, trains, l) in
       true_of _ ((meets-iff (I b) q t i).1 (higher_train (I b) q t i, higher-above (I b) q t i, k, higher-meets (I b) q t i k))
 
-  none_found : b.train_count ≤ c.higher-train.result → meets_higher (I b) q t i ≡ false
-  none_found l = false_of _ (λ h. omega (arith, c.higher-train.ensures, trains, l, higher-below (I b) q t i h))
+  none_found : b.train_count ≤ c.higher_train-higher.result → meets_higher (I b) q t i ≡ false
+  none_found l = false_of _ (λ h. omega (arith, c.higher_train-higher.ensures, trains, l, higher-below (I b) q t i h))
 
-returns : tie.Need-returns invariant-loop decreases-loop
+returns : tie.Need-returns-then-higher-trains invariant-loop decreases-loop
 returns c =
     let h = c.before in
     let l = loop h in (
-      sym (l.before.loop.inv.1 ∙ least-here _ _ _ l.loop-test.taken (found h c.if1.true)),
-      h.higher-train.ensures,
+      sym (l.loop-lower.invariant.1 ∙ least-here _ _ _ l.loop-lower-test.true (found h c.if-higher-trains.true)),
+      h.higher_train-higher.ensures,
       above h,
-      c.if1.true,
+      c.if-higher-trains.true,
     )
 
-loop-again : tie.Need-loop-preserved invariant-loop decreases-loop
+loop-again : tie.Need-loop-lower-preserved invariant-loop decreases-loop
 loop-again c =
     let h = c.before in
     let l = loop h in
-    (omega (arith, l.loop-test.taken), l.before.loop.inv.1 ∙ least-next _ _ _ l.loop-test.taken (none_found h c.if1.false))
+    (omega (arith, l.loop-lower-test.true), l.loop-lower.invariant.1 ∙ least-next _ _ _ l.loop-lower-test.true (none_found h c.if-higher-trains.false))
 
 -- no train would be left, but some meet
-returns-2 : tie.Need-returns-2 invariant-loop decreases-loop
+returns-2 : tie.Need-returns invariant-loop decreases-loop
 returns-2 c =
     let s = c.before.before.before.before.before in
     let least = lower-below (I s.args.b) (p s.args.b s.args.plan.now) s.args.interval s.requires.2 in
-    let end = c.before.loop.invariant.1 ∙ least-end _ _ _ c.loop-test.false in
-    absurd (omega (arith, least, end, c.loop-test.false, trains-is s.args.b s.requires.0.0.counted.passed))
+    let end = c.loop-lower.invariant.1 ∙ least-end _ _ _ c.loop-lower-test.false in
+    absurd (omega (arith, least, end, c.loop-lower-test.false, trains-is s.args.b s.requires.0.0.counted.passed))
 
-pub first-pair-spec : {M : Type 1} → statement M
-first-pair-spec =
+pub first_pair_spec : {M : Type 1} → statement M
+first_pair_spec =
     tie.close
     (tie.spec
     invariant-loop
     decreases-loop
     loop-holds
-    (λ c κs. let s = c.before.before.before.before.before in (s.requires.0, s.requires.1, c.loop-test.true))
+    (λ c κs. let s = c.before.before.before.before.before in (s.requires.0, s.requires.1, c.loop-lower-test.true))
     returns
-    (λ c. omega (arith, (loop c.before).loop-test.taken))
-    (λ c. omega (arith, (loop c.before).loop-test.taken))
+    (λ c. omega (arith, (loop c.before).loop-lower-test.true))
+    (λ c. omega (arith, (loop c.before).loop-lower-test.true))
     loop-again
     returns-2)

@@ -8,15 +8,15 @@ use Rattle.cases.proofs.books.print_runs.Statement.{statement}
 use Rattle.cases.proofs.books.print_runs.Tie as tie
 
 -- the book is accepted
-module _ (c : tie.After-enum-told) where
-  abbrev prepared : tie.After-prepare-runs
+module _ (c : tie.In-Accepted) where
+  abbrev prepared : tie.After-prepare_runs-read
   prepared = c.before.before.before.before.before
 
-  ready : RunsReady prepared.prepare-runs.result.book prepared.prepare-runs.result.counts prepared.prepare-runs.last.1.0
-  ready = prepared.prepare-runs.ensures.1 c.enum_told.given.1
+  ready : RunsReady prepared.prepare_runs-read.result.book prepared.prepare_runs-read.result.counts-1 prepared.prepare_runs-read.last.1.0
+  ready = prepared.prepare_runs-read.ensures.1 c.in-Accepted.is
 
-pub print-runs-spec : {M : Type 1} → statement M
-print-runs-spec =
+pub print_runs_spec : {M : Type 1} → statement M
+print_runs_spec =
     tie.close
     (tie.spec
     (λ c. sym (length-replicate {A = ℕ} table_bytes 0))
@@ -29,7 +29,7 @@ print-runs-spec =
     (λ c. search rules)
     (λ c κs.
     let k = c.before.before.before in
-    ((ready k.before.before.before).long, k.chain-trains.auto.1.1.1.0 ∙ length-replicate {A = ℕ} all_chains 0))
+    ((ready k.before.before.before).long, k.chain_trains.auto.1.1.1.0 ∙ length-replicate {A = ℕ} all_chains 0))
     (λ c. search rules)
     (λ c κs. search rules)
     (λ c. search rules)

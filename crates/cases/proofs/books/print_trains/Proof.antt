@@ -3,14 +3,14 @@ use Rattle.std.proofs.Common.{◌-◌, ◌≤◌, arith, rules}
 use Rattle.cases.proofs.books.print_trains.Statement.{statement}
 use Rattle.cases.proofs.books.print_trains.Tie as tie
 
-abbrev invariant-loop : tie.invariant-loop
+abbrev invariant-loop : tie.invariant-loop-i
 invariant-loop n runs chains counts i₀ i = i ≤ 8
 
-abbrev decreases-loop : tie.decreases-loop
+abbrev decreases-loop : tie.decreases-loop-i
 decreases-loop n runs chains counts i₀ i = 8 - i
 
-pub print-trains-spec : {M : Type 1} → statement M
-print-trains-spec =
+pub print_trains_spec : {M : Type 1} → statement M
+print_trains_spec =
     tie.close
     (tie.spec
     invariant-loop

@@ -3,14 +3,14 @@ use Rattle.std.proofs.Common.{◌-◌, ◌<◌, ◌≤◌, length, arith, rules}
 use Rattle.cases.proofs.formulas.more.Statement.{statement}
 use Rattle.cases.proofs.formulas.more.Tie as tie
 
-abbrev invariant-loop : tie.invariant-loop
+abbrev invariant-loop : tie.invariant-loop-i
 invariant-loop d bytes n sum₀ i₀ sum i = (sum < 1000000007) × (i ≤ length bytes)
 
-abbrev decreases-loop : tie.decreases-loop
+abbrev decreases-loop : tie.decreases-loop-i
 decreases-loop d bytes n sum₀ i₀ sum i = length bytes - i
 
-pub more-spec : {M : Type 1} → statement M
-more-spec =
+pub more_spec : {M : Type 1} → statement M
+more_spec =
     tie.close
     (tie.spec
     invariant-loop

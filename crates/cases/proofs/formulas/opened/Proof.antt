@@ -7,16 +7,16 @@ returns : tie.Need-returns
 returns c =
     let o = c.before.before.before in
     let start = o.before.before.before.before.before.before.before in
-    let n = o.before.before.before.lent.result in
-    omega (arith, o.open-text.ensures.4, length-take n start.args.words.now)
+    let n = o.lent-n.result in
+    omega (arith, o.open_text.ensures.4, length-take n start.args.words.now)
 
-pub opened-spec : {M : Type 1} → statement M
-opened-spec =
+pub opened_spec : {M : Type 1} → statement M
+opened_spec =
     tie.close
     (tie.spec
     (λ c κs. search rules)
     (λ c. search rules)
-    (λ c. sym (length-take-le _ _ c.before.lent.ensures))
+    (λ c. sym (length-take-le _ _ c.lent-n.ensures))
     (λ c κs. search rules)
     (λ c. search rules)
     (λ c. search rules)

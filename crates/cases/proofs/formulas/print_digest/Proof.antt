@@ -3,13 +3,13 @@ use Rattle.std.proofs.Common.{arith, length-take, rules}
 use Rattle.cases.proofs.formulas.print_digest.Statement.{statement}
 use Rattle.cases.proofs.formulas.print_digest.Tie as tie
 
-slice-aggregate-more-words : tie.Need-slice-aggregate-more-words
+slice-aggregate-more-words : tie.Need-slice_bounds-more_words-end
 slice-aggregate-more-words c =
-    let o = c.before.before.before.before.before.opened in
-    omega (arith, o.ensures, length-take o.result.words o.new.1.1.1.0)
+    let o = c.opened-text in
+    omega (arith, o.ensures, length-take o.result.words-1 o.new.1.1.1.0)
 
-pub print-digest-spec : {M : Type 1} → statement M
-print-digest-spec =
+pub print_digest_spec : {M : Type 1} → statement M
+print_digest_spec =
     tie.close
     (tie.spec
     (λ c. search rules)

@@ -3,13 +3,13 @@ use Rattle.std.proofs.Common.{arith, length-take, rules}
 use Rattle.cases.proofs.formulas.print_formula.Statement.{statement}
 use Rattle.cases.proofs.formulas.print_formula.Tie as tie
 
-slice-aggregate-print-words : tie.Need-slice-aggregate-print-words
+slice-aggregate-print-words : tie.Need-slice_bounds-print_words-end
 slice-aggregate-print-words c =
-    let o = c.before.before.before.before.before.opened in
-    omega (arith, o.ensures, length-take o.result.words o.new.1.1.1.0)
+    let o = c.opened-text in
+    omega (arith, o.ensures, length-take o.result.words-1 o.new.1.1.1.0)
 
-pub print-formula-spec : {M : Type 1} → statement M
-print-formula-spec =
+pub print_formula_spec : {M : Type 1} → statement M
+print_formula_spec =
     tie.close
     (tie.spec
     (λ c. search rules)

@@ -3,13 +3,13 @@ use Rattle.std.proofs.Common.{sym, length-take-le, rules}
 use Rattle.cases.proofs.judging.verdict.Statement.{statement}
 use Rattle.cases.proofs.judging.verdict.Tie as tie
 
-pub verdict-spec : {M : Type 1} → statement M
-verdict-spec =
+pub verdict_spec : {M : Type 1} → statement M
+verdict_spec =
     tie.close
     (tie.spec
     (λ c κs. search rules)
     (λ c. search rules)
-    (λ c. sym (length-take-le _ _ c.before.lent.ensures))
+    (λ c. sym (length-take-le _ _ c.lent-n.ensures))
     (λ c κs. search rules)
     (λ c. search rules)
     (λ c. search rules)

@@ -15,34 +15,34 @@ abbrev zeros : List ℕ
 zeros = replicate 96 0
 
 -- where the nodes are listed, and what was known before
-abbrev stored : tie.After-own-variables → tie.After-list-free
+abbrev stored : tie.After-own_variables-first → tie.After-list_free
 stored v = v.before.before.before
 
-abbrev start : tie.After-list-free → tie.Start
+abbrev start : tie.After-list_free → tie.Start
 start l = l.before.before.before
 
-counter-clauses-requires : tie.Need-counter-clauses-requires
+counter-clauses-requires : tie.Need-counter_clauses-requires
 counter-clauses-requires c κs =
     let v = c.before.before in
-    let counter = v.before.counter-of.ensures in
+    let counter = v.counter_of-c.ensures in
     let l = stored v in (
-      v.own-variables.ensures.1,
+      v.own_variables-first.ensures.1,
       counter.few,
-      listed _ (start l).pre.passed _ _ counter zeros _ refl l.list-free.ensures.1,
+      listed _ (start l).requires.passed _ _ counter zeros _ refl l.list_free.ensures.1,
     )
 
 returns : tie.Need-returns
 returns c =
     let v = c.before.before.before.before in
-    let counter = v.before.counter-of.ensures in
+    let counter = v.counter_of-c.ensures in
     let l = stored v in
     let a = (start l).args in
-    let same = clauses-capped a.b (start l).pre.passed a.cap _ counter zeros _ refl l.list-free.ensures.1
-    v.own-variables.ensures.0 in
-    walks_same (ap words_of same) c.before.counter-clauses.ensures
+    let same = clauses-capped a.b (start l).requires.passed a.cap _ counter zeros _ refl l.list_free.ensures.1
+    v.own_variables-first.ensures.0 in
+    walks_same (ap words_of same) c.counter_clauses.ensures
 
-pub cap-clauses-spec : {M : Type 1} → statement M
-cap-clauses-spec =
+pub cap_clauses_spec : {M : Type 1} → statement M
+cap_clauses_spec =
     tie.close
     (tie.spec
     (λ c. search rules)

@@ -45,38 +45,38 @@ module _ (c : Counter) (first j k : ℕ) where
       ∙ ap words_of (sym (only-true _ (both (lt-ltb j c.most h) (lt-ltb 0 k (positive k l)))))
 
 -- before the clause
-module _ (c : tie.Then2) where
+module _ (c : tie.Then-j-c) where
   abbrev start : tie.Start
   start = c.before.before.before.before
 
   some : 0 < start.args.k
-  some = positive _ c.before.before.if1.false
+  some = positive _ c.if-k-eq0.false
 
-count-variable-requires : tie.Need-count-variable-requires
+count-variable-requires : tie.Need-count_variable-before-requires
 count-variable-requires c κs =
     let p = (start c).requires in
     record { start = p.start; few = p.few; row = p.row; place = omega (arith, p.place) }
 
-returns-2 : tie.Need-returns-2
+returns-2 : tie.Need-returns-then-j-c
 returns-2 c =
     let i = c.before in
     let v = i.before.before in
     let u = v.before in
     let t = u.before in
     let a = (start t).args in
-    let words = carried a.c a.first a.j a.k t.if2.true t.before.before.if1.false u.count-variable.ensures.0
-    v.count-variable2.ensures.0 in
+    let words = carried a.c a.first a.j a.k t.if-j-c.true t.if-k-eq0.false u.count_variable-before.ensures.0
+    v.count_variable-variable.ensures.0 in
     walks_same words i.implies.ensures
 
-pub carry-clause-spec : {M : Type 1} → statement M
-carry-clause-spec =
+pub carry_clause_spec : {M : Type 1} → statement M
+carry_clause_spec =
     tie.close
     (tie.spec
-    (λ c. let a = c.before.before.args in walks-nothing (none_first a.c a.first a.j a.k c.if1.true))
+    (λ c. let a = c.args in walks-nothing (none_first a.c a.first a.j a.k c.if-k-eq0.true))
     (λ c. omega (arith, some c))
     count-variable-requires
-    (λ c κs. (start c.before).pre)
-    (λ c κs. (c.before.before.count-variable.ensures.1, c.before.count-variable2.ensures.1))
+    (λ c κs. (start c.before).requires)
+    (λ c κs. (c.count_variable-before.ensures.1, c.count_variable-variable.ensures.1))
     (λ c. walks-length (returns-2 c))
     returns-2
-    (λ c. let a = c.before.before.before.before.args in walks-nothing (none_last a.c a.first a.j a.k c.if2.false)))
+    (λ c. let a = c.args in walks-nothing (none_last a.c a.first a.j a.k c.if-j-c.false)))

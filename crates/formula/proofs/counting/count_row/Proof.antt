@@ -19,40 +19,40 @@ use Rattle.formula.proofs.counting.count_row.Tie as tie
 abbrev words : Counter → ℕ → List ℕ → ℕ → ℕ → List ℤ
 words c first nodes j k = words_of (clauses_at c first nodes j k)
 
-abbrev invariant-loop : tie.invariant-loop
+abbrev invariant-loop : tie.invariant-loop-k
 invariant-loop c first j nodes values out₀ spare next₀ k₀ out next k =
     Ahead values (each (range 0 spare) (words c first nodes j)) (each (range k spare) (words c first nodes j)) next₀ out₀ next out
 
-abbrev decreases-loop : tie.decreases-loop
+abbrev decreases-loop : tie.decreases-loop-k
 decreases-loop c first j nodes values out₀ spare next₀ k₀ out next k = spare - k
 
 -- inside the loop
-module _ (t : tie.In-loop invariant-loop decreases-loop) where
+module _ (t : tie.In-loop-k invariant-loop decreases-loop) where
   abbrev start : tie.Start invariant-loop decreases-loop
   start = t.before.before.before.before
 
   abbrev k : ℕ
-  k = t.before.loop.k
+  k = t.loop-k.k
 
   inside : InCounter start.args.c start.args.first start.args.j k
-  inside = let p = start.pre in record { start = p.0; few = p.1; row = p.2; place = t.loop-test.taken }
+  inside = let p = start.requires in record { start = p.0; few = p.1; row = p.2; place = t.loop-k-test.true }
 
   below : start.args.j + k < start.args.c.most + start.args.c.spare
   below = omega (arith, inside.row, inside.place)
 
-loop-again : tie.Need-loop-preserved invariant-loop decreases-loop
+loop-again : tie.Need-loop-k-preserved invariant-loop decreases-loop
 loop-again c =
     let n = c.before.before.before.before in
     let t = n.before.before.before in
-    let both = walks-behind n.count-clause.ensures c.before.carry-clause.ensures in
-    turn _ _ _ t.before.loop.invariant t.loop-test.true (walks_same (sym (words_append _ _)) both)
+    let both = walks-behind n.count_clause-next.ensures c.carry_clause-next.ensures in
+    turn _ _ _ t.loop-k.invariant t.loop-k-test.true (walks_same (sym (words_append _ _)) both)
 
 returns : tie.Need-returns invariant-loop decreases-loop
 unfolding row_clauses
-returns c = walks_same (words-rows _ _) (turned _ _ _ c.before.loop.invariant c.loop-test.false)
+returns c = walks_same (words-rows _ _) (turned _ _ _ c.loop-k.invariant c.loop-k-test.false)
 
-pub count-row-spec : {M : Type 1} → statement M
-count-row-spec =
+pub count_row_spec : {M : Type 1} → statement M
+count_row_spec =
     tie.close
     (tie.spec
     invariant-loop
@@ -60,11 +60,11 @@ count-row-spec =
     (λ c. ahead-start _ _ _ _)
     (λ c. omega (arith, below c, (inside c).few))
     (λ c. omega (arith, below c, (inside c).few))
-    (λ c. omega (arith, below c.before, (start c.before).pre.3.room))
+    (λ c. omega (arith, below c.before, (start c.before).requires.3.room))
     (λ c κs. let t = c.before.before in (inside t, (start t).requires.3.known _ (below t)))
     (λ c κs. inside c.before.before.before.before.before)
     (λ c. let t = c.before.before.before.before.before.before.before in omega (arith, (inside t).few, (inside t).place))
-    (λ c. let t = c.before.before.before.before.before.before.before in omega (arith, t.loop-test.true))
+    (λ c. let t = c.before.before.before.before.before.before.before in omega (arith, t.loop-k-test.true))
     loop-again
-    (λ c. c.before.loop.invariant.size)
+    (λ c. c.loop-k.invariant.size)
     returns)

@@ -10,8 +10,8 @@ use Rattle.formula.proofs.counting.count_variable.Tie as tie
 rows : (s : tie.Start) → s.args.j * s.args.c.spare ≤ 9216
 rows s = mul-le-mul {n₂ = 96} {m₂ = 96} (omega (arith, s.requires.row, s.requires.few)) (omega (arith, s.requires.few))
 
-pub count-variable-spec : {M : Type 1} → statement M
-count-variable-spec =
+pub count_variable_spec : {M : Type 1} → statement M
+count_variable_spec =
     tie.close
     (tie.spec
     (λ c. omega (arith, rows c.before))

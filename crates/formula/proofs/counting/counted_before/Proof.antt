@@ -9,25 +9,25 @@ use Rattle.clauses.proofs.Laws.{walks_same, walks-nothing, walks-length, only-tr
 use Rattle.formula.proofs.counting.counted_before.Statement.{statement}
 use Rattle.formula.proofs.counting.counted_before.Tie as tie
 
-count-variable-requires : tie.Need-count-variable-requires
+count-variable-requires : tie.Need-count_variable-requires
 count-variable-requires c κs =
-    let p = c.before.before.requires in
+    let p = c.requires in
     record { start = p.start; few = p.few; row = omega (arith, p.row); place = p.place }
 
-returns : tie.Need-returns
+returns : tie.Need-returns-then-j-gt0
 returns c =
     let d = c.before in
     let v = d.before.before in
-    let literal = ap (λ (x : ℕ). one (not' x)) v.count-variable.ensures.0 in
-    walks_same (literal ∙ sym (only-true _ (lt-ltb _ _ v.before.if1.true))) d.deny.ensures
+    let literal = ap (λ (x : ℕ). one (not' x)) v.count_variable.ensures.0 in
+    walks_same (literal ∙ sym (only-true _ (lt-ltb _ _ v.if-j-gt0.true))) d.deny.ensures
 
-pub counted-before-spec : {M : Type 1} → statement M
-counted-before-spec =
+pub counted_before_spec : {M : Type 1} → statement M
+counted_before_spec =
     tie.close
     (tie.spec
-    (λ c. omega (arith, c.if1.true))
+    (λ c. omega (arith, c.if-j-gt0.true))
     count-variable-requires
-    (λ c κs. c.before.count-variable.ensures.1)
+    (λ c κs. c.count_variable.ensures.1)
     (λ c. walks-length (returns c))
     returns
-    (λ c. walks-nothing (only-false _ (le-ltb _ _ c.if1.false))))
+    (λ c. walks-nothing (only-false _ (le-ltb _ _ c.if-j-gt0.false))))

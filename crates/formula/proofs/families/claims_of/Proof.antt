@@ -50,53 +50,53 @@ behind-all base n x r runs {y} e f g =
     ∙ ap (λ (z : ℕ). words_of (map (λ s. not' x ∷ one (is (z + s))) ss)) e
     ∙ simp add_assoc
 
-abbrev invariant-loop : tie.invariant-loop
+abbrev invariant-loop : tie.invariant-loop-k
 invariant-loop r runs values out₀ base claims at end next₀ k₀ out next k =
     Ahead values (behind (base + r) claims runs end at) (behind (base + r) claims runs end k) next₀ out₀ next out
 
-abbrev decreases-loop : tie.decreases-loop
+abbrev decreases-loop : tie.decreases-loop-k
 decreases-loop r runs values out₀ base claims at end next₀ k₀ out next k = end - k
 
 -- the run's entry lies in the table
-module _ (c : tie.After-size-of invariant-loop decreases-loop) where
+module _ (c : tie.After-size_of invariant-loop decreases-loop) where
   abbrev start : tie.Start invariant-loop decreases-loop
   start = c.before.before.before.before.before
 
-  inside : c.before.start_of_lem.result + c.type_size.result ≤ train_bytes
-  inside = let p = start.pre in omega (arith, p.1, p.2, p.4, c.type_size.ensures.0, c.before.start_of_lem.ensures)
+  inside : c.start_of_lem.result + c.type_size.result ≤ train_bytes
+  inside = let p = start.requires in omega (arith, p.1, p.2, p.4, c.type_size.ensures.0, c.start_of_lem.ensures)
 
-loop-again : tie.Need-loop-preserved invariant-loop decreases-loop
+loop-again : tie.Need-loop-k-preserved invariant-loop decreases-loop
 unfolding segment_of
 loop-again c =
     let i = c.before.before.before.before.before in
     let z = i.before.before in
     let a = (start z).args in
     let x = a.t.base + a.r in
-    let y = z.before.before.claims-from.result in
-    let segment = ap (λ (d : ℕ). words_of (one (clause x y (d / 2)))) c.before.before.before.wide.ensures.0 in
-    let ahead = ahead-same (behind-next x y _ _ _ i.loop-test.true (omega (arith, inside z, (start z).requires.3))) i.before.loop.invariant in
-    ahead-pass ahead (walks_same segment c.before.implies.ensures)
+    let y = z.claims_from-claims.result in
+    let segment = ap (λ (d : ℕ). words_of (one (clause x y (d / 2)))) c.wide.ensures.0 in
+    let ahead = ahead-same (behind-next x y _ _ _ i.loop-k-test.true (omega (arith, inside z, (start z).requires.3))) i.loop-k.invariant in
+    ahead-pass ahead (walks_same segment c.implies-next.ensures)
 
 returns : tie.Need-returns invariant-loop decreases-loop
 returns c =
     let z = c.before.before in
     let a = (start z).args in
-    let all = behind-all a.t.base a.t.runs (a.t.base + a.r) a.r a.runs.now z.before.before.claims-from.ensures
-    z.before.start_of_lem.ensures z.type_size.ensures.0 in
-    walks_same all (ahead-done (ahead-same (behind-end _ _ _ _ _ c.loop-test.false) c.before.loop.invariant))
+    let all = behind-all a.t.base a.t.runs (a.t.base + a.r) a.r a.runs.now z.claims_from-claims.ensures
+    z.start_of_lem.ensures z.type_size.ensures.0 in
+    walks_same all (ahead-done (ahead-same (behind-end _ _ _ _ _ c.loop-k-test.false) c.loop-k.invariant))
 
-pub claims-of-spec : {M : Type 1} → statement M
-claims-of-spec =
+pub claims_of_spec : {M : Type 1} → statement M
+claims_of_spec =
     tie.close
     (tie.spec
     invariant-loop
     decreases-loop
     (λ c κs. omega arith)
     (λ c κs. omega arith)
-    (λ c κs. (omega arith, c.before.before.before.before.requires.3))
+    (λ c κs. (omega arith, c.requires.3))
     (λ c. omega (arith, inside c))
     (λ c. ahead-start _ _ _ _)
-    (λ c. let i = c.before in omega (arith, inside i.before.before, (start i.before.before).pre.3, i.loop-test.true))
+    (λ c. let i = c.before in omega (arith, inside i.before.before, (start i.before.before).requires.3, i.loop-k-test.true))
     (λ c κs. search rules)
     (λ c. omega arith)
     (λ c. omega arith)
@@ -104,5 +104,5 @@ claims-of-spec =
     (λ c. omega arith)
     (λ c. omega arith)
     loop-again
-    (λ c. c.before.loop.invariant.size)
+    (λ c. c.loop-k.invariant.size)
     returns)

@@ -10,10 +10,10 @@ use Rattle.formula.proofs.families.clause_e.Statement.{statement}
 use Rattle.formula.proofs.families.clause_e.Tie as tie
 
 -- where its first literal was passed
-abbrev denied : tie.After-out4 → tie.After-deny
+abbrev denied : tie.After-out-4-1 → tie.After-deny-first
 denied c = c.before.before.before.before.before.before.before.before.before.before.before
 
-abbrev start : tie.After-deny → tie.Start
+abbrev start : tie.After-deny-first → tie.Start
 start d = d.before.before.before.before.before
 
 returns : tie.Need-returns
@@ -24,12 +24,12 @@ returns c f h =
     let g = v.before.before in
     let d = denied c in
     let a = (start d).args in
-    let gone = walks_same (ap (λ (k : ℕ). only a.leaves (one (is k))) v.gone-variable.ensures) l.affirm-if.ensures in
-    let literals = walks-behind d.deny.ensures (walks-behind (g.followers.ensures f h) gone) in
+    let gone = walks_same (ap (λ (k : ℕ). only a.leaves (one (is k))) v.gone_variable.ensures) l.affirm_if-all.ensures in
+    let literals = walks-behind d.deny-first.ensures (walks-behind (g.followers-runs.ensures f h) gone) in
     walks_same (words-one _) (walks-behind literals q.close.ensures)
 
-pub clause-e-spec : {M : Type 1} → statement M
-clause-e-spec =
+pub clause_e_spec : {M : Type 1} → statement M
+clause_e_spec =
     tie.close
     (tie.spec
     (λ c. search rules)

@@ -26,24 +26,24 @@ clauses base r n run = map (λ s. not' (base + r) ∷ one (is (base + (n + 1 + s
 abbrev words : ℕ → ℕ → Bytes → ℕ → List ℤ
 words base n runs r = words_of (clauses base r n (run_held runs r))
 
-abbrev invariant-loop : tie.invariant-loop
+abbrev invariant-loop : tie.invariant-loop-r
 invariant-loop t runs values out₀ n next₀ r₀ out next r =
     Ahead values (each (range 0 n) (words t.base n runs)) (each (range r n) (words t.base n runs)) next₀ out₀ next out
 
-abbrev decreases-loop : tie.decreases-loop
+abbrev decreases-loop : tie.decreases-loop-r
 decreases-loop t runs values out₀ n next₀ r₀ out next r = n - r
 
-claims-of-requires : tie.Need-claims-of-requires invariant-loop decreases-loop
+claims-of-requires : tie.Need-claims_of-next-requires invariant-loop decreases-loop
 claims-of-requires c κs =
     let i = c.before in
-    let p = i.before.before.before.before.requires in
+    let p = i.requires in
     let n = p.0.runs in
-    (p.0.small, few-n p.1 _ n, i.loop-test.true, p.1.long, sizes-n p.1 _ n _ i.loop-test.true)
+    (p.0.small, few-n p.1 _ n, i.loop-r-test.true, p.1.long, sizes-n p.1 _ n _ i.loop-r-test.true)
 
-loop-again : tie.Need-loop-preserved invariant-loop decreases-loop
+loop-again : tie.Need-loop-r-preserved invariant-loop decreases-loop
 loop-again c =
     let i = c.before.before.before in
-    turn _ _ _ i.before.loop.invariant i.loop-test.true c.before.claims-of.ensures
+    turn _ _ _ i.loop-r.invariant i.loop-r-test.true c.claims_of-next.ensures
 
 returns : tie.Need-returns invariant-loop decreases-loop
 unfolding clauses_g claims_g instance_of compile
@@ -53,18 +53,18 @@ returns c =
     let n = s.requires.0.runs in
     let row = words-range _ (claims_g (instance_of (held s.args.b)) t.train t.base) t.runs _ n
     (λ r m. ap₂ (clauses t.base r) n (runs-n s.requires.1 _ n r m)) in
-    walks_same row (turned _ _ _ c.before.loop.invariant c.loop-test.false)
+    walks_same row (turned _ _ _ c.loop-r.invariant c.loop-r-test.false)
 
-pub clauses-g-spec : {M : Type 1} → statement M
-clauses-g-spec =
+pub clauses_g_spec : {M : Type 1} → statement M
+clauses_g_spec =
     tie.close
     (tie.spec
     invariant-loop
     decreases-loop
     (λ c. ahead-start _ _ _ _)
     claims-of-requires
-    (λ c. omega (arith, c.before.before.before.loop-test.true))
-    (λ c. omega (arith, c.before.before.before.loop-test.true))
+    (λ c. omega (arith, c.loop-r-test.true))
+    (λ c. omega (arith, c.loop-r-test.true))
     loop-again
-    (λ c. c.before.loop.invariant.size)
+    (λ c. c.loop-r.invariant.size)
     returns)

@@ -11,11 +11,11 @@ use Rattle.formula.proofs.Meeting.{meeting-same, behind, behind-next, behind-end
 use Rattle.formula.proofs.families.clauses_h.Statement.{statement}
 use Rattle.formula.proofs.families.clauses_h.Tie as tie
 
-abbrev invariant-loop : tie.invariant-loop
+abbrev invariant-loop : tie.invariant-loop-at
 invariant-loop meets values out₀ claims end next₀ at₀ out next at =
     (at ≤ end) × Ahead values (behind claims meets 0) (behind claims meets at) next₀ out₀ next out
 
-abbrev decreases-loop : tie.decreases-loop
+abbrev decreases-loop : tie.decreases-loop-at
 decreases-loop meets values out₀ claims end next₀ at₀ out next at = end - at
 
 -- the claims leave room for all literals
@@ -24,33 +24,33 @@ small s =
     let h = s.requires.0 in
     omega (arith, h.small, runs-small s.args.b h.passed s.args.t.train h.known _ h.runs)
 
-claims-small : (c : tie.After-claims-from invariant-loop decreases-loop) → c.claims-from.result < 900000257
-claims-small c = omega (arith, c.claims-from.ensures, small c.before.before.before)
+claims-small : (c : tie.After-claims_from-claims invariant-loop decreases-loop) → c.claims_from-claims.result < 900000257
+claims-small c = omega (arith, c.claims_from-claims.ensures, small c.before.before.before)
 
-loop-again : tie.Need-loop-preserved invariant-loop decreases-loop
+loop-again : tie.Need-loop-at-preserved invariant-loop decreases-loop
 loop-again c =
     let w = c.before.before.before in
     let v = w.before.before in
     let u = v.before.before in
     let i = u.before.before in
     let f = i.before.before in
-    let y = f.claims-from.result in
-    let meets = f.before.before.before.args.meets.now in
-    let same-words = meeting-same y v.wide2.ensures.0 u.wide.ensures.0 w.wide3.ensures.0 in
-    let ahead = ahead-same (behind-next y meets _ i.loop-test.true) i.before.loop.invariant.1 in
-    (omega (arith, i.loop-test.true), ahead-pass ahead (walks_same same-words c.before.implies-either.ensures))
+    let y = f.claims_from-claims.result in
+    let meets = f.args.meets.now in
+    let same-words = meeting-same y v.wide-in-loop-at.ensures.0 u.wide.ensures.0 w.wide-in-loop-at-2.ensures.0 in
+    let ahead = ahead-same (behind-next y meets _ i.loop-at-test.true) i.loop-at.invariant.1 in
+    (omega (arith, i.loop-at-test.true), ahead-pass ahead (walks_same same-words c.implies_either-next.ensures))
 
 returns : tie.Need-returns invariant-loop decreases-loop
 returns c =
     let f = c.before.before in
     let s = f.before.before.before in
     let meets = s.args.meets.now in
-    let passed = ahead-done (ahead-same (behind-end _ meets _ c.loop-test.false) c.before.loop.invariant.1) in
+    let passed = ahead-done (ahead-same (behind-end _ meets _ c.loop-at-test.false) c.loop-at.invariant.1) in
     let all = behind-all _ s.args.t.train s.args.t.base _ meets s.requires.0.runs s.requires.1 in
-    walks_same (ap (λ (y : ℕ). behind y meets 0) f.claims-from.ensures ∙ all) passed
+    walks_same (ap (λ (y : ℕ). behind y meets 0) f.claims_from-claims.ensures ∙ all) passed
 
-pub clauses-h-spec : {M : Type 1} → statement M
-clauses-h-spec =
+pub clauses_h_spec : {M : Type 1} → statement M
+clauses_h_spec =
     tie.close
     (tie.spec
     invariant-loop
@@ -74,5 +74,5 @@ clauses-h-spec =
     (λ c. omega arith)
     (λ c. omega arith)
     loop-again
-    (λ c. c.before.loop.invariant.1.size)
+    (λ c. c.loop-at.invariant.1.size)
     returns)

@@ -14,19 +14,19 @@ use Rattle.formula.proofs.families.clauses_i.Tie as tie
 abbrev words : ℕ → ℕ → ℕ → List ℤ
 words lower higher s = words_of (one (not' (lower + s) ∷ one (not' (higher + s))))
 
-abbrev invariant-loop : tie.invariant-loop
+abbrev invariant-loop : tie.invariant-loop-s
 invariant-loop lower higher n values out₀ next₀ s₀ out next s =
     Ahead values (each (range 0 n) (words lower higher)) (each (range s n) (words lower higher)) next₀ out₀ next out
 
-abbrev decreases-loop : tie.decreases-loop
+abbrev decreases-loop : tie.decreases-loop-s
 decreases-loop lower higher n values out₀ next₀ s₀ out next s = n - s
 
 returns : tie.Need-returns invariant-loop decreases-loop
 unfolding clauses_i
-returns c = walks_same (words_row _ _) (turned _ _ _ c.before.loop.invariant c.loop-test.false)
+returns c = walks_same (words_row _ _) (turned _ _ _ c.loop-s.invariant c.loop-s-test.false)
 
-pub clauses-i-spec : {M : Type 1} → statement M
-clauses-i-spec =
+pub clauses_i_spec : {M : Type 1} → statement M
+clauses_i_spec =
     tie.close
     (tie.spec
     invariant-loop
@@ -37,6 +37,6 @@ clauses-i-spec =
     (λ c κs. (omega arith, omega arith))
     (λ c. omega arith)
     (λ c. omega arith)
-    (λ c. let t = c.before.before.before in turn _ _ _ t.before.loop.invariant t.loop-test.true c.before.not-both.ensures)
-    (λ c. c.before.loop.invariant.size)
+    (λ c. let t = c.before.before.before in turn _ _ _ t.loop-s.invariant t.loop-s-test.true c.not_both-next.ensures)
+    (λ c. c.loop-s.invariant.size)
     returns)

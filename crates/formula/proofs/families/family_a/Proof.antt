@@ -30,36 +30,36 @@ clauses b n =
 abbrev words : BookStruct → ℕ → List ℤ
 words b n = words_of (clauses b n)
 
-abbrev invariant-loop : tie.invariant-loop
+abbrev invariant-loop : tie.invariant-loop-node
 invariant-loop values out₀ b n next₀ node₀ out next node =
     Ahead values (each (range 0 n) (words b)) (each (range node n) (words b)) next₀ out₀ next out
 
-abbrev decreases-loop : tie.decreases-loop
+abbrev decreases-loop : tie.decreases-loop-node
 decreases-loop values out₀ b n next₀ node₀ out next node = n - node
 
-loop-again : tie.Need-loop-preserved invariant-loop decreases-loop
+loop-again : tie.Need-loop-node-preserved invariant-loop decreases-loop
 loop-again c =
     let f = c.before.before.before in
     let n = f.before.before in
     let t = n.before.before.before.before in
-    let below = t.loop-test.true in
-    let b = t.before.before.before.args.t1 in
-    let i = t.before.loop.node in
+    let below = t.loop-node-test.true in
+    let b = t.args.b in
+    let i = t.loop-node.node in
     let d = n.before.before in
-    let denied = ap (λ (x : Bool). words_of (only x (one (one (not' i))))) (denied-held b i below d.denies-border.ensures) in
-    let forced = ap (λ (x : Bool). words_of (only x (one (one (is i))))) (forced-held b i below f.forces-border.ensures) in
-    let both = walks-behind (walks_same denied n.unit-not-if.ensures) (walks_same forced c.before.unit-is-if.ensures) in
-    turn _ _ _ t.before.loop.invariant below (walks_same (sym (words_append _ _)) both)
+    let denied = ap (λ (x : Bool). words_of (only x (one (one (not' i))))) (denied-held b i below d.denies_border.ensures) in
+    let forced = ap (λ (x : Bool). words_of (only x (one (one (is i))))) (forced-held b i below f.forces_border.ensures) in
+    let both = walks-behind (walks_same denied n.unit_not_if-next.ensures) (walks_same forced c.unit_is_if-next.ensures) in
+    turn _ _ _ t.loop-node.invariant below (walks_same (sym (words_append _ _)) both)
 
 returns : tie.Need-returns invariant-loop decreases-loop
 unfolding family_a border_var instance_of compile
 returns c =
     let s = c.before.before.before in
     let nodes = sym (nodes-counted s.requires.packed) in
-    walks_same (words-range _ (clauses s.args.t1) _ _ nodes (λ k h. refl)) (turned _ _ _ c.before.loop.invariant c.loop-test.false)
+    walks_same (words-range _ (clauses s.args.b) _ _ nodes (λ k h. refl)) (turned _ _ _ c.loop-node.invariant c.loop-node-test.false)
 
-pub family-a-spec : {M : Type 1} → statement M
-family-a-spec =
+pub family_a_spec : {M : Type 1} → statement M
+family_a_spec =
     tie.close
     (tie.spec
     invariant-loop
@@ -73,5 +73,5 @@ family-a-spec =
     (λ c. omega arith)
     (λ c. omega arith)
     loop-again
-    (λ c. c.before.loop.invariant.size)
+    (λ c. c.loop-node.invariant.size)
     returns)

@@ -27,45 +27,45 @@ use Rattle.formula.proofs.families.servers.Tie as tie
 abbrev words : BookStruct → Call → Bytes → ℕ → ℕ → ℕ → List ℤ
 words b c runs l base r = only (place_serves (held b) c (place_at runs (end_at runs r l) l)) (one (is (base + r)))
 
-abbrev invariant-loop : tie.invariant-loop
+abbrev invariant-loop : tie.invariant-loop-r
 invariant-loop b number c runs values out₀ base n l next₀ r₀ out next r =
     Ahead values (each (range 0 n) (words b c runs l base)) (each (range r n) (words b c runs l base)) next₀ out₀ next out
 
-abbrev decreases-loop : tie.decreases-loop
+abbrev decreases-loop : tie.decreases-loop-r
 decreases-loop b number c runs values out₀ base n l next₀ r₀ out next r = n - r
 
 -- a turn's run
-module _ (c : tie.In-loop invariant-loop decreases-loop) where
+module _ (c : tie.In-loop-r invariant-loop decreases-loop) where
   abbrev start : tie.Start invariant-loop decreases-loop
   start = c.before.before.before.before
 
   abbrev r : ℕ
-  r = c.before.loop.r
+  r = c.loop-r.r
 
   below : r < 256
-  below = omega (arith, c.loop-test.true, few-n start.pre.2 _ start.pre.0.runs)
+  below = omega (arith, c.loop-r-test.true, few-n start.requires.2 _ start.requires.0.runs)
 
   small : start.args.t.base + r < literal_room
-  small = omega (arith, below, start.pre.0.small)
+  small = omega (arith, below, start.requires.0.small)
 
   least : start.args.t.length ≤ size_at start.args.runs.now r
-  least = least-n start.pre.2 _ start.pre.0.runs _ start.pre.0.length r c.loop-test.true
+  least = least-n start.requires.2 _ start.requires.0.runs _ start.requires.0.length r c.loop-r-test.true
 
-serves-requires : tie.Need-serves-requires invariant-loop decreases-loop
+serves-requires : tie.Need-serves-served-requires invariant-loop decreases-loop
 serves-requires c κs =
     let i = c.before in
     let p = (start i).requires in
-    let most = sizes-n p.2 _ p.0.runs _ i.loop-test.true in
+    let most = sizes-n p.2 _ p.0.runs _ i.loop-r-test.true in
     end-inside _ _ _ _ p.2.long (below i) (least i) most c.end_of.ensures
 
-loop-again : tie.Need-loop-preserved invariant-loop decreases-loop
+loop-again : tie.Need-loop-r-preserved invariant-loop decreases-loop
 loop-again c =
     let s = c.before.before.before in
     let i = s.before.before in
     let a = (start i).args in
-    let place = ap (λ (k : ℕ). place_serves (held a.b) a.c (place_at a.runs.now k a.t.length)) s.before.end_of.ensures in
-    let same-words = ap (λ (x : Bool). only x (one (is (a.t.base + r i)))) (s.serves.ensures ∙ place) in
-    turn _ _ _ i.before.loop.invariant i.loop-test.true (walks_same same-words c.before.affirm-if.ensures)
+    let place = ap (λ (k : ℕ). place_serves (held a.b) a.c (place_at a.runs.now k a.t.length)) s.end_of.ensures in
+    let same-words = ap (λ (x : Bool). only x (one (is (a.t.base + r i)))) (s.serves-served.ensures ∙ place) in
+    turn _ _ _ i.loop-r.invariant i.loop-r-test.true (walks_same same-words c.affirm_if-next.ensures)
 
 returns : tie.Need-returns invariant-loop decreases-loop
 unfolding servers_f
@@ -74,14 +74,14 @@ returns c =
     let a = s.args in
     let h = s.requires.0 in
     let place = ending-n s.requires.2 _ h.runs _ h.length in
-    let serves : ℕ → Bool = (instance_of (held a.b)).serves a.t.train a.number in
+    let serves : ℕ → Bool = (instance_of (held a.b)).serves-served a.t.train a.number in
     let row = each-range _ (λ r. only (serves r) (one (is (a.t.base + r)))) a.t.runs _ h.runs
     (λ r m. ap (λ (x : Bool). only x (one (is (a.t.base + r))))
     (serves-answer a.b a.t.train r h.length a.number s.requires.1 (place r m) refl)) in
-    walks_same row (turned _ _ _ c.before.loop.invariant c.loop-test.false)
+    walks_same row (turned _ _ _ c.loop-r.invariant c.loop-r-test.false)
 
-pub servers-spec : {M : Type 1} → statement M
-servers-spec =
+pub servers_spec : {M : Type 1} → statement M
+servers_spec =
     tie.close
     (tie.spec
     invariant-loop
@@ -92,7 +92,7 @@ servers-spec =
     (λ c. omega (arith, small c.before.before))
     (λ c κs. omega (arith, small c.before.before.before))
     (λ c. omega (arith, below c.before.before.before.before.before))
-    (λ c. omega (arith, c.before.before.before.before.before.loop-test.true))
+    (λ c. omega (arith, c.loop-r-test.true))
     loop-again
-    (λ c. c.before.loop.invariant.size)
+    (λ c. c.loop-r.invariant.size)
     returns)

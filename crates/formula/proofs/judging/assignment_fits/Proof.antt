@@ -13,19 +13,19 @@ use Rattle.formula.proofs.judging.assignment_fits.Statement.{statement}
 use Rattle.formula.proofs.judging.assignment_fits.Tie as tie
 
 -- the number that the length is compared with
-count : (c : tie.After-variable-count) (n : ℕ)
-    → let a = c.before.before.args in
-    eqb n c.variable-count.result ≡ eqb n (variables (under (held_cap a.cap) (instance_of (held a.b))))
-count c n = ap (eqb n) c.variable-count.ensures.0
+count : (c : tie.After-variable_count) (n : ℕ)
+    → let a = c.args in
+    eqb n c.variable_count.result ≡ eqb n (variables (under (held_cap a.cap) (instance_of (held a.b))))
+count c n = ap (eqb n) c.variable_count.ensures.0
 
-returns : tie.Need-returns
+returns : tie.Need-returns-then-values-variable_count
 returns c =
     let v = c.before.before in
-    fits_bits _ _ (sym (count v _) ∙ eq-eqb _ _ c.before.if1.true) (c.all-below.ensures ∙ all-bits _)
+    fits_bits _ _ (sym (count v _) ∙ eq-eqb _ _ c.if-values-variable_count.true) (c.all_below.ensures ∙ all-bits _)
 
-returns-2 : tie.Need-returns-2
-returns-2 c = let e = ne_eqb _ _ c.if1.false in e ∙ fits-long _ _ (sym (count c.before _) ∙ e)
+returns-2 : tie.Need-returns-else-values-variable_count
+returns-2 c = let e = ne_eqb _ _ c.if-values-variable_count.false in e ∙ fits-long _ _ (sym (count c.before _) ∙ e)
 
-pub assignment-fits-spec : {M : Type 1} → statement M
-assignment-fits-spec =
+pub assignment_fits_spec : {M : Type 1} → statement M
+assignment_fits_spec =
     tie.close (tie.spec (λ c κs. search rules) (λ c κs. search rules) returns returns-2)

@@ -17,7 +17,7 @@ use Rattle.formula.proofs.judging.judge_assignment.Statement.{statement}
 use Rattle.formula.proofs.judging.judge_assignment.Tie as tie
 
 -- what the walk found
-module _ (c : tie.After-walk-formula) where
+module _ (c : tie.After-walk_formula-w) where
   abbrev start : tie.Start
   start = c.before.before.before.before.before.before.before.before
 
@@ -25,23 +25,23 @@ module _ (c : tie.After-walk-formula) where
   I = under (held_cap start.args.cap) (instance_of (held start.args.b))
 
   fits : assignment_fits I start.args.values.now ≡ true
-  fits = sym c.before.before.before.assignment-fits.ensures ∙ not-false _ c.before.before.if1.false
+  fits = sym c.assignment_fits.ensures ∙ not-false _ c.if-not-assignment_fits.false
 
-  found : c.walk-formula.result.wrong ≡ or_zero (first_false (assigned start.args.values.now) 1 (formula I))
+  found : c.walk_formula-w.result.wrong ≡ or_zero (first_false (assigned start.args.values.now) 1 (formula I))
   unfolding totals
   found =
-      let passed = start.pre.0.counted.passed in
-      ap (λ (w : Walk). w.wrong) (walk-totals start.args.b passed (held_cap start.args.cap) c.walk-formula.ensures)
+      let passed = start.requires.0.counted.passed in
+      ap (λ (w : Walk). w.wrong) (walk-totals start.args.b passed (held_cap start.args.cap) c.walk_formula-w.ensures)
 
-pub judge-assignment-spec : {M : Type 1} → statement M
-judge-assignment-spec =
+pub judge_assignment_spec : {M : Type 1} → statement M
+judge_assignment_spec =
     tie.close
     (tie.spec
     (λ c κs. search rules)
-    (λ c. answer-unfit _ _ (sym c.before.assignment-fits.ensures ∙ not-true _ c.if1.true))
+    (λ c. answer-unfit _ _ (sym c.assignment_fits.ensures ∙ not-true _ c.if-not-assignment_fits.true))
     (λ c. search rules)
     (λ c. search rules)
     (λ c. search rules)
     (λ c κs. search rules)
-    (λ c. let w = c.before.before.before in answer-false _ _ (fits w) _ (found w) c.if2.true)
-    (λ c. let w = c.before.before.before in answer-true _ _ (fits w) _ (found w) c.if2.false))
+    (λ c. let w = c.before.before.before in answer-false _ _ (fits w) _ (found w) c.if-w-ne0.true)
+    (λ c. let w = c.before.before.before in answer-true _ _ (fits w) _ (found w) c.if-w-ne0.false))

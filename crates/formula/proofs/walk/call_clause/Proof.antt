@@ -12,8 +12,8 @@ use Rattle.formula.proofs.walk.call_clause.Statement.{statement}
 use Rattle.formula.proofs.walk.call_clause.Tie as tie
 
 -- whether the call is served at the departure
-module _ (c : tie.After-served-at-departure) where
-  abbrev call : tie.After-call-at
+module _ (c : tie.After-served_at_departure) where
+  abbrev call : tie.After-call_at-c
   call = c.before.before
 
   abbrev start : tie.Start
@@ -22,20 +22,20 @@ module _ (c : tie.After-served-at-departure) where
   abbrev train : ℕ
   train = start.args.first.train
 
-  answer : c.served-at-departure.result ≡ served_at_departure (instance_of (held start.args.t1)) train start.args.number
+  answer : c.served_at_departure.result ≡ served_at_departure (instance_of (held start.args.b)) train start.args.number
   answer =
       let a = start.args in
-      let k = start.pre.block.block in
-      departure-answer a.t1 train a.number call.call_at.ensures k.passed k.known c.served-at-departure.ensures
+      let k = start.requires.block.block in
+      departure-answer a.t1 train a.number call.call_at-c.ensures k.passed k.known c.served_at_departure.ensures
 
-returns-2 : tie.Need-returns-2
+returns-2 : tie.Need-returns
 returns-2 c =
     let r = c.before.before.before.before in
     let e = r.before.before in
-    walks_same (words_open _ _ _ (sym (answer e.before) ∙ e.if1.false)) (walks-behind r.call-runs.ensures c.before.close.ensures)
+    walks_same (words_open _ _ _ (sym (answer e.before) ∙ e.if-served_at_departure.false)) (walks-behind r.call_runs-all.ensures c.close.ensures)
 
-pub call-clause-spec : {M : Type 1} → statement M
-call-clause-spec =
+pub call_clause_spec : {M : Type 1} → statement M
+call_clause_spec =
     tie.close
     (tie.spec
     (λ c κs. search rules)
@@ -44,8 +44,8 @@ call-clause-spec =
     (λ c κs.
     let s = c.before.before.before.before in
     let k = s.requires.block.block in
-    size_small s.args.t1 k.passed s.args.first.train k.known)
-    (λ c. walks-nothing (words-served _ _ _ (sym (answer c.before) ∙ c.if1.true)))
+    size_small s.args.b k.passed s.args.first.train k.known)
+    (λ c. walks-nothing (words-served _ _ _ (sym (answer c.before) ∙ c.if-served_at_departure.true)))
     (λ c κs. search rules)
     (λ c κs. search rules)
     (λ c. search rules)

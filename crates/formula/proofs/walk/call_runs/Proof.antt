@@ -35,66 +35,66 @@ came-to {values} {ls} {w} {v} {v'} {out} {o} e f h =
 abbrev words : BookStruct → ℕ → ℕ → ℕ → List ℤ
 words b i c t = only (in_window (instance_of (held b)) i c (t + 1)) (servers_f (instance_of (held b)) i c (base (instance_of (held b)) i t))
 
-abbrev invariant-loop : tie.invariant-loop
+abbrev invariant-loop : tie.invariant-loop-interval
 invariant-loop first number c runs values out₀ b train intervals next₀ interval₀ out next interval =
     Ahead values (each (range interval₀ intervals) (words b train number)) (each (range interval intervals) (words b train number))
     next₀ out₀ next out
 
-abbrev decreases-loop : tie.decreases-loop
+abbrev decreases-loop : tie.decreases-loop-interval
 decreases-loop first number c runs values out₀ b train intervals next₀ interval₀ out next interval = intervals - interval
 
 -- the train
 module _ (s : tie.Start invariant-loop decreases-loop) where
-  abbrev block : BlockHeld s.args.t1 s.args.first
+  abbrev block : BlockHeld s.args.b s.args.first
   block = s.requires.0.block.block
 
   few : s.args.first.train < 8
-  few = few-trains s.args.t1 block.passed s.args.first.train block.known
+  few = few-trains s.args.b block.passed s.args.first.train block.known
 
 -- what holds of an interval
-module _ (c : tie.In-loop invariant-loop decreases-loop) where
+module _ (c : tie.In-loop-interval invariant-loop decreases-loop) where
   abbrev start : tie.Start invariant-loop decreases-loop
   start = c.before.before.before.before
 
   abbrev t : ℕ
-  t = c.before.loop.interval
+  t = c.loop-interval.interval
 
   below : t < 65536
-  below = omega (arith, c.loop-test.true, (block start).passed.packed.numbers.intervals)
+  below = omega (arith, c.loop-interval-test.true, (block start).passed.packed.numbers.intervals)
 
-servers-requires : tie.Need-servers-requires invariant-loop decreases-loop
+servers-requires : tie.Need-servers-next-requires invariant-loop decreases-loop
 servers-requires c κs =
     let v = c.before in
     let s = start v.before.before.before in
     let a = s.args in
-    let k = v.block_at.ensures.0 in (
+    let k = v.block_at-t.ensures.0 in (
       k.block,
-      of-block (λ i. a.c ≡ call_at (held a.t1) i a.number) k s.pre.1,
-      of-block (λ i. RunsHeld (held a.t1) i a.runs.now) k s.pre.0.table,
+      of-block (λ i. a.c ≡ call_at (held a.t1) i a.number) k s.requires.1,
+      of-block (λ i. RunsHeld (held a.t1) i a.runs.now) k s.requires.0.table,
     )
 
 -- a turn passes the runs of its interval, or nothing where its time is not in the call's window
-module _ (c : tie.Joined1 invariant-loop decreases-loop) where
-  abbrev inner : tie.In-loop invariant-loop decreases-loop
+module _ (c : tie.Joined-in_window invariant-loop decreases-loop) where
+  abbrev inner : tie.In-loop-interval invariant-loop decreases-loop
   inner = c.before.before
 
   abbrev given : tie.Start invariant-loop decreases-loop
   given = start inner
 
-  passed : Walks given.args.values.now (words given.args.t1 given.args.first.train given.args.number (t inner))
-      inner.before.loop.next inner.before.loop.out c.if1.next c.if1.out
+  passed : Walks given.args.values.now (words given.args.b given.args.first.train given.args.number (t inner))
+      inner.loop-interval.next inner.loop-interval.out-1 c.if-in_window.next c.if-in_window.out-1
   passed =
       let a = given.args in
       let I = instance_of (held a.t1) in
-      let answer = window-answer a.t1 a.first.train a.number given.pre.1 (t inner + 1) c.before.in_window.ensures in
+      let answer = window-answer a.t1 a.first.train a.number given.requires.1 (t inner + 1) c.in_window.ensures in
       ⊎_elim
       (λ w.
       let k = w.1.ensures.0 in
       let same-words = ap₂ (λ (i x : ℕ). servers_f I i a.number x) k.train k.base
-      ∙ sym (only-true _ (sym answer ∙ w.0.taken)) in
+      ∙ sym (only-true _ (sym answer ∙ w.0.true)) in
       came-to w.6 w.5 (walks_same same-words w.3.ensures))
       (λ w. came-to w.2 w.1 (walks-nothing (only-false _ (sym answer ∙ w.0.left))))
-      c.if1.branch
+      c.if-in_window.branch
 
 returns : tie.Need-returns invariant-loop decreases-loop
 unfolding call_runs
@@ -104,10 +104,10 @@ returns c =
     walks_same (ap₂ (λ (d z : ℕ). each (range d z) (words a.t1 a.first.train a.number))
     (departs-here a.t1 (block s).passed a.first.train (block s).known)
     (sym (intervals-is a.t1 (block s).passed)))
-    (turned _ _ _ c.before.loop.invariant c.loop-test.false)
+    (turned _ _ _ c.loop-interval.invariant c.loop-interval-test.false)
 
-pub call-runs-spec : {M : Type 1} → statement M
-call-runs-spec =
+pub call_runs_spec : {M : Type 1} → statement M
+call_runs_spec =
     tie.close
     (tie.spec
     invariant-loop
@@ -117,10 +117,10 @@ call-runs-spec =
     (λ c. ahead-start _ _ _ _)
     (λ c. omega (arith, below c))
     (λ c κs. search rules)
-    (λ c κs. let i = c.before.before in ((start i).requires.0.block, omega (arith, i.loop-test.true)))
+    (λ c κs. let i = c.before.before in ((start i).requires.0.block, omega (arith, i.loop-interval-test.true)))
     servers-requires
     (λ c. omega (arith, below c.before.before))
-    (λ c. omega (arith, c.before.before.loop-test.true))
-    (λ c. turn _ _ _ (inner c).before.loop.invariant (inner c).loop-test.true (passed c))
-    (λ c. c.before.loop.invariant.size)
+    (λ c. omega (arith, c.loop-interval-test.true))
+    (λ c. turn _ _ _ (inner c).loop-interval.invariant (inner c).loop-interval-test.true (passed c))
+    (λ c. c.loop-interval.invariant.size)
     returns)

@@ -6,14 +6,14 @@ use Rattle.formula.specs.Families.{to_by}
 use Rattle.formula.proofs.walk.end_interval.Statement.{statement}
 use Rattle.formula.proofs.walk.end_interval.Tie as tie
 
-returns-3 : tie.Need-returns-3
-returns-3 c = ap (λ (f : Family). to_by f c.before.before.args.d c.before.before.args.all) (sym c.enum-told3.given.1)
+returns-3 : tie.Need-returns-in-D
+returns-3 c = ap (λ (f : Family). to_by f c.args.d c.args.all) (sym c.in-D.is)
 
-returns-4 : tie.Need-returns-4
-returns-4 c = ap (λ (f : Family). to_by f c.before.before.args.d c.before.before.args.all) (sym c.enum-told4.given.1)
+returns-4 : tie.Need-returns-in-E
+returns-4 c = ap (λ (f : Family). to_by f c.args.d c.args.all) (sym c.in-E.is)
 
-pub end-interval-spec : {M : Type 1} → statement M
-end-interval-spec =
+pub end_interval_spec : {M : Type 1} → statement M
+end_interval_spec =
     tie.close
     (tie.spec
     (λ c. search rules)

@@ -17,11 +17,11 @@ returns c =
     let b = k.before.before.before in
     let start = b.before.before.before.before.before.before in
     let I : Instance = instance_of (held start.args.b) in
-    both _ _ (walks_same (ap words_of (shape-b I)) b.by-train.ensures)
-    (both _ _ (walks_same (ap words_of (shape-c I)) k.by-train2.ensures)
-    (walks_same (ap words_of (shape-d I)) d.by-train3.ensures))
+    both _ _ (walks_same (ap words_of (shape-b I)) b.by_train-wb.ensures)
+    (both _ _ (walks_same (ap words_of (shape-c I)) k.by_train-wc.ensures)
+    (walks_same (ap words_of (shape-d I)) d.by_train.ensures))
 
-pub families-b-to-d-spec : {M : Type 1} → statement M
-families-b-to-d-spec =
+pub families_b_to_d_spec : {M : Type 1} → statement M
+families_b_to_d_spec =
     tie.close
     (tie.spec (λ c κs. search rules) (λ c κs. search rules) (λ c κs. search rules) (λ c. walks-length (returns c)) returns)

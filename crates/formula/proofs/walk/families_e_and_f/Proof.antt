@@ -16,8 +16,8 @@ returns c =
     let e = f.before.before.before in
     let start = e.before.before.before.before.before.before in
     let I : Instance = instance_of (held start.args.b) in
-    both _ _ (walks_same (ap words_of (shape-e I)) e.by-train.ensures) f.family-f.ensures
+    both _ _ (walks_same (ap words_of (shape-e I)) e.by_train-we.ensures) f.family_f.ensures
 
-pub families-e-and-f-spec : {M : Type 1} → statement M
-families-e-and-f-spec =
+pub families_e_and_f_spec : {M : Type 1} → statement M
+families_e_and_f_spec =
     tie.close (tie.spec (λ c κs. search rules) (λ c κs. search rules) (λ c. walks-length (returns c)) returns)

@@ -10,7 +10,7 @@ use Rattle.formula.proofs.Groups.{both}
 use Rattle.formula.proofs.walk.families_g_to_i.Statement.{statement}
 use Rattle.formula.proofs.walk.families_g_to_i.Tie as tie
 
-family-i-requires : tie.Need-family-i-requires
+family-i-requires : tie.Need-family_i-requires
 family-i-requires c κs =
     let g = c.before.before.before.before.before in
     let start = g.before.before.before.before.before.before in
@@ -23,10 +23,10 @@ returns c =
     let g = h.before.before.before in
     let start = g.before.before.before.before.before.before in
     let I : Instance = instance_of (held start.args.b) in
-    both _ _ (walks_same (ap words_of (shape-g I)) g.by-train.ensures)
-    (both _ _ (walks_same (ap words_of (shape-h I)) h.by-train2.ensures) i.family-i.ensures)
+    both _ _ (walks_same (ap words_of (shape-g I)) g.by_train-wg.ensures)
+    (both _ _ (walks_same (ap words_of (shape-h I)) h.by_train-wh.ensures) i.family_i.ensures)
 
-pub families-g-to-i-spec : {M : Type 1} → statement M
-families-g-to-i-spec =
+pub families_g_to_i_spec : {M : Type 1} → statement M
+families_g_to_i_spec =
     tie.close
     (tie.spec (λ c κs. search rules) (λ c κs. search rules) family-i-requires (λ c. walks-length (returns c)) returns)

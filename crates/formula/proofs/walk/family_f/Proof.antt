@@ -26,33 +26,33 @@ clauses I i = each (up_to (I.calls i)) λ c. call_clauses I i c
 abbrev words : BookStruct → ℕ → List ℤ
 words b i = words_of (clauses (instance_of (held b)) i)
 
-abbrev invariant-loop : tie.invariant-loop
+abbrev invariant-loop : tie.invariant-loop-i
 invariant-loop b counts runs values out₀ trains next₀ i₀ out next i =
     Ahead values (each (range 0 trains) (words b)) (each (range i trains) (words b)) next₀ out₀ next out
 
-abbrev decreases-loop : tie.decreases-loop
+abbrev decreases-loop : tie.decreases-loop-i
 decreases-loop b counts runs values out₀ trains next₀ i₀ out next i = trains - i
 
 -- a turn's train
-module _ (c : tie.In-loop invariant-loop decreases-loop) where
+module _ (c : tie.In-loop-i invariant-loop decreases-loop) where
   abbrev start : tie.Start invariant-loop decreases-loop
   start = c.before.before.before.before
 
-  few : c.before.loop.i < 8
-  few = omega (arith, c.loop-test.true, start.pre.counted.passed.packed.counts.trains)
+  few : c.loop-i.i < 8
+  few = omega (arith, c.loop-i-test.true, start.requires.counted.passed.packed.counts.trains)
 
-train-calls-requires : tie.Need-train-calls-requires invariant-loop decreases-loop
+train-calls-requires : tie.Need-train_calls-next-requires invariant-loop decreases-loop
 train-calls-requires c κs =
     let v = c.before.before in
     let t = v.before in
-    train-ready (start t).requires t.before.loop.i t.loop-test.true v.train-block.ensures
+    train-ready (start t).requires t.loop-i.i t.loop-i-test.true v.train_block.ensures
 
-loop-again : tie.Need-loop-preserved invariant-loop decreases-loop
+loop-again : tie.Need-loop-i-preserved invariant-loop decreases-loop
 loop-again c =
     let v = c.before.before.before.before in
     let t = v.before in
-    turn _ _ _ t.before.loop.invariant t.loop-test.true
-    (walks_same (ap (words (start t).args.b) v.train-block.ensures.train) c.before.train-calls.ensures)
+    turn _ _ _ t.loop-i.invariant t.loop-i-test.true
+    (walks_same (ap (words (start t).args.b) v.train_block.ensures.train) c.train_calls-next.ensures)
 
 returns : tie.Need-returns invariant-loop decreases-loop
 returns c =
@@ -61,24 +61,24 @@ returns c =
     let row = words-rows (clauses I) _
     ∙ ap (λ (n : ℕ). words_of (each (up_to n) (clauses I))) (sym (trains-is s.args.b s.requires.counted.passed))
     ∙ ap words_of (shape-f I) in
-    walks_same row (turned _ _ _ c.before.loop.invariant c.loop-test.false)
+    walks_same row (turned _ _ _ c.loop-i.invariant c.loop-i-test.false)
 
-pub family-f-spec : {M : Type 1} → statement M
-family-f-spec =
+pub family_f_spec : {M : Type 1} → statement M
+family_f_spec =
     tie.close
     (tie.spec
     invariant-loop
     decreases-loop
     (λ c. ahead-start _ _ _ _)
     (λ c. omega (arith, few c))
-    (λ c κs. ((start c).requires.counted, c.loop-test.true))
+    (λ c κs. ((start c).requires.counted, c.loop-i-test.true))
     (λ c. omega (arith, few c.before))
     (λ c. omega (arith, few c.before))
-    (λ c. omega (arith, few c.before, (start c.before).pre.long))
-    (λ c. omega (arith, few c.before, (start c.before).pre.long))
+    (λ c. omega (arith, few c.before, (start c.before).requires.long))
+    (λ c. omega (arith, few c.before, (start c.before).requires.long))
     train-calls-requires
     (λ c. omega (arith, few c.before.before.before.before.before))
-    (λ c. omega (arith, c.before.before.before.before.before.loop-test.true))
+    (λ c. omega (arith, c.loop-i-test.true))
     loop-again
-    (λ c. c.before.loop.invariant.size)
+    (λ c. c.loop-i.invariant.size)
     returns)

@@ -28,32 +28,32 @@ intervals : (b : BookStruct) → Passed b → each (range 0 b.intervals) (words 
 intervals b p =
     ap (λ (n : ℕ). each (range 0 n) (words b)) (sym (intervals-is b p)) ∙ words-rows _ _ ∙ ap words_of (shape-i (instance_of (held b)))
 
-abbrev invariant-loop : tie.invariant-loop
+abbrev invariant-loop : tie.invariant-loop-t
 invariant-loop b counts values out₀ intervals next₀ t₀ out next t =
     Ahead values (each (range 0 intervals) (words b)) (each (range t intervals) (words b)) next₀ out₀ next out
 
-abbrev decreases-loop : tie.decreases-loop
+abbrev decreases-loop : tie.decreases-loop-t
 decreases-loop b counts values out₀ intervals next₀ t₀ out next t = intervals - t
 
-add-t : tie.Need-overflow-add-t invariant-loop decreases-loop
+add-t : tie.Need-overflow_add-t invariant-loop decreases-loop
 add-t c =
     let t = c.before.before.before in
-    omega (arith, t.loop-test.true, t.before.before.before.requires.passed.packed.numbers.intervals)
+    omega (arith, t.loop-t-test.true, t.requires.passed.packed.numbers.intervals)
 
 returns : tie.Need-returns invariant-loop decreases-loop
 returns c =
-    walks_same (intervals _ c.before.before.before.requires.passed) (turned _ _ _ c.before.loop.invariant c.loop-test.false)
+    walks_same (intervals _ c.requires.passed) (turned _ _ _ c.loop-t.invariant c.loop-t-test.false)
 
-pub family-i-spec : {M : Type 1} → statement M
-family-i-spec =
+pub family_i_spec : {M : Type 1} → statement M
+family_i_spec =
     tie.close
     (tie.spec
     invariant-loop
     decreases-loop
     (λ c. ahead-start _ _ _ _)
-    (λ c κs. (c.before.before.before.before.requires, c.before.loop-test.true))
+    (λ c κs. (c.requires, c.loop-t-test.true))
     add-t
-    (λ c. omega (arith, c.before.before.before.loop-test.true))
-    (λ c. let t = c.before.before.before in turn _ _ _ t.before.loop.invariant t.loop-test.true c.before.interval-pairs.ensures)
-    (λ c. c.before.loop.invariant.size)
+    (λ c. omega (arith, c.loop-t-test.true))
+    (λ c. let t = c.before.before.before in turn _ _ _ t.loop-t.invariant t.loop-t-test.true c.interval_pairs-next.ensures)
+    (λ c. c.loop-t.invariant.size)
     returns)

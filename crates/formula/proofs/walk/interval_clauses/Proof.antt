@@ -25,44 +25,44 @@ module _ (s : tie.Start) where
   told e = ap words (sym e)
 
   small : (s.args.t.runs ≤ 256) × (s.args.t.base + s.args.t.runs + 1 < literal_room)
-  small = let n = few-n s.pre.1 _ s.pre.0.runs in (n, omega (arith, s.pre.0.small))
+  small = let n = few-n s.requires.1 _ s.requires.0.runs in (n, omega (arith, s.requires.0.small))
 
-returns : tie.Need-returns
+returns : tie.Need-returns-in-B
 returns c =
     let f = c.before.before.before in
     let s = f.before.before.before.before.before.before in
     let same = ap (λ (n : ℕ). words_of (clauses_b n s.args.t.base)) s.requires.0.runs in
-    walks_same (same ∙ told s f.enum_told.given.1) c.before.clauses-b.ensures
+    walks_same (same ∙ told s f.in-B.is) c.clauses_b.ensures
 
-returns-2 : tie.Need-returns-2
+returns-2 : tie.Need-returns-in-C
 returns-2 c =
     let f = c.before.before.before in
     let s = f.before.before.before.before.before.before in
     let same = ap (λ (n : ℕ). words_of (clauses_c n s.args.t.base)) s.requires.0.runs in
-    walks_same (same ∙ told s f.enum-told2.given.1) c.before.clauses-c.ensures
+    walks_same (same ∙ told s f.in-C.is) c.clauses_c.ensures
 
-returns-3 : tie.Need-returns-3
+returns-3 : tie.Need-returns-in-D
 returns-3 c =
     let f = c.before.before.before in
-    walks_same (told f.before.before.before.before.before.before f.enum-told3.given.1) c.before.clauses-d.ensures
+    walks_same (told f.before.before.before.before.before.before f.in-D.is) c.clauses_d.ensures
 
-returns-4 : tie.Need-returns-4
+returns-4 : tie.Need-returns-in-E
 returns-4 c =
     let f = c.before.before.before in
-    walks_same (told f.before.before.before.before.before.before f.enum-told4.given.1) c.before.clauses-e.ensures
+    walks_same (told f.before.before.before.before.before.before f.in-E.is) c.clauses_e.ensures
 
-returns-5 : tie.Need-returns-5
+returns-5 : tie.Need-returns-in-G
 returns-5 c =
     let f = c.before.before.before in
-    walks_same (told f.before.before.before.before.before.before f.enum-told5.given.1) c.before.clauses-g.ensures
+    walks_same (told f.before.before.before.before.before.before f.in-G.is) c.clauses_g.ensures
 
-returns-6 : tie.Need-returns-6
+returns-6 : tie.Need-returns-in-H
 returns-6 c =
     let f = c.before.before.before in
-    walks_same (told f.before.before.before.before.before.before f.enum-told6.given.1) c.before.clauses-h.ensures
+    walks_same (told f.before.before.before.before.before.before f.in-H.is) c.clauses_h.ensures
 
-pub interval-clauses-spec : {M : Type 1} → statement M
-interval-clauses-spec =
+pub interval_clauses_spec : {M : Type 1} → statement M
+interval_clauses_spec =
     tie.close
     (tie.spec
     (λ c. search rules)

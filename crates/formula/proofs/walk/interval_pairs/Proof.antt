@@ -28,29 +28,29 @@ pairs : (b : BookStruct) → Passed b → (t : ℕ)
     ≡ words_of (each (up_to (instance_of (held b)).trains) (pairs_behind (instance_of (held b)) t))
 pairs b p t = ap (λ (n : ℕ). each (range 0 n) (words b t)) (sym (trains-is b p)) ∙ words-rows _ _
 
-abbrev invariant-loop : tie.invariant-loop
+abbrev invariant-loop : tie.invariant-loop-i
 invariant-loop b counts interval values out₀ trains next₀ i₀ out next i =
     Ahead values (each (range 0 trains) (words b interval)) (each (range i trains) (words b interval)) next₀ out₀ next out
 
-abbrev decreases-loop : tie.decreases-loop
+abbrev decreases-loop : tie.decreases-loop-i
 decreases-loop b counts interval values out₀ trains next₀ i₀ out next i = trains - i
 
-pairs-behind-requires : tie.Need-pairs-behind-requires invariant-loop decreases-loop
+pairs-behind-requires : tie.Need-pairs_behind-next-requires invariant-loop decreases-loop
 pairs-behind-requires c κs =
-    let k = c.before.before.before.before.requires in
-    (k.0, c.before.loop-test.true, k.1)
+    let k = c.requires in
+    (k.0, c.loop-i-test.true, k.1)
 
-add-i : tie.Need-overflow-add-i invariant-loop decreases-loop
+add-i : tie.Need-overflow_add-i invariant-loop decreases-loop
 add-i c =
     let t = c.before.before.before in
-    omega (arith, t.loop-test.true, t.before.before.before.requires.0.passed.packed.counts.trains)
+    omega (arith, t.loop-i-test.true, t.requires.0.passed.packed.counts.trains)
 
 returns : tie.Need-returns invariant-loop decreases-loop
 returns c =
-    walks_same (pairs _ c.before.before.before.requires.0.passed _) (turned _ _ _ c.before.loop.invariant c.loop-test.false)
+    walks_same (pairs _ c.requires.0.passed _) (turned _ _ _ c.loop-i.invariant c.loop-i-test.false)
 
-pub interval-pairs-spec : {M : Type 1} → statement M
-interval-pairs-spec =
+pub interval_pairs_spec : {M : Type 1} → statement M
+interval_pairs_spec =
     tie.close
     (tie.spec
     invariant-loop
@@ -58,7 +58,7 @@ interval-pairs-spec =
     (λ c. ahead-start _ _ _ _)
     pairs-behind-requires
     add-i
-    (λ c. omega (arith, c.before.before.before.loop-test.true))
-    (λ c. let t = c.before.before.before in turn _ _ _ t.before.loop.invariant t.loop-test.true c.before.pairs-behind.ensures)
-    (λ c. c.before.loop.invariant.size)
+    (λ c. omega (arith, c.loop-i-test.true))
+    (λ c. let t = c.before.before.before in turn _ _ _ t.loop-i.invariant t.loop-i-test.true c.pairs_behind-next.ensures)
+    (λ c. c.loop-i.invariant.size)
     returns)

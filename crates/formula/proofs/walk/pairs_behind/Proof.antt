@@ -39,57 +39,57 @@ module _ (b : BookStruct) (p : Passed b) (t i : ℕ) where
   unfolding pairs_behind
   pairs = ap (λ (n : ℕ). each (range (i + 1) n) (words b t i)) (sym (trains-is b p)) ∙ sym (words-each _ _)
 
-abbrev invariant-loop : tie.invariant-loop
+abbrev invariant-loop : tie.invariant-loop-j
 invariant-loop b counts interval train values out₀ lower trains next₀ j₀ out next j =
     Ahead values (each (range (train + 1) trains) (words b interval train)) (each (range j trains) (words b interval train))
     next₀ out₀ next out
 
-abbrev decreases-loop : tie.decreases-loop
+abbrev decreases-loop : tie.decreases-loop-j
 decreases-loop b counts interval train values out₀ lower trains next₀ j₀ out next j = trains - j
 
-first-claim-requires-2 : tie.Need-first-claim-requires-2 invariant-loop decreases-loop
+first-claim-requires-2 : tie.Need-first_claim-requires invariant-loop decreases-loop
 first-claim-requires-2 c κs =
-    let k = c.before.before.before.before.requires in
-    (k.0, c.loop-test.true, k.2)
+    let k = c.requires in
+    (k.0, c.loop-j-test.true, k.2)
 
-clauses-i-requires : tie.Need-clauses-i-requires invariant-loop decreases-loop
+clauses-i-requires : tie.Need-clauses_i-next-requires invariant-loop decreases-loop
 clauses-i-requires c κs =
-    let s = c.before.before.before.before.before.before.requires.0.passed.packed.counts.segments in (
-      omega (arith, c.before.before.before.before.first-claim.ensures.1),
-      omega (arith, c.before.first-claim2.ensures.1),
+    let s = c.requires.0.passed.packed.counts.segments in (
+      omega (arith, c.first_claim-lower.ensures.1),
+      omega (arith, c.first_claim.ensures.1),
     )
 
-add-j-2 : tie.Need-overflow-add-j-2 invariant-loop decreases-loop
+add-j-2 : tie.Need-overflow_add-j-in-loop-j invariant-loop decreases-loop
 add-j-2 c =
     let t = c.before.before.before.before in
-    omega (arith, t.loop-test.true, t.before.before.before.before.requires.0.passed.packed.counts.trains)
+    omega (arith, t.loop-j-test.true, t.requires.0.passed.packed.counts.trains)
 
-loop-again : tie.Need-loop-preserved invariant-loop decreases-loop
+loop-again : tie.Need-loop-j-preserved invariant-loop decreases-loop
 loop-again c =
     let t = c.before.before.before.before in
     let l = t.before in
-    let p = l.before.before.before.requires.0.passed in
-    let e = pair _ p _ _ _ _ _ l.before.first-claim.ensures.0 c.before.before.before.first-claim2.ensures.0 in
-    turn _ _ _ l.loop.invariant t.loop-test.true (walks_same e c.before.clauses-i.ensures)
+    let p = l.requires.0.passed in
+    let e = pair _ p _ _ _ _ _ l.first_claim-lower.ensures.0 c.first_claim.ensures.0 in
+    turn _ _ _ l.loop-j.invariant t.loop-j-test.true (walks_same e c.clauses_i-next.ensures)
 
 returns : tie.Need-returns invariant-loop decreases-loop
 returns c =
-    let p = c.before.before.before.before.requires.0.passed in
-    walks_same (pairs _ p _ _) (turned _ _ _ c.before.loop.invariant c.loop-test.false)
+    let p = c.requires.0.passed in
+    walks_same (pairs _ p _ _) (turned _ _ _ c.loop-j.invariant c.loop-j-test.false)
 
-pub pairs-behind-spec : {M : Type 1} → statement M
-pairs-behind-spec =
+pub pairs_behind_spec : {M : Type 1} → statement M
+pairs_behind_spec =
     tie.close
     (tie.spec
     invariant-loop
     decreases-loop
-    (λ c κs. c.before.requires)
-    (λ c. let k = c.before.before.requires in omega (arith, k.1, k.0.passed.packed.counts.trains))
+    (λ c κs. c.requires)
+    (λ c. let k = c.requires in omega (arith, k.1, k.0.passed.packed.counts.trains))
     (λ c. ahead-start _ _ _ _)
     first-claim-requires-2
     clauses-i-requires
     add-j-2
-    (λ c. omega (arith, c.before.before.before.before.loop-test.true))
+    (λ c. omega (arith, c.loop-j-test.true))
     loop-again
-    (λ c. c.before.loop.invariant.size)
+    (λ c. c.loop-j.invariant.size)
     returns)

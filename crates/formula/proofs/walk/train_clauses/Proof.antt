@@ -28,11 +28,11 @@ use Rattle.formula.proofs.walk.train_clauses.Tie as tie
 abbrev words : BookStruct → Family → ℕ → ℕ → List ℤ
 words b family i t = words_of (block_clauses (instance_of (held b)) family i (base (instance_of (held b)) i t))
 
-abbrev invariant-loop : tie.invariant-loop
+abbrev invariant-loop : tie.invariant-loop-interval
 invariant-loop family first runs chains meets values out₀ b train d to next₀ interval₀ out next interval =
     Ahead values (each (range interval₀ to) (words b family train)) (each (range interval to) (words b family train)) next₀ out₀ next out
 
-abbrev decreases-loop : tie.decreases-loop
+abbrev decreases-loop : tie.decreases-loop-interval
 decreases-loop family first runs chains meets values out₀ b train d to next₀ interval₀ out next interval = to - interval
 
 -- a family ends by the last interval
@@ -59,44 +59,44 @@ train-words b f i e g h k =
 
 -- the train
 module _ (s : tie.Start invariant-loop decreases-loop) where
-  abbrev block : BlockHeld s.args.t2 s.args.first
+  abbrev block : BlockHeld s.args.b s.args.first
   block = s.requires.0.block.block
 
   few : s.args.first.train < 8
-  few = few-trains s.args.t2 block.passed s.args.first.train block.known
+  few = few-trains s.args.b block.passed s.args.first.train block.known
 
 -- inside the loop
-module _ (c : tie.In-loop invariant-loop decreases-loop) where
-  abbrev ends : tie.After-end-interval invariant-loop decreases-loop
+module _ (c : tie.In-loop-interval invariant-loop decreases-loop) where
+  abbrev ends : tie.After-end_interval-to invariant-loop decreases-loop
   ends = c.before.before.before
 
   abbrev start : tie.Start invariant-loop decreases-loop
   start = ends.before.before.before.before.before
 
-  inside : (c.before.loop.interval < start.args.t2.intervals) × (start.args.t2.intervals < 65536)
+  inside : (c.loop-interval.interval < start.args.b.intervals) × (start.args.b.intervals < 65536)
   inside =
-      let departs = departs-asks start.args.t2 (block start).passed start.args.first.train (block start).known in
-      (omega (arith, c.loop-test.true, ends.end-interval.ensures, to_below start.args.family _ _ departs.0), departs.1)
+      let departs = departs-asks start.args.b (block start).passed start.args.first.train (block start).known in
+      (omega (arith, c.loop-interval-test.true, ends.end_interval-to.ensures, to_below start.args.family _ _ departs.0), departs.1)
 
-interval-clauses-requires : tie.Need-interval-clauses-requires invariant-loop decreases-loop
+interval-clauses-requires : tie.Need-interval_clauses-next-requires invariant-loop decreases-loop
 interval-clauses-requires c κs =
     let v = c.before in
     let s = start v.before in
-    let b = held s.args.t2 in
-    let k = v.block_at.ensures.0 in (
+    let b = held s.args.b in
+    let k = v.block_at-t.ensures.0 in (
       k.block,
-      of-block (λ i. RunsHeld b i s.args.runs.now) k s.pre.0.table,
-      of-block (λ i. ChainsHeld b i s.args.chains.now) k s.pre.1,
-      s.pre.2,
+      of-block (λ i. RunsHeld b i s.args.runs.now) k s.requires.0.table,
+      of-block (λ i. ChainsHeld b i s.args.chains.now) k s.requires.1,
+      s.requires.2,
     )
 
-loop-again : tie.Need-loop-preserved invariant-loop decreases-loop
+loop-again : tie.Need-loop-interval-preserved invariant-loop decreases-loop
 loop-again c =
     let v = c.before.before.before in
     let i = v.before in
     let a = (start i).args in
-    turn _ _ _ i.before.loop.invariant i.loop-test.true
-    (walks_same (block_words a.t2 a.family v.block_at.ensures.0) c.before.interval-clauses.ensures)
+    turn _ _ _ i.loop-interval.invariant i.loop-interval-test.true
+    (walks_same (block_words a.t2 a.family v.block_at-t.ensures.0) c.interval_clauses-next.ensures)
 
 returns : tie.Need-returns invariant-loop decreases-loop
 returns c =
@@ -104,13 +104,13 @@ returns c =
     let s = e.before.before.before.before.before in
     let a = s.args in
     let passed = (block s).passed in
-    let same = train-words a.t2 a.family a.first.train c.before.before.first-interval.ensures e.end-interval.ensures
+    let same = train-words a.t2 a.family a.first.train c.first_interval-interval.ensures e.end_interval-to.ensures
     (departs-here a.t2 passed a.first.train (block s).known)
     (sym (intervals-is a.t2 passed)) in
-    walks_same same (turned _ _ _ c.before.loop.invariant c.loop-test.false)
+    walks_same same (turned _ _ _ c.loop-interval.invariant c.loop-interval-test.false)
 
-pub train-clauses-spec : {M : Type 1} → statement M
-train-clauses-spec =
+pub train_clauses_spec : {M : Type 1} → statement M
+train_clauses_spec =
     tie.close
     (tie.spec
     invariant-loop
@@ -119,13 +119,13 @@ train-clauses-spec =
     (λ c. few c.before.before.before.before)
     (λ c κs.
     let s = c.before.before.before.before in
-    departs-asks s.args.t2 (block s).passed s.args.first.train (block s).known)
+    departs-asks s.args.b (block s).passed s.args.first.train (block s).known)
     (λ c κs. tt)
     (λ c. ahead-start _ _ _ _)
     (λ c κs. ((start c).requires.0.block, omega (arith, inside c)))
     interval-clauses-requires
     (λ c. omega (arith, inside c.before.before.before.before))
-    (λ c. omega (arith, c.before.before.before.before.loop-test.true))
+    (λ c. omega (arith, c.loop-interval-test.true))
     loop-again
-    (λ c. c.before.loop.invariant.size)
+    (λ c. c.loop-interval.invariant.size)
     returns)

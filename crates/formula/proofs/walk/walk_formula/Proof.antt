@@ -19,13 +19,13 @@ from : {values : Bytes} {ls : List ℤ} {w₀ w w' : Walk} {out out' : List ℤ}
 from {values} {ls} {w' = w'} {out} {out'} e h = subst (λ (x : Walk). Walks values ls x out w' out') e h
 
 -- what was known before the families from B on were passed
-abbrev start : tie.After-families-b-to-d → tie.Start
+abbrev start : tie.After-families_b_to_d-wd → tie.Start
 start d = d.before.before.before.before.before.before.before.before.before.before
 
-families-g-to-i-requires : tie.Need-families-g-to-i-requires
+families-g-to-i-requires : tie.Need-families_g_to_i-wi-requires
 families-g-to-i-requires c κs = (start c.before.before.before.before.before).requires
 
-cap-clauses-requires : tie.Need-cap-clauses-requires
+cap-clauses-requires : tie.Need-cap_clauses-requires
 cap-clauses-requires c κs = (start c.before.before.before.before.before.before.before.before).requires.0.counted
 
 returns : tie.Need-returns
@@ -37,12 +37,12 @@ returns c =
     let a = d.before.before.before in
     let s = (start d).args in
     walks_same (ap words_of (grouped (held_cap s.cap) (instance_of (held s.b))))
-    (both _ _ (from a.before.before.begin.ensures a.family-a.ensures)
-    (both _ _ d.families-b-to-d.ensures
-    (both _ _ e.families-e-and-f.ensures (both _ _ g.families-g-to-i.ensures k.cap-clauses.ensures))))
+    (both _ _ (from a.begin.ensures a.family_a-wa.ensures)
+    (both _ _ d.families_b_to_d-wd.ensures
+    (both _ _ e.families_e_and_f-wf.ensures (both _ _ g.families_g_to_i-wi.ensures k.cap_clauses.ensures))))
 
-pub walk-formula-spec : {M : Type 1} → statement M
-walk-formula-spec =
+pub walk_formula_spec : {M : Type 1} → statement M
+walk_formula_spec =
     tie.close
     (tie.spec
     (λ c κs. search rules)

@@ -13,10 +13,10 @@ use Rattle.frames.proofs.Drops.{all-drop-next, all-drop-end}
 use Rattle.frames.proofs.bytes.all_below.Statement.{statement}
 use Rattle.frames.proofs.bytes.all_below.Tie as tie
 
-abbrev invariant-loop : tie.invariant-loop
+abbrev invariant-loop : tie.invariant-loop-i
 invariant-loop p from limit i₀ i = all (λ d. ltb d limit) (drop from p) ≡ all (λ d. ltb d limit) (drop i p)
 
-abbrev decreases-loop : tie.decreases-loop
+abbrev decreases-loop : tie.decreases-loop-i
 decreases-loop p from limit i₀ i = length p - i
 
 -- the answer for what stands from i on
@@ -25,15 +25,15 @@ behind c i = all (λ d. ltb d c.args.limit) (drop i c.args.p.now)
 
 -- a turn: this byte, and those behind it
 turn : (c : tie.After-wide invariant-loop decreases-loop)
-    → behind c.before.before.before.before.before c.before.before.before.before.before.args.from
-    ≡ (ltb c.wide.result c.before.before.before.before.before.args.limit
-    && behind c.before.before.before.before.before (c.before.before.before.loop.i + 1))
+    → behind c.before.before.before.before.before c.args.from
+    ≡ (ltb c.wide.result c.args.limit
+    && behind c.before.before.before.before.before (c.loop-i.i + 1))
 turn c =
     let s = c.before.before.before in
-    s.loop.invariant ∙ all-drop-next _ _ _ 0 c.before.before.loop-test.true ∙ simp (← c.wide.ensures.0)
+    s.loop-i.invariant ∙ all-drop-next _ _ _ 0 c.loop-i-test.true ∙ simp (← c.wide.ensures.0)
 
-pub all-below-spec : {M : Type 1} → statement M
-all-below-spec =
+pub all_below_spec : {M : Type 1} → statement M
+all_below_spec =
     tie.close
     (tie.spec
     invariant-loop
@@ -41,8 +41,8 @@ all-below-spec =
     (λ c. refl)
     (λ c. omega arith)
     (λ c κs. search rules)
-    (λ c. let h = le-ltb _ _ c.if1.true in sym (turn c.before ∙ simp h))
+    (λ c. let h = le-ltb _ _ c.if-limit-wide.true in sym (turn c.before ∙ simp h))
     (λ c. omega arith)
     (λ c. omega arith)
-    (λ c. let h = lt-ltb _ _ c.if1.false in turn c.before ∙ simp h)
-    (λ c. sym (c.before.loop.invariant ∙ all-drop-end _ _ _ c.loop-test.false)))
+    (λ c. let h = lt-ltb _ _ c.if-limit-wide.false in turn c.before ∙ simp h)
+    (λ c. sym (c.loop-i.invariant ∙ all-drop-end _ _ _ c.loop-i-test.false)))

@@ -14,13 +14,13 @@ use Rattle.laws.proofs.Arrays.{padded-next}
 use Rattle.frames.proofs.bytes.place_of.Statement.{statement}
 use Rattle.frames.proofs.bytes.place_of.Tie as tie
 
-abbrev invariant-loop : tie.invariant-loop
+abbrev invariant-loop : tie.invariant-loop-i
 invariant-loop p from place₀ i₀ place i = (from ≤ i) × (i ≤ length p) × (place ≡ padded 8 0 (take (i - from) (drop from p)))
 
-abbrev decreases-loop : tie.decreases-loop
+abbrev decreases-loop : tie.decreases-loop-i
 decreases-loop p from place₀ i₀ place i = length p - i
 
-loop-holds : tie.Need-loop-init invariant-loop decreases-loop
+loop-holds : tie.Need-loop-i-init invariant-loop decreases-loop
 unfolding padded
 loop-holds c =
     let e : c.args.from - c.args.from ≡ 0 = omega arith in
@@ -38,28 +38,28 @@ module _ (p : List ℕ) (from i : ℕ) (l : from ≤ i) (k : i < length p) where
   many : length (take (i - from) (drop from p)) ≡ i - from
   many = length-take-le (i - from) (drop from p) (rw length-drop (omega arith))
 
-turn : (c : tie.After-shared-slice-known invariant-loop decreases-loop)
-    → set c.before.before.loop.place (c.before.before.loop.i - c.before.before.before.args.from)
-    (get_or c.before.before.before.args.p.now c.before.before.loop.i 0)
-    ≡ padded 8 0 (take (c.before.before.loop.i + 1 - c.before.before.before.args.from)
-    (drop c.before.before.before.args.from c.before.before.before.args.p.now))
+turn : (c : tie.After-shared_slice_known-1 invariant-loop decreases-loop)
+    → set c.loop-i.place (c.loop-i.i - c.args.from)
+    (get_or c.args.p.now c.loop-i.i 0)
+    ≡ padded 8 0 (take (c.loop-i.i + 1 - c.args.from)
+    (drop c.args.from c.args.p.now))
 turn c =
     let s = c.before.before in
-    let p = s.before.args.p.now in
-    let from = s.before.args.from in
-    let i = s.loop.i in
-    rw (s.loop.invariant.2, more p from i s.loop.invariant.0 c.before.loop-test.true)
+    let p = s.args.p.now in
+    let from = s.args.from in
+    let i = s.loop-i.i in
+    rw (s.loop-i.invariant.2, more p from i s.loop-i.invariant.0 c.loop-i-test.true)
     (padded-next 8 (i - from) 0 (get_or p i 0) (take (i - from) (drop from p))
-    (many p from i s.loop.invariant.0 c.before.loop-test.true) (omega arith))
+    (many p from i s.loop-i.invariant.0 c.loop-i-test.true) (omega arith))
 
 returns : tie.Need-returns invariant-loop decreases-loop
 returns c =
     let s = c.before in
-    let e = take_all (s.loop.i - s.before.args.from) (drop s.before.args.from s.before.args.p.now) (rw length-drop (omega arith)) in
-    s.loop.invariant.2 ∙ simp e
+    let e = take_all (s.loop-i.i - s.args.from) (drop s.args.from s.args.p.now) (rw length-drop (omega arith)) in
+    s.loop-i.invariant.2 ∙ simp e
 
-pub place-of-spec : {M : Type 1} → statement M
-place-of-spec =
+pub place_of_spec : {M : Type 1} → statement M
+place_of_spec =
     tie.close
     (tie.spec
     invariant-loop

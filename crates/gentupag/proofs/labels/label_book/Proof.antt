@@ -14,7 +14,7 @@ use Rattle.gentupag.proofs.labels.label_book.Statement.{statement}
 use Rattle.gentupag.proofs.labels.label_book.Tie as tie
 
 -- the answer to the book's bytes
-module _ (c : tie.After-prepare) where
+module _ (c : tie.After-prepare-p) where
   abbrev start : tie.Start
   start = c.before.before.before.before.before.before
 
@@ -23,30 +23,30 @@ module _ (c : tie.After-prepare) where
   onward I = labelled_for I start.args.borders.now (length start.args.out.now)
 
 -- the book is accepted
-module _ (c : tie.After-enum-told) where
-  abbrev prepared : tie.After-prepare
+module _ (c : tie.In-Accepted) where
+  abbrev prepared : tie.After-prepare-p
   prepared = c.before.before.before.before.before.before
 
-  ready : TablesReady prepared.prepare.result prepared.prepare.last.1.0 prepared.prepare.last.1.1.0
-  ready = prepared.prepare.ensures.1 c.enum_told.given.1
+  ready : TablesReady prepared.prepare-p.result prepared.prepare-p.last.1.0 prepared.prepare-p.last.1.1.0
+  ready = prepared.prepare-p.ensures.1 c.in-Accepted.is
 
-returns : tie.Need-returns
+returns : tie.Need-returns-in-Refused
 unfolding label_sections labels_output
 returns c =
     let k = c.before.before in
     let r = k.before.before.before.before.before.before in
-    left-refused _ (stopped _ _ r.prepare.ensures.0 (onward r) k.answer.given.1) c.refuse.ensures
+    left-refused _ (stopped _ _ r.prepare-p.ensures.0 (onward r) k.answer-1.given.1) c.refuse.ensures
 
-returns-2 : tie.Need-returns-2
+returns-2 : tie.Need-returns-in-Accepted
 unfolding label_sections labels_output
 returns-2 c =
     let d = c.before.before in
     let t = d.before.before.before in
     let r = prepared t in
-    left-same _ (went_on _ _ r.prepare.ensures.0 t.enum_told.given.1 (onward r)) d.label-for.ensures
+    left-same _ (went_on _ _ r.prepare-p.ensures.0 t.in-Accepted.is (onward r)) d.label_for.ensures
 
-pub label-book-spec : {M : Type 1} → statement M
-label-book-spec =
+pub label_book_spec : {M : Type 1} → statement M
+label_book_spec =
     tie.close
     (tie.spec
     (λ c. sym runs-long)

@@ -9,22 +9,22 @@ use Rattle.gentupag.proofs.runs.run_of.Statement.{statement}
 use Rattle.gentupag.proofs.runs.run_of.Tie as tie
 
 -- the book is accepted
-abbrev prepared : tie.After-enum-told → tie.After-prepare-runs
+abbrev prepared : tie.In-Accepted → tie.After-prepare_runs-read
 prepared c = c.before.before.before.before.before
 
-returns : tie.Need-returns
+returns : tie.Need-returns-in-Refused
 returns c =
     let k = c.before.before in
     let r = k.before.before.before.before.before in
-    asked-stopped _ _ r.prepare-runs.ensures.0 _ _ k.answer.given.1 c.without-run.ensures
+    asked-stopped _ _ r.prepare_runs-read.ensures.0 _ _ k.answer-1.given.1 c.without_run.ensures
 
-returns-2 : tie.Need-returns-2
+returns-2 : tie.Need-returns-in-Accepted
 returns-2 c =
     let t = c.before.before in
-    asked-on _ _ (prepared t).prepare-runs.ensures.0 _ _ t.enum_told.given.1 c.run-for.ensures
+    asked-on _ _ (prepared t).prepare_runs-read.ensures.0 _ _ t.in-Accepted.is c.run_for.ensures
 
-pub run-of-spec : {M : Type 1} → statement M
-run-of-spec =
+pub run_of_spec : {M : Type 1} → statement M
+run_of_spec =
     tie.close
     (tie.spec
     (λ c. sym (length-replicate {A = ℕ} table_bytes 0))
@@ -33,6 +33,6 @@ run-of-spec =
     (λ c κs. search rules)
     (λ c. search rules)
     (λ c. search rules)
-    (λ c κs. let t = c.before in (prepared t).prepare-runs.ensures.1 t.enum_told.given.1)
+    (λ c κs. let t = c.before in (prepared t).prepare_runs-read.ensures.1 t.in-Accepted.is)
     returns
     returns-2)

@@ -15,35 +15,35 @@ use Rattle.gentupag.proofs.sizes.measure_book.Statement.{statement}
 use Rattle.gentupag.proofs.sizes.measure_book.Tie as tie
 
 -- the cap
-abbrev limit : tie.After-prepare-chains → Option ℕ
-limit r = held_cap r.before.before.before.before.before.args.cap
+abbrev limit : tie.After-prepare_chains-p → Option ℕ
+limit r = held_cap r.args.cap
 
 -- the book is accepted
-module _ (c : tie.After-enum-told) where
-  abbrev prepared : tie.After-prepare-chains
+module _ (c : tie.In-Accepted) where
+  abbrev prepared : tie.After-prepare_chains-p
   prepared = c.before.before.before.before.before.before.before.before
 
-  ready : TablesReady prepared.prepare-chains.result prepared.prepare-chains.last.1.0 prepared.prepare-chains.last.1.1.1.0
-  ready = prepared.prepare-chains.ensures.1 c.enum_told.given.1
+  ready : TablesReady prepared.prepare_chains-p.result prepared.prepare_chains-p.last.1.0 prepared.prepare_chains-p.last.1.1.1.0
+  ready = prepared.prepare_chains-p.ensures.1 c.in-Accepted.is
 
-returns : tie.Need-returns
+returns : tie.Need-returns-in-Refused
 unfolding measure_book
 returns c =
     let k = c.before.before in
     let r = k.before.before.before.before.before.before.before.before in
-    c.refused-sizes.ensures
-    ∙ ap sizes_answer (sym (stopped-under _ _ r.prepare-chains.ensures.0 (limit r) (λ I. accepted (sizes_of I)) k.answer.given.1))
+    c.refused_sizes.ensures
+    ∙ ap sizes_answer (sym (stopped-under _ _ r.prepare_chains-p.ensures.0 (limit r) (λ I. accepted (sizes_of I)) k.answer-1.given.1))
 
-returns-2 : tie.Need-returns-2
+returns-2 : tie.Need-returns-in-Accepted
 unfolding measure_book
 returns-2 c =
     let a = c.before.before.before.before in
-    c.measure-by.ensures
+    c.measure_by.ensures
     ∙ ap sizes_answer
-    (went-under _ _ (prepared a).prepare-chains.ensures.0 a.enum_told.given.1 (limit (prepared a)) (λ I. accepted (sizes_of I)))
+    (went-under _ _ (prepared a).prepare_chains-p.ensures.0 a.in-Accepted.is (limit (prepared a)) (λ I. accepted (sizes_of I)))
 
-pub measure-book-spec : {M : Type 1} → statement M
-measure-book-spec =
+pub measure_book_spec : {M : Type 1} → statement M
+measure_book_spec =
     tie.close
     (tie.spec
     (λ c. sym runs-long)
@@ -59,6 +59,6 @@ measure-book-spec =
     (λ c. let a = c.before.before.before in sym (length-take-le _ _ (ready a).1))
     (λ c κs.
     let a = c.before.before.before in
-    ((ready a).0, (prepared a).prepare-chains.ensures.2 a.enum_told.given.1, (ready a).2))
+    ((ready a).0, (prepared a).prepare_chains-p.ensures.2 a.in-Accepted.is, (ready a).2))
     returns
     returns-2)

@@ -12,7 +12,7 @@ use Rattle.formula.proofs.Totals.{walk-words, walk-clauses}
 use Rattle.gentupag.proofs.sizes.measure_by.Statement.{statement}
 use Rattle.gentupag.proofs.sizes.measure_by.Tie as tie
 
-abbrev start : tie.After-nowhere2 → tie.Start
+abbrev start : tie.After-nowhere-2-1 → tie.Start
 start c = c.before.before.before.before.before.before.before
 
 returns : tie.Need-returns
@@ -22,17 +22,17 @@ returns c =
     let f = v.before in
     let s = start f.before in
     let w = f.before.before in
-    let p = s.pre.0.counted.passed in
+    let p = s.requires.0.counted.passed in
     let cap = held_cap s.args.cap in
     let I = instance_of (held s.args.b) in
     let nodes = sym (nodes-counted p.packed) in
     let segments = sym (segments-counted p.packed) in
     let trains = sym (trains-counted p.packed) in
-    let free = f.count-free.ensures.0 ∙ ap length (sym (free-under cap I)) in
-    let variables = v.variable-count.ensures.0 in
-    let clauses = walk-clauses s.args.b p cap w.walk-formula.ensures in
-    let words = walk-words s.args.b p cap w.walk-formula.ensures in
-    let bytes = c.plan-length.ensures ∙ sym (length-same cap I) in
+    let free = f.count_free.ensures.0 ∙ ap length (sym (free-under cap I)) in
+    let variables = v.variable_count.ensures.0 in
+    let clauses = walk-clauses s.args.b p cap w.walk_formula-w.ensures in
+    let words = walk-words s.args.b p cap w.walk_formula-w.ensures in
+    let bytes = c.plan_length.ensures ∙ sym (length-same cap I) in
     λ i. record {
       number = 0;
       detail = 0;
@@ -47,8 +47,8 @@ returns c =
       plan_bytes = bytes i;
     }
 
-pub measure-by-spec : {M : Type 1} → statement M
-measure-by-spec =
+pub measure_by_spec : {M : Type 1} → statement M
+measure_by_spec =
     tie.close
     (tie.spec
     (λ c. search rules)

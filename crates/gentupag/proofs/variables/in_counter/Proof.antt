@@ -26,12 +26,12 @@ use Rattle.gentupag.proofs.variables.in_counter.Statement.{statement}
 use Rattle.gentupag.proofs.variables.in_counter.Tie as tie
 
 -- a book has no more nodes of kind 1 than nodes
-free-few : (I : Instance) → length (free_nodes_of I) ≤ I.nodes
+free-few : (I : Instance) → length (free_nodes_of I) ≤ I.nodes-1
 unfolding free_nodes_of
-free-few I = omega (arith, pick-most (is_free I) (up_to I.nodes), length-up_to I.nodes)
+free-few I = omega (arith, pick-most (is_free I) (up_to I.nodes-1), length-up_to I.nodes-1)
 
 -- the counter, and the variables before it
-module _ (o : tie.After-own-variables) where
+module _ (o : tie.After-own_variables) where
   abbrev given : tie.Start
   given = o.before.before
 
@@ -43,41 +43,41 @@ module _ (o : tie.After-own-variables) where
   J = under (held_cap given.args.cap) I
 
   abbrev own : ℕ
-  own = o.own-variables.result
+  own = o.own_variables.result
 
   abbrev place : ℕ
   place = given.args.at - own
 
   abbrev counter : CounterStruct
-  counter = o.before.counter-of.result
+  counter = o.counter_of-c.result
 
   few : counter.most + counter.spare ≤ 96
-  few = o.before.counter-of.ensures.few
+  few = o.counter_of-c.ensures.few
 
   small : counter.most * counter.spare ≤ 9216
   small = counter-small counter.most counter.spare few
 
   is-own : own ≡ own_variables J
-  is-own = o.own-variables.ensures.0 ∙ sym (own-under (held_cap given.args.cap) I)
+  is-own = o.own_variables.ensures.0 ∙ sym (own-under (held_cap given.args.cap) I)
 
   is-most : counter.most ≡ (counter_of J).most
-  is-most = ap (λ (m : Counter). m.most) o.before.counter-of.ensures.counter
+  is-most = ap (λ (m : Counter). m.most) o.counter_of-c.ensures.counter
 
   is-spare : counter.spare ≡ (counter_of J).spare
-  is-spare = ap (λ (m : Counter). m.spare) o.before.counter-of.ensures.counter
+  is-spare = ap (λ (m : Counter). m.spare) o.counter_of-c.ensures.counter
 
   from : own ≤ given.args.at
-  from = omega (arith, o.own-variables.ensures.0, given.pre.1)
+  from = omega (arith, o.own_variables.ensures.0, given.requires.1)
 
   -- how many variables there are
   all_are : variables J ≡ own + counter.most * counter.spare
   all_are =
-      let rows = ap (λ (m : Counter). m.most * m.spare) o.before.counter-of.ensures.counter in
-      omega (arith, variables-under (held_cap given.args.cap) I, rows, o.own-variables.ensures.0)
+      let rows = ap (λ (m : Counter). m.most * m.spare) o.counter_of-c.ensures.counter in
+      omega (arith, variables-under (held_cap given.args.cap) I, rows, o.own_variables.ensures.0)
 
 -- the variable is one of the counter's: its row, and its place there
-module _ (e : tie.Else1) where
-  abbrev known : tie.After-own-variables
+module _ (e : tie.Else-c-spare) where
+  abbrev known : tie.After-own_variables
   known = e.before.before
 
   abbrev most : ℕ
@@ -93,10 +93,10 @@ module _ (e : tie.Else1) where
   k = place known % spare
 
   wide : 0 < spare
-  wide = some-spare most spare (place known) e.if1.left
+  wide = some-spare most spare (place known) e.if-c-spare.false
 
   row : j < most
-  row = (div-lt_iff_lt-mul wide).1 e.if1.left
+  row = (div-lt_iff_lt-mul wide).1 e.if-c-spare.false
 
   rest : k < spare
   rest = mod-lt (place known) {m = spare} wide
@@ -109,7 +109,7 @@ module _ (e : tie.Else1) where
   whole =
       let g = given known in
       subst (λ (m : Counter). m.most + m.spare ≤ length (free_nodes_of (I known)))
-      (sym (known.before.counter-of.ensures.counter ∙ counter-under (held_cap g.args.cap) (I known)))
+      (sym (known.counter_of-c.ensures.counter ∙ counter-under (held_cap g.args.cap) (I known)))
       (counter-whole (held_cap g.args.cap) (length (free_nodes_of (I known))))
 
   listed : (nodes : List ℕ) → nodes ≡ sets (replicate 96 0) 0 (free_nodes_of (I known))
@@ -117,7 +117,7 @@ module _ (e : tie.Else1) where
   listed nodes filled =
       let g = given known in
       let free = free_nodes_of (I known) in
-      let fits = (passed-few g.args.b g.pre.0.passed).nodes in
+      let fits = (passed-few g.args.b g.requires.0.passed).nodes-1 in
       ap (λ (ns : List ℕ). get_or ns (j + k) 0) filled
       ∙ ap (λ (i : ℕ). get_or (sets (replicate 96 0) 0 free) i 0) (sym (zero-add (j + k)))
       ∙ get_or-sets-in (replicate 96 0) 0 free (j + k) 0 (omega (arith, row, rest, whole))
@@ -125,27 +125,27 @@ module _ (e : tie.Else1) where
       ∙ ap (λ (ns : List ℕ). get_or ns (j + k) 0) (sym (free-under (held_cap g.args.cap) (I known)))
 
 -- where the nodes are listed
-abbrev counting : tie.After-nodes2 → tie.Else1
+abbrev counting : tie.After-nodes-2-1 → tie.Else-c-spare
 counting c = c.before.before.before
 
-returns : tie.Need-returns
+returns : tie.Need-returns-then-c-spare
 returns c =
     let t = c.before in
     let o = t.before.before in
-    c.stands-for.ensures
-    ∙ answered (none-behind (J o) _ (omega (arith, all_are o, from o, t.if1.true)))
+    c.stands_for.ensures
+    ∙ answered (none-behind (J o) _ (omega (arith, all_are o, from o, t.if-c-spare.true)))
 
-returns-2 : tie.Need-returns-2
+returns-2 : tie.Need-returns
 returns-2 c =
     let e = counting c in
     let o = known e in
     let l = c.before in
     let next : j e + 1 ≡ suc (j e) = omega arith in
-    ap₂ (λ (n m : ℕ). variable_answer (accepted (counted n m))) (listed e l.list-free.new.1.0 l.list-free.ensures.1) next
-    ∙ answered (count_at (J o) (own o) (given o).args.at (is-own o) (is-most o) (is-spare o) (from o) e.if1.left)
+    ap₂ (λ (n m : ℕ). variable_answer (accepted (counted n m))) (listed e l.list_free.new.1.0 l.list_free.ensures.1) next
+    ∙ answered (count_at (J o) (own o) (given o).args.at (is-own o) (is-most o) (is-spare o) (from o) e.if-c-spare.false)
 
-pub in-counter-spec : {M : Type 1} → statement M
-in-counter-spec =
+pub in_counter_spec : {M : Type 1} → statement M
+in_counter_spec =
     tie.close
     (tie.spec
     (λ c κs. search rules)

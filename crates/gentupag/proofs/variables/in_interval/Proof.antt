@@ -19,63 +19,63 @@ module _ (s : tie.Start) where
   abbrev I : Instance
   I = instance_of (held s.args.b)
 
-  counted : Counted s.args.b s.args.t2
-  counted = s.pre.0
+  counted : Counted s.args.b s.args.counts
+  counted = s.requires.0
 
   inside : s.args.train < I.trains
-  inside = known s.args.b s.args.t2 counted s.args.train s.pre.1
+  inside = known s.args.b s.args.counts counted s.args.train s.requires.1
 
   within : s.args.interval < I.intervals
-  within = rw (intervals-is s.args.b counted.passed) s.pre.2
+  within = rw (intervals-is s.args.b counted.passed) s.requires.2
 
-  few : get_or s.args.t2 s.args.train 0 ≤ 256
-  few = few-runs s.args.b s.args.t2 counted s.args.train s.pre.1
+  few : get_or s.args.counts s.args.train 0 ≤ 256
+  few = few-runs s.args.b s.args.counts counted s.args.train s.requires.1
 
-  same_runs : get_or s.args.t2 s.args.train 0 ≡ I.runs s.args.train
-  same_runs = counted.runs s.args.train s.pre.1
+  same_runs : get_or s.args.counts s.args.train 0 ≡ I.runs s.args.train
+  same_runs = counted.runs s.args.train s.requires.1
 
   low : s.args.first ≤ 189333600
   low =
       let k = base-small I (passed-few s.args.b counted.passed) s.args.train s.args.interval inside (omega (arith, within)) in
-      omega (arith, s.pre.3)
+      omega (arith, s.requires.3)
 
 -- the interval's first variable, under a cap
 first-is : (s : tie.Start) (k : Option ℕ) → s.args.first ≡ base (under k (I s)) s.args.train s.args.interval
 first-is s k = s.requires.3 ∙ base-under k (I s) s.args.train s.args.interval
 
-returns : tie.Need-returns
+returns : tie.Need-returns-then-at-gone
 returns c k =
     let g = c.before.before in
     let s = g.before in
-    let e = g.gone-variable.ensures in
-    let h = c.before.if1.true in
-    c.stands-for.ensures
+    let e = g.gone_variable-gone.ensures in
+    let h = c.if-at-gone.true in
+    c.stands_for.ensures
     ∙ answered (run_at (under k (I s)) _ _ _ (inside s) (within s) (same_runs s) (first-is s k) s.requires.4 (omega (arith, e, h)))
 
-returns-2 : tie.Need-returns-2
+returns-2 : tie.Need-returns-then-at-gone-2
 returns-2 c k =
     let g = c.before.before.before in
     let s = g.before in
-    let e = g.gone-variable.ensures in
-    let h = c.before.if2.true in
-    c.stands-for2.ensures
+    let e = g.gone_variable-gone.ensures in
+    let h = c.if-at-gone-2.true in
+    c.stands_for-then-at-gone-2.ensures
     ∙ answered (gone_at (under k (I s)) _ _ _ (inside s) (within s) (same_runs s) (first-is s k) (h ∙ e))
 
-returns-3 : tie.Need-returns-3
+returns-3 : tie.Need-returns
 returns-3 c k =
     let n = c.before.before in
     let g = n.before.before in
     let s = g.before in
-    let f = c.before.claims-from.ensures in
-    let e = g.gone-variable.ensures in
-    let h = n.before.if1.false in
-    let l = n.if2.false in
-    c.stands-for3.ensures
+    let f = c.claims_from.ensures in
+    let e = g.gone_variable-gone.ensures in
+    let h = n.if-at-gone.false in
+    let l = n.if-at-gone-2.false in
+    c.stands_for-2.ensures
     ∙ answered (claim-at (under k (I s)) _ _ _ (inside s) (within s) (same_runs s) (first-is s k) f (omega (arith, e, h, l))
     (omega (arith, s.requires.5, width-under k (I s) s.args.train)))
 
-pub in-interval-spec : {M : Type 1} → statement M
-in-interval-spec =
+pub in_interval_spec : {M : Type 1} → statement M
+in_interval_spec =
     tie.close
     (tie.spec
     (λ c. search rules)

@@ -15,19 +15,19 @@ use Rattle.gentupag.proofs.variables.in_train.Tie as tie
 -- the train's runs and the segments
 module _ (s : tie.Start) where
   abbrev n : ℕ
-  n = get_or s.args.t2 s.args.train 0
+  n = get_or s.args.counts s.args.train 0
 
   abbrev segments : ℕ
   segments = s.args.b.segment_count
 
   few : n ≤ 256
-  few = few-runs s.args.b s.args.t2 s.pre.0 s.args.train s.pre.1
+  few = few-runs s.args.b s.args.counts s.requires.0 s.args.train s.requires.1
 
   short : segments ≤ 64
-  short = few-segments s.args.b s.args.t2 s.pre.0 s.args.train s.pre.1
+  short = few-segments s.args.b s.args.counts s.requires.0 s.args.train s.requires.1
 
 -- once the width of an interval is known
-module _ (c : tie.After-next-interval) where
+module _ (c : tie.After-next_interval) where
   abbrev start : tie.Start
   start = c.before.before
 
@@ -35,34 +35,34 @@ module _ (c : tie.After-next-interval) where
   at = start.args.at
 
   abbrev first : ℕ
-  first = c.before.first-variable.result
+  first = c.first_variable-first.result
 
   abbrev wide : ℕ
-  wide = c.next-interval.result
+  wide = c.next_interval.result
 
   abbrev interval : ℕ
   interval = (at - first) / wide
 
   sized : wide ≡ n start + 1 + segments start
-  sized = omega (arith, c.next-interval.ensures)
+  sized = omega (arith, c.next_interval.ensures)
 
   begins : first ≡ first_var (instance_of (held start.args.b)) start.args.train
-  begins = c.before.first-variable.ensures
+  begins = c.first_variable-first.ensures
 
   low : first ≤ 168296544
-  low = omega (arith, begins, first_below start.args.b start.args.t2 start.pre.0 start.args.train start.pre.1)
+  low = omega (arith, begins, first_below start.args.b start.args.counts start.requires.0 start.args.train start.requires.1)
 
   from : first ≤ at
-  from = omega (arith, begins, start.pre.2)
+  from = omega (arith, begins, start.requires.2)
 
   -- the variables of the next train begin behind the last interval
   ends : first + start.args.b.intervals * wide ≡ first_var (instance_of (held start.args.b)) (start.args.train + 1)
   ends =
       ap₂ (λ (x w : ℕ). x + start.args.b.intervals * w) begins sized
-      ∙ first_then start.args.b start.args.t2 start.pre.0 start.args.train start.pre.1
+      ∙ first_then start.args.b start.args.counts start.requires.0 start.args.train start.requires.1
 
   below : at < first + start.args.b.intervals * wide
-  below = omega (arith, ends, start.pre.3)
+  below = omega (arith, ends, start.requires.3)
 
   some : 0 < wide
   some = omega (arith, sized)
@@ -71,7 +71,7 @@ module _ (c : tie.After-next-interval) where
   inside : interval < start.args.b.intervals
   inside = row_inside first wide start.args.b.intervals at some from below
 
-base-from-requires : tie.Need-base-from-requires
+base-from-requires : tie.Need-base_from-start-requires
 base-from-requires c κs = (
   low c,
   few (start c),
@@ -80,39 +80,39 @@ base-from-requires c κs = (
 )
 
 -- the interval's first variable
-module _ (c : tie.After-base-from) where
-  abbrev k : tie.After-next-interval
+module _ (c : tie.After-base_from-start) where
+  abbrev k : tie.After-next_interval
   k = c.before
 
   abbrev m : ℕ
   m = (start k).args.b.intervals
 
-  begins-interval : c.base-from.result ≡ first k + interval k * wide k
-  begins-interval = c.base-from.ensures.0 ∙ ap (λ (w : ℕ). first k + interval k * w) (sym (sized k))
+  begins-interval : c.base_from-start.result ≡ first k + interval k * wide k
+  begins-interval = c.base_from-start.ensures.0 ∙ ap (λ (w : ℕ). first k + interval k * w) (sym (sized k))
 
-  is_base : c.base-from.result ≡ base (instance_of (held (start k).args.b)) (start k).args.train (interval k)
+  is_base : c.base_from-start.result ≡ base (instance_of (held (start k).args.b)) (start k).args.train (interval k)
   is_base =
       let s = start k in
-      c.base-from.ensures.0
+      c.base_from-start.ensures.0
       ∙ ap (λ (x : ℕ). x + interval k * (n s + 1 + segments s)) (begins k)
-      ∙ base-here s.args.b s.args.t2 s.pre.0 s.args.train s.pre.1 (interval k)
+      ∙ base-here s.args.b s.args.counts s.requires.0 s.args.train s.requires.1 (interval k)
 
-  from-base : c.base-from.result ≤ at k
+  from-base : c.base_from-start.result ≤ at k
   from-base = omega (arith, begins-interval, row_from (first k) (wide k) m (at k) (some k) (from k) (below k))
 
-  to-next : at k < c.base-from.result + width (instance_of (held (start k).args.b)) (start k).args.train
+  to-next : at k < c.base_from-start.result + width (instance_of (held (start k).args.b)) (start k).args.train
   to-next =
       let s = start k in
-      let e = same_width s.args.b s.args.t2 s.pre.0 s.args.train s.pre.1 in
+      let e = same_width s.args.b s.args.counts s.requires.0 s.args.train s.requires.1 in
       omega (arith, begins-interval, sized k, row-to (first k) (wide k) m (at k) (some k) (from k) (below k))
 
-in-interval-requires : tie.Need-in-interval-requires
+in-interval-requires : tie.Need-in_interval-requires
 in-interval-requires c κs =
     let k = c.before in
     ((start k).requires.0, (start k).requires.1, inside k, is_base c, from-base c, to-next c)
 
-pub in-train-spec : {M : Type 1} → statement M
-in-train-spec =
+pub in_train_spec : {M : Type 1} → statement M
+in_train_spec =
     tie.close
     (tie.spec
     (λ c. search rules)

@@ -15,10 +15,10 @@ use Rattle.gentupag.proofs.Standing.{answered, none-at, border-at}
 use Rattle.gentupag.proofs.variables.variable_by.Statement.{statement}
 use Rattle.gentupag.proofs.variables.variable_by.Tie as tie
 
-abbrev invariant-loop : tie.invariant-loop
+abbrev invariant-loop : tie.invariant-loop-train
 invariant-loop b runs cap v at trains train₀ train = (train ≤ trains) × (first_var (instance_of (held b)) train ≤ at)
 
-abbrev decreases-loop : tie.decreases-loop
+abbrev decreases-loop : tie.decreases-loop-train
 decreases-loop b runs cap v at trains train₀ train = trains - train
 
 module _ (s : tie.Start invariant-loop decreases-loop) where
@@ -33,62 +33,62 @@ module _ (s : tie.Start invariant-loop decreases-loop) where
   v = s.args.v
 
   nodes : I.nodes ≡ s.args.b.node_count
-  nodes = nodes-is s.args.b s.pre.passed
+  nodes = nodes-is s.args.b s.requires.passed
 
   trains : I.trains ≡ s.args.b.train_count
-  trains = trains-is s.args.b s.pre.passed
+  trains = trains-is s.args.b s.requires.passed
 
-returns : tie.Need-returns invariant-loop decreases-loop
+returns : tie.Need-returns-then-v-eq0 invariant-loop decreases-loop
 returns c =
     let s = c.before.before in
-    c.stands-for.ensures ∙ answered (none-at (J s) _ c.before.if1.true)
+    c.stands_for.ensures ∙ answered (none-at (J s) _ c.if-v-eq0.true)
 
-returns-2 : tie.Need-returns-2 invariant-loop decreases-loop
+returns-2 : tie.Need-returns-then-at-b invariant-loop decreases-loop
 returns-2 c =
     let e = c.before.before.before in
     let s = e.before in
-    c.stands-for2.ensures ∙ answered (border-at (J s) _ (omega (arith, e.if1.false)) (omega (arith, nodes s, c.before.if2.true)))
+    c.stands_for-then-at-b.ensures ∙ answered (border-at (J s) _ (omega (arith, e.if-v-eq0.false)) (omega (arith, nodes s, c.if-at-b.true)))
 
-loop-holds : tie.Need-loop-init invariant-loop decreases-loop
+loop-holds : tie.Need-loop-train-init invariant-loop decreases-loop
 loop-holds c =
     let s = c.before.before.before in
-    (omega arith, omega (arith, first-none (I s), nodes s, c.if2.false))
+    (omega arith, omega (arith, first-none (I s), nodes s, c.if-at-b.false))
 
 -- the function's start, from the loop
-abbrev start : tie.At-loop invariant-loop decreases-loop → tie.Start invariant-loop decreases-loop
+abbrev start : tie.At-loop-train invariant-loop decreases-loop → tie.Start invariant-loop decreases-loop
 start a = a.before.before.before.before
 
 -- there is a variable
-some : (a : tie.At-loop invariant-loop decreases-loop) → suc (v (start a) - 1) ≡ v (start a)
-some a = omega (arith, a.before.before.before.if1.false)
+some : (a : tie.At-loop-train invariant-loop decreases-loop) → suc (v (start a) - 1) ≡ v (start a)
+some a = omega (arith, a.if-v-eq0.false)
 
-loop-again : tie.Need-loop-preserved invariant-loop decreases-loop
+loop-again : tie.Need-loop-train-preserved invariant-loop decreases-loop
 loop-again c =
     let f = c.before in
-    (omega (arith, f.before.loop-test.true), omega (arith, f.first-variable.ensures, c.if3.false))
+    (omega (arith, f.loop-train-test.true), omega (arith, f.first_variable.ensures, c.if-at-first_variable.false))
 
-returns-3 : tie.Need-returns-3 invariant-loop decreases-loop
+returns-3 : tie.Need-returns-then-at-first_variable invariant-loop decreases-loop
 returns-3 c =
     let a = c.before.before.before.before in
-    c.in-train.ensures (held_cap (start a).args.cap) ∙ ap (λ (k : ℕ). variable_answer (accepted (meaning_of (J (start a)) k))) (some a)
+    c.in_train.ensures (held_cap (start a).args.cap) ∙ ap (λ (k : ℕ). variable_answer (accepted (meaning_of (J (start a)) k))) (some a)
 
 -- behind the last train
-module _ (c : tie.After-loop invariant-loop decreases-loop) where
+module _ (c : tie.After-loop-train invariant-loop decreases-loop) where
   behind : own_variables (I (start c.before)) ≤ v (start c.before) - 1
   behind =
       let a = c.before in
       let s = start a in
-      let e : a.loop.train ≡ (I s).trains = omega (arith, trains s, a.loop.invariant.0, c.loop-test.false) in
-      let k : first_var (I s) (I s).trains ≤ v s - 1 = subst (λ (i : ℕ). first_var (I s) i ≤ v s - 1) e a.loop.invariant.1 in
+      let e : a.loop-train.train ≡ (I s).trains = omega (arith, trains s, a.loop-train.invariant.0, c.loop-train-test.false) in
+      let k : first_var (I s) (I s).trains ≤ v s - 1 = subst (λ (i : ℕ). first_var (I s) i ≤ v s - 1) e a.loop-train.invariant.1 in
       omega (arith, own-variables (I s), k)
 
-returns-4 : tie.Need-returns-4 invariant-loop decreases-loop
+returns-4 : tie.Need-returns invariant-loop decreases-loop
 returns-4 c =
     let a = c.before.before in
-    c.in-counter.ensures ∙ ap (λ (k : ℕ). variable_answer (accepted (meaning_of (J (start a)) k))) (some a)
+    c.in_counter.ensures ∙ ap (λ (k : ℕ). variable_answer (accepted (meaning_of (J (start a)) k))) (some a)
 
-pub variable-by-spec : {M : Type 1} → statement M
-variable-by-spec =
+pub variable_by_spec : {M : Type 1} → statement M
+variable_by_spec =
     tie.close
     (tie.spec
     invariant-loop
@@ -106,5 +106,5 @@ variable-by-spec =
     (λ c. omega arith)
     (λ c. omega arith)
     loop-again
-    (λ c κs. ((start c.before).pre, behind c))
+    (λ c κs. ((start c.before).requires, behind c))
     returns-4)

@@ -16,39 +16,39 @@ use Rattle.gentupag.proofs.variables.variable_of.Statement.{statement}
 use Rattle.gentupag.proofs.variables.variable_of.Tie as tie
 
 -- what is asked of an instance
-abbrev onward : tie.After-prepare-runs → Instance → Verdict Meaning
-onward r I = accepted (meaning_of I r.before.before.before.args.v)
+abbrev onward : tie.After-prepare_runs-read → Instance → Verdict Meaning
+onward r I = accepted (meaning_of I r.args.v)
 
 -- the cap
-abbrev limit : tie.After-prepare-runs → Option ℕ
-limit r = held_cap r.before.before.before.args.cap
+abbrev limit : tie.After-prepare_runs-read → Option ℕ
+limit r = held_cap r.args.cap
 
 -- the book is accepted
-abbrev prepared : tie.After-enum-told → tie.After-prepare-runs
+abbrev prepared : tie.In-Accepted → tie.After-prepare_runs-read
 prepared c = c.before.before.before.before.before
 
-returns : tie.Need-returns
+returns : tie.Need-returns-in-Refused
 unfolding ask_variable
 returns c =
     let r = c.before.before.before.before.before.before in
-    ap variable_answer (sym (stopped-under _ _ r.prepare-runs.ensures.0 (limit r) (onward r) c.before.answer.given.1))
+    ap variable_answer (sym (stopped-under _ _ r.prepare_runs-read.ensures.0 (limit r) (onward r) c.answer-1.given.1))
 
-returns-2 : tie.Need-returns-2
+returns-2 : tie.Need-returns-in-Accepted
 unfolding ask_variable
 returns-2 c =
     let t = c.before in
     let r = prepared t in
-    c.variable-by.ensures
-    ∙ ap variable_answer (went-under _ _ r.prepare-runs.ensures.0 t.enum_told.given.1 (limit r) (onward r))
+    c.variable_by.ensures
+    ∙ ap variable_answer (went-under _ _ r.prepare_runs-read.ensures.0 t.in-Accepted.is (limit r) (onward r))
 
-pub variable-of-spec : {M : Type 1} → statement M
-variable-of-spec =
+pub variable_of_spec : {M : Type 1} → statement M
+variable_of_spec =
     tie.close
     (tie.spec
     (λ c. sym (length-replicate {A = ℕ} table_bytes 0))
     (λ c κs. length-replicate {A = ℕ} table_bytes 0)
     (λ c. search rules)
     (λ c. search rules)
-    (λ c κs. ((prepared c).prepare-runs.ensures.1 c.enum_told.given.1).counted)
+    (λ c κs. ((prepared c).prepare_runs-read.ensures.1 c.in-Accepted.is).counted)
     returns
     returns-2)

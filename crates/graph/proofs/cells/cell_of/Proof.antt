@@ -17,67 +17,67 @@ use Rattle.graph.proofs.cells.cell_of.Statement.{statement}
 use Rattle.graph.proofs.cells.cell_of.Tie as tie
 
 -- the move is a run of the train's
-module _ (c : tie.After-known-told) where
+module _ (c : tie.In-Run) where
   abbrev start : tie.Start
   start = c.before.before.before.before
 
   abbrev r : ℕ
-  r = c.before.m.given.0.0
+  r = c.m-1.given.0.0
 
   abbrev runs : Bytes
   runs = start.args.runs.now
 
   known : r < (instance_of (held start.args.b)).runs start.args.train
-  known = below start.pre.0 start.pre.1 c.before.m.given.1
+  known = below start.requires.0 start.requires.1 c.m-1.given.1
 
   asks : (r < 256) × (length runs ≡ 4352) × (start.args.l ≤ size_at runs r)
-  asks = run-asks start.pre.0 start.pre.1 c.before.m.given.1
+  asks = run-asks start.requires.0 start.requires.1 c.m-1.given.1
 
   some : 1 ≤ size_at runs r
-  some = run-some start.pre.0 r known
+  some = run-some start.requires.0 r known
 
   short : size_at runs r ≤ 16
-  short = start.pre.0.table.most r known
+  short = start.requires.0.table.most r known
 
   -- what is read of its entry is what is shown of it
   shown_read : {first size rear front : ℕ} → first ≡ start_at r → size ≡ size_at runs r → rear ≡ get_or runs first 0
       → front ≡ get_or runs (first + size - 1) 0
       → shown_run (rear / 2) (front / 2) (size - start.args.l) ≡ shown_move (instance_of (held start.args.b)) start.args.train (run r)
   shown_read a n f g =
-      rw (f, g, a, n) (sym (shown-run start.pre.0 r known))
+      rw (f, g, a, n) (sym (shown-run start.requires.0 r known))
 
 -- its entry is inside the table
-module _ (c : tie.After-size-of) where
-  abbrev run-told : tie.After-known-told
+module _ (c : tie.After-size_of-size) where
+  abbrev run-told : tie.In-Run
   run-told = c.before.before
 
-  inside : c.before.start_of_lem.result + c.type_size.result ≤ length (runs run-told)
-  inside = omega (arith, asks run-told, short run-told, c.before.start_of_lem.ensures, c.type_size.ensures)
+  inside : c.start_of_lem.result + c.type_size.result ≤ length (runs run-told)
+  inside = omega (arith, asks run-told, short run-told, c.start_of_lem.ensures, c.type_size.ensures)
 
   held_by : (1 ≤ c.type_size.result) × ((start run-told).args.l ≤ c.type_size.result) × (c.type_size.result ≤ 16)
   held_by =
       let e = c.type_size.ensures.0 in
       (omega (arith, some run-told, e), omega (arith, asks run-told, e), omega (arith, short run-told, e))
 
-returns : tie.Need-returns
+returns : tie.Need-returns-in-Run
 returns c =
-    let size = c.before.before.before.before.before.type_size in
-    let first = c.before.before.before.before.before.before.start_of_lem in
+    let size = c.type_size in
+    let first = c.start_of_lem in
     let k = c.before.before.before.before.before.before.before in
-    c.run-cell.ensures
-    ∙ ap cell (shown_read k first.ensures size.ensures.0 c.before.before.before.wide.ensures.0 c.before.wide2.ensures.0)
-    ∙ told _ _ k.before.m.given.1
+    c.run_cell.ensures
+    ∙ ap cell (shown_read k first.ensures size.ensures.0 c.wide-rear.ensures.0 c.wide-front.ensures.0)
+    ∙ told _ _ k.m-1.given.1
 
-returns-2 : tie.Need-returns-2
+returns-2 : tie.Need-returns-in-Absent
 unfolding cell shown_move
-returns-2 c = c.marked.ensures ∙ told _ _ c.before.enum_told.given.1
+returns-2 c = c.marked.ensures ∙ told _ _ c.in-Absent.is
 
-returns-3 : tie.Need-returns-3
+returns-3 : tie.Need-returns-in-Gone
 unfolding cell shown_move
-returns-3 c = c.marked2.ensures ∙ told _ _ c.before.enum-told2.given.1
+returns-3 c = c.marked-in-Gone.ensures ∙ told _ _ c.in-Gone.is
 
-pub cell-of-spec : {M : Type 1} → statement M
-cell-of-spec =
+pub cell_of_spec : {M : Type 1} → statement M
+cell_of_spec =
     tie.close
     (tie.spec
     (λ c. search rules)
@@ -85,7 +85,7 @@ cell-of-spec =
     (λ c κs. let k = c.before in ((asks k).0, (asks k).1))
     (λ c. let n = c.before in omega (arith, inside n, held_by n))
     (λ c κs. search rules)
-    (λ c. let n = c.before.before in omega (arith, asks (run-told n), n.before.start_of_lem.ensures, held_by n))
+    (λ c. let n = c.before.before in omega (arith, asks (run-told n), n.start_of_lem.ensures, held_by n))
     (λ c. let n = c.before.before in omega (arith, held_by n))
     (λ c. let n = c.before.before.before in omega (arith, inside n, held_by n))
     (λ c κs. search rules)

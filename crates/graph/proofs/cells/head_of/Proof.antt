@@ -46,29 +46,29 @@ module _ (n : ℕ) where
   unfolding aligned
   aligned-three h l = ap behind (decimal-three h l)
 
-returns : tie.Need-returns
+returns : tie.Need-returns-then-interval-lt10
 returns c =
-    let n = c.before.before.args.interval in
-    ap (λ (s : Bytes). s ++ one 32) (ap (λ (x : ℕ). 32 ∷ 32 ∷ one x) c.before.digit.ensures ∙ sym (aligned-one n c.if1.true))
+    let n = c.args.interval in
+    ap (λ (s : Bytes). s ++ one 32) (ap (λ (x : ℕ). 32 ∷ 32 ∷ one x) c.digit-ones.ensures ∙ sym (aligned-one n c.if-interval-lt10.true))
 
-returns-2 : tie.Need-returns-2
+returns-2 : tie.Need-returns-then-interval-lt100
 returns-2 c =
-    let n = c.before.before.before.before.args.interval in
-    let h = c.before.before.if1.false in
+    let n = c.args.interval in
+    let h = c.if-interval-lt10.false in
     ap (λ (s : Bytes). s ++ one 32)
-    (ap₂ (λ (x y : ℕ). 32 ∷ x ∷ one y) c.before.digit2.ensures c.before.before.before.digit.ensures
-    ∙ sym (aligned-two n h c.if2.true))
+    (ap₂ (λ (x y : ℕ). 32 ∷ x ∷ one y) c.digit-tens.ensures c.digit-ones.ensures
+    ∙ sym (aligned-two n h c.if-interval-lt100.true))
 
-returns-3 : tie.Need-returns-3
+returns-3 : tie.Need-returns
 returns-3 c =
     let s = c.before.before.before.before.before in
     let n = s.args.interval in
-    let digits : c.digit3.result ∷ c.before.before.digit2.result ∷ one c.before.before.before.before.digit.result ≡ aligned 3 n =
-    rw (c.digit3.ensures, c.before.before.digit2.ensures, c.before.before.before.before.digit.ensures)
-    (sym (aligned-three n c.before.if2.false s.requires)) in
+    let digits : c.digit-hundreds.result ∷ c.digit-tens.result ∷ one c.digit-ones.result ≡ aligned 3 n =
+    rw (c.digit-hundreds.ensures, c.digit-tens.ensures, c.digit-ones.ensures)
+    (sym (aligned-three n c.if-interval-lt100.false s.requires)) in
     ap (λ (s : Bytes). s ++ one 32) digits
 
-pub head-of-spec : {M : Type 1} → statement M
-head-of-spec =
+pub head_of_spec : {M : Type 1} → statement M
+head_of_spec =
     tie.close
     (tie.spec (λ c κs. search rules) returns (λ c κs. search rules) returns-2 (λ c κs. search rules) returns-3)

@@ -9,11 +9,11 @@ use Rattle.graph.proofs.cells.run_cell.Tie as tie
 returns : tie.Need-returns
 unfolding cell in_digits
 returns c =
-    let tens = c.before.before.before.before.digit.ensures in
-    rw (tens, c.before.before.before.digit2.ensures, c.before.before.digit3.ensures, c.before.digit4.ensures, c.digit5.ensures) refl
+    let tens = c.digit.ensures in
+    rw (tens, c.digit-2.ensures, c.digit-3.ensures, c.digit-4.ensures, c.digit-5.ensures) refl
 
-pub run-cell-spec : {M : Type 1} → statement M
-run-cell-spec =
+pub run_cell_spec : {M : Type 1} → statement M
+run_cell_spec =
     tie.close
     (tie.spec
     (λ c κs. search rules)

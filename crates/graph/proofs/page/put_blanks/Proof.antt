@@ -10,10 +10,10 @@ use Rattle.laws.proofs.Stores.{Stored, stored-none, stored-byte, stored_same, st
 use Rattle.graph.proofs.page.put_blanks.Statement.{statement}
 use Rattle.graph.proofs.page.put_blanks.Tie as tie
 
-abbrev invariant-loop : tie.invariant-loop
+abbrev invariant-loop : tie.invariant-loop-at
 invariant-loop page₀ from to at₀ page at = (from ≤ at) × (at ≤ to) × Stored page₀ from (replicate (at - from) blank) page at
 
-abbrev decreases-loop : tie.decreases-loop
+abbrev decreases-loop : tie.decreases-loop-at
 decreases-loop page₀ from to at₀ page at = to - at
 
 -- no blank yet, and one more
@@ -25,28 +25,28 @@ more from at h =
     let e : at - from + 1 ≡ at + 1 - from = omega arith in
     replicate-append-replicate (at - from) 1 blank ∙ ap (λ (k : ℕ). replicate k blank) e
 
-loop-again : tie.Need-loop-preserved invariant-loop decreases-loop
+loop-again : tie.Need-loop-at-preserved invariant-loop decreases-loop
 loop-again c =
-    let l = c.before.loop in
+    let l = c.loop-at in
     (omega arith, omega arith, stored_same (stored-byte l.invariant.2 blank refl) (more _ _ l.invariant.0))
 
 returns : tie.Need-returns invariant-loop decreases-loop
 returns c =
-    let l = c.before.loop in
-    let a = c.before.before.args in
-    let done : l.at - a.from ≡ a.to - a.from = omega (arith, l.invariant.1, c.loop-test.false) in
+    let l = c.loop-at in
+    let a = c.args in
+    let done : l.at - a.from ≡ a.to - a.from = omega (arith, l.invariant.1, c.loop-at-test.false) in
     (stored_same l.invariant.2 (ap (λ (k : ℕ). replicate k blank) done)).bytes
 
-pub put-blanks-spec : {M : Type 1} → statement M
-put-blanks-spec =
+pub put_blanks_spec : {M : Type 1} → statement M
+put_blanks_spec =
     tie.close
     (tie.spec
     invariant-loop
     decreases-loop
     (λ c. (omega arith, omega arith, stored_same (stored-none _ _) (none c.args.from)))
-    (λ c. omega (arith, stored-length c.before.loop.invariant.2))
-    (λ c. omega (arith, c.loop-test.true))
+    (λ c. omega (arith, stored-length c.loop-at.invariant.2))
+    (λ c. omega (arith, c.loop-at-test.true))
     (λ c. omega arith)
     loop-again
-    (λ c. stored-length c.before.loop.invariant.2)
+    (λ c. stored-length c.loop-at.invariant.2)
     returns)

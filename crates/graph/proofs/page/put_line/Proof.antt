@@ -30,50 +30,50 @@ module _ (s : tie.Start) where
 
   short : t < 1000
   short =
-      let passed = s.pre.0.counted.passed in
-      omega (arith, s.pre.2, few-intervals (held s.args.b) passed.formed, intervals-is s.args.b passed)
+      let passed = s.requires.0.counted.passed in
+      omega (arith, s.requires.2, few-intervals (held s.args.b) passed.formed, intervals-is s.args.b passed)
 
   few : s.args.b.train_count ≤ 8
-  few = s.pre.0.counted.passed.packed.counts.trains
+  few = s.requires.0.counted.passed.packed.counts.trains
 
 -- the interval
-module _ (c : tie.After-head-of) where
+module _ (c : tie.After-head_of-head) where
   abbrev asked : tie.Start
   asked = c.before.before.before.before
 
-  four : length c.head_of.result ≡ 4
+  four : length c.head_of-head.result ≡ 4
   four =
-      ap length c.head_of.ensures
+      ap length c.head_of-head.ensures
       ∙ omega (arith, length-append (aligned 3 (t asked)) (one blank), length-aligned 2 (t asked) (short asked))
 
-put-bytes-requires : tie.Need-put-bytes-requires
+put-bytes-requires : tie.Need-put_bytes-from-requires
 put-bytes-requires c κs =
     let h = c.before.before in
     omega (arith, four h, (asked h).requires.3, (asked h).well-formed)
 
 -- the interval is stored
-module _ (c : tie.After-put-bytes) where
-  abbrev head : tie.After-head-of
+module _ (c : tie.After-put_bytes-from) where
+  abbrev head : tie.After-head_of-head
   head = c.before.before.before
 
   abbrev given : tie.Start
   given = asked head
 
-  opened : Stored given.args.page.now given.args.at (aligned 3 (t given) ++ one blank) c.put-bytes.new.0 c.put-bytes.result
-  opened = stored_same (stored _ _ head.head_of.result c.put-bytes.ensures.0 c.put-bytes.ensures.1) head.head_of.ensures
+  opened : Stored given.args.page.now given.args.at (aligned 3 (t given) ++ one blank) c.put_bytes-from.new.0 c.put_bytes-from.result
+  opened = stored_same (stored _ _ head.head_of-head.result c.put_bytes-from.ensures.0 c.put_bytes-from.ensures.1) head.head_of-head.ensures
 
-  from : c.put-bytes.result ≡ given.args.at + 4
-  from = c.put-bytes.ensures.0 ∙ ap (λ (n : ℕ). given.args.at + n) (four head)
+  from : c.put_bytes-from.result ≡ given.args.at + 4
+  from = c.put_bytes-from.ensures.0 ∙ ap (λ (n : ℕ). given.args.at + n) (four head)
 
-put-cells-requires : tie.Need-put-cells-requires
+put-cells-requires : tie.Need-put_cells-end-requires
 put-cells-requires c κs =
     let b = c.before.before.before in
     let s = given b in
-    (s.pre.0, s.pre.1, s.pre.2, omega (arith, from b, few s, s.pre.3, stored-length (opened b)))
+    (s.requires.0, s.requires.1, s.requires.2, omega (arith, from b, few s, s.requires.3, stored-length (opened b)))
 
 -- the cells behind it
-module _ (c : tie.After-put-cells) where
-  abbrev first : tie.After-put-bytes
+module _ (c : tie.After-put_cells-end) where
+  abbrev first : tie.After-put_bytes-from
   first = c.before.before.before.before
 
   abbrev start : tie.Start
@@ -82,54 +82,54 @@ module _ (c : tie.After-put-cells) where
   abbrev body : Bytes
   body = aligned 3 (t start) ++ (blank ∷ cells (I start) (p start) (t start))
 
-  filled : Stored start.args.page.now start.args.at body c.put-cells.new.1.1.1.1.1.0 c.put-cells.result
+  filled : Stored start.args.page.now start.args.at body c.put_cells-end.new.1.1.1.1.1.0 c.put_cells-end.result
   filled =
-      let long : c.put-cells.result ≡ first.put-bytes.result + length (cells (I start) (p start) (t start)) =
-      c.put-cells.ensures.0 ∙ omega (arith, length-cells (I start) (p start) (t start), trains-is start.args.b start.pre.0.counted.passed) in
-      stored_same (stored-behind (opened first) (stored _ _ (cells (I start) (p start) (t start)) long c.put-cells.ensures.1))
+      let long : c.put_cells-end.result ≡ first.put_bytes-from.result + length (cells (I start) (p start) (t start)) =
+      c.put_cells-end.ensures.0 ∙ omega (arith, length-cells (I start) (p start) (t start), trains-is start.args.b start.requires.0.counted.passed) in
+      stored_same (stored-behind (opened first) (stored _ _ (cells (I start) (p start) (t start)) long c.put_cells-end.ensures.1))
       (append_assoc (aligned 3 (t start)) (one blank) (cells (I start) (p start) (t start)))
 
-  fits : c.put-cells.result ≤ start.args.at + 80
-  fits = omega (arith, c.put-cells.ensures.0, from first, few start)
+  fits : c.put_cells-end.result ≤ start.args.at + 80
+  fits = omega (arith, c.put_cells-end.ensures.0, from first, few start)
 
-put-blanks-requires : tie.Need-put-blanks-requires
+put-blanks-requires : tie.Need-put_blanks-requires
 put-blanks-requires c κs =
     let b = c.before.before.before in
     (fits b, omega (arith, (start b).requires.3, stored-length (filled b)))
 
 -- the blanks behind them, and the newline
-module _ (c : tie.After-put-blanks) where
-  abbrev second : tie.After-put-cells
+module _ (c : tie.After-put_blanks) where
+  abbrev second : tie.After-put_cells-end
   second = c.before.before.before.before
 
   abbrev line : tie.Start
   line = start second
 
   abbrev rest : Bytes
-  rest = replicate (line.args.at + 80 - second.put-cells.result) blank
+  rest = replicate (line.args.at + 80 - second.put_cells-end.result) blank
 
-  padded-out : Stored line.args.page.now line.args.at (body second ++ rest) c.put-blanks.new.0 (line.args.at + 80)
+  padded-out : Stored line.args.page.now line.args.at (body second ++ rest) c.put_blanks.new.0 (line.args.at + 80)
   padded-out =
-      let k = line.args.at + 80 - second.put-cells.result in
+      let k = line.args.at + 80 - second.put_cells-end.result in
       stored-behind (filled second)
-      (stored _ _ rest (omega (arith, fits second, length-replicate {A = ℕ} k blank)) c.put-blanks.ensures)
+      (stored _ _ rest (omega (arith, fits second, length-replicate {A = ℕ} k blank)) c.put_blanks.ensures)
 
-  whole : Stored line.args.page.now line.args.at (page_line (I line) (p line) (t line)) (set c.put-blanks.new.0 (line.args.at + 80) newline)
+  whole : Stored line.args.page.now line.args.at (page_line (I line) (p line) (t line)) (set c.put_blanks.new.0 (line.args.at + 80) newline)
       (line.args.at + 80 + 1)
   unfolding page_line padded
   whole =
-      let same : line.args.at + 80 - second.put-cells.result ≡ 80 - length (body second) = omega (arith, (filled second).ends) in
+      let same : line.args.at + 80 - second.put_cells-end.result ≡ 80 - length (body second) = omega (arith, (filled second).ends) in
       stored_same (stored-byte padded-out newline refl) (ap (λ (n : ℕ). (body second ++ replicate n blank) ++ one newline) same)
 
-pub put-line-spec : {M : Type 1} → statement M
-put-line-spec =
+pub put_line_spec : {M : Type 1} → statement M
+put_line_spec =
     tie.close
     (tie.spec
     (λ c κs. short c.before.before.before)
     (λ c. sym (four c.before.before))
     put-bytes-requires
     put-cells-requires
-    (λ c. let s = start c.before.before in omega (arith, s.pre.3, s.good))
+    (λ c. let s = start c.before.before in omega (arith, s.requires.3, s.good))
     put-blanks-requires
     (λ c. let b = c.before.before in omega (arith, (line b).requires.3, stored-length (padded-out b)))
     (λ c. stored-length (whole c.before.before))

@@ -17,14 +17,14 @@ module _ (s : tie.Start) where
   train = s.args.first.train
 
   first-is : s.args.first.base ≡ formula.first_var I train
-  first-is = let k = s.pre.0 in k.base ∙ sym (base-first I (passed-few s.args.b k.block.passed) train)
+  first-is = let k = s.requires.0 in k.base ∙ sym (base-first I (passed-few s.args.b k.block.passed) train)
 
 returns : tie.Need-returns
 returns c =
     let s = c.before in
     let a = s.args in
     let h = s.requires.0.block in
-    let e = c.base-from.ensures in (
+    let e = c.base_from.ensures in (
       record {
         block = record {
           passed = h.passed;
@@ -43,8 +43,8 @@ returns c =
       refl,
     )
 
-pub block-at-spec : {M : Type 1} → statement M
-block-at-spec =
+pub block_at_spec : {M : Type 1} → statement M
+block_at_spec =
     tie.close
     (tie.spec
     (λ c κs.

@@ -12,7 +12,7 @@ returns c =
     let s = c.before.before.before in
     let a = s.args in
     let p = s.requires in
-    let l = length-here a.t1 p.0.passed a.train p.1 c.before.length-in-segments.ensures in
+    let l = length-here a.t1 p.0.passed a.train p.1 c.length_in_segments-length.ensures in
     record {
       block = record {
         passed = p.0.passed;
@@ -20,20 +20,20 @@ returns c =
         runs = p.0.runs a.train p.1;
         length = l.0;
         short = l.1;
-        small = omega (arith, c.first-variable.ensures, first_below a.t1 a.t2 p.0 a.train p.1);
+        small = omega (arith, c.first_variable.ensures, first_below a.t1 a.t2 p.0 a.train p.1);
       };
       train = refl;
-      base = c.first-variable.ensures ∙ base-first _ (passed-few a.t1 p.0.passed) a.train;
+      base = c.first_variable.ensures ∙ base-first _ (passed-few a.t1 p.0.passed) a.train;
     }
 
-pub train-block-spec : {M : Type 1} → statement M
-train-block-spec =
+pub train_block_spec : {M : Type 1} → statement M
+train_block_spec =
     tie.close
     (tie.spec
     (λ c. search rules)
     (λ c. search rules)
-    (λ c κs. length-asks c.before.args.t1 c.before.requires.0.passed c.before.args.train c.before.requires.1)
+    (λ c κs. length-asks c.args.b c.requires.0.passed c.args.train c.requires.1)
     (λ c. search rules)
     (λ c. search rules)
-    (λ c κs. let p = c.before.before.requires in (p.0, omega (arith, p.1)))
+    (λ c κs. let p = c.requires in (p.0, omega (arith, p.1)))
     returns)

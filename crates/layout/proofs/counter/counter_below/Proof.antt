@@ -19,11 +19,11 @@ module _ (cap free : ℕ) where
   unfolding counter_for
   allows-all h = rw (h, counter_for)
 
-returns : tie.Need-returns
-returns c = counts _ _ (lt-ltb _ _ c.if1.true)
+returns : tie.Need-returns-then-cap-free
+returns c = counts _ _ (lt-ltb _ _ c.if-cap-free.true)
 
-returns-2 : tie.Need-returns-2
-returns-2 c = allows-all _ _ (le-ltb _ _ c.if1.false)
+returns-2 : tie.Need-returns
+returns-2 c = allows-all _ _ (le-ltb _ _ c.if-cap-free.false)
 
-pub counter-below-spec : {M : Type 1} → statement M
-counter-below-spec = tie.close (tie.spec (λ c. search rules) returns returns-2)
+pub counter_below_spec : {M : Type 1} → statement M
+counter_below_spec = tie.close (tie.spec (λ c. search rules) returns returns-2)

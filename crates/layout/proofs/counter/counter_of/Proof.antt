@@ -41,16 +41,16 @@ module _ (b : BookStruct) where
         few = subst (λ (n : ℕ). n ≤ 96) (ap (λ m. m.most + m.spare) (sym h)) (omega (arith, small, few));
       }
 
-returns : tie.Need-returns
-returns c = none_of _ _ c.enum_told.given.1
+returns : tie.Need-returns-in-No
+returns c = none_of _ _ c.in-No.is
 
-returns-2 : tie.Need-returns-2
+returns-2 : tie.Need-returns-in-AtMost
 returns-2 c =
     let start = c.before.before.before.before.before in
-    let free = c.before.count-free.ensures in
-    some_of _ _ _ _ _ c.before.before.before.cap.given.1 free.0 (omega (arith, free.1, start.requires.nodes)) c.counter-below.ensures
+    let free = c.count_free.ensures in
+    some_of _ _ _ _ _ c.cap-1.given.1 free.0 (omega (arith, free.1, start.requires.nodes)) c.counter_below.ensures
 
-pub counter-of-spec : {M : Type 1} → statement M
-counter-of-spec =
+pub counter_of_spec : {M : Type 1} → statement M
+counter_of_spec =
     tie.close
     (tie.spec (λ c. search rules) (λ c. search rules) (λ c κs. search rules) (λ c κs. search rules) returns returns-2)

@@ -12,11 +12,11 @@ module _ (free set : Bool) where
   never : free ≡ false → false ≡ (free && set)
   never h = rw h refl
 
-returns : tie.Need-returns
-returns c = by-border _ _ (sym c.before.is_free.ensures ∙ c.if1.true)
+returns : tie.Need-returns-then-is_free
+returns c = by-border _ _ (sym c.is_free.ensures ∙ c.if-is_free.true)
 
-returns-2 : tie.Need-returns-2
-returns-2 c = never _ _ (sym c.before.is_free.ensures ∙ c.if1.false)
+returns-2 : tie.Need-returns
+returns-2 c = never _ _ (sym c.is_free.ensures ∙ c.if-is_free.false)
 
-pub counts-spec : {M : Type 1} → statement M
-counts-spec = tie.close (tie.spec (λ c κs. search rules) returns returns-2)
+pub counts_spec : {M : Type 1} → statement M
+counts_spec = tie.close (tie.spec (λ c κs. search rules) returns returns-2)

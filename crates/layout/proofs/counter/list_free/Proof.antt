@@ -19,59 +19,57 @@ use Rattle.laws.proofs.Stores.{Stored, stored-none, stored-byte, stored_same, st
 use Rattle.network.proofs.Held.{kind_at}
 use Rattle.layout.proofs.counter.list_free.Statement.{statement}
 use Rattle.layout.proofs.counter.list_free.Tie as tie
+use Rattle.layout.proofs.counter.list_free.Lts.{else-is_free, then-is_free}
 
 -- the free nodes below one
 abbrev before : BookStruct → ℕ → List ℕ
 before b n = pick (is_free (instance_of (held b))) (up_to n)
 
-abbrev invariant-loop : tie.invariant-loop
+abbrev invariant-loop : tie.invariant-loop-node
 invariant-loop out₀ b nodes free₀ node₀ out free node = (node ≤ nodes) × (free ≤ node) × Stored out₀ 0 (before b node) out free
 
-abbrev decreases-loop : tie.decreases-loop
+abbrev decreases-loop : tie.decreases-loop-node
 decreases-loop out₀ b nodes free₀ node₀ out free node = nodes - node
 
-loop-holds : tie.Need-loop-init invariant-loop decreases-loop
+loop-holds : tie.Need-loop-node-init invariant-loop decreases-loop
 unfolding pick up_to count
 loop-holds c = (omega arith, omega arith, stored-none _ 0)
 
 -- what the test says of the node
-free-is : (c : tie.After-is-free invariant-loop decreases-loop)
-    → is_free (instance_of (held c.before.before.before.before.before.args.t1)) c.before.before.before.loop.node ≡ c.is_free.result
+free-is : (c : tie.After-is_free invariant-loop decreases-loop)
+    → is_free (instance_of (held c.args.b)) c.loop-node.node ≡ c.is_free.result
 unfolding is_free instance_of compile
 free-is c =
-    let b = c.before.before.before.before.before.args.t1 in
-    ap (λ (k : ℕ). not (denies_border k) && not (forces_border k)) (kind_at b _ c.before.before.loop-test.true) ∙ sym c.is_free.ensures
+    let b = c.args.b in
+    ap (λ (k : ℕ). not (denies_border k) && not (forces_border k)) (kind_at b _ c.loop-node-test.true) ∙ sym c.is_free.ensures
 
-loop-again : tie.Need-loop-preserved invariant-loop decreases-loop
+loop-again : tie.Need-loop-node-preserved invariant-loop decreases-loop
 loop-again c =
     let f = c.before in
     let a = f.before.before.before in
-    let n = a.loop.node in
-    let i = a.loop.invariant in
-    ⊎_elim
-    (λ w. (
+    let n = a.loop-node.node in
+    let i = a.loop-node.invariant in
+    elim (c.if-is_free.branch) [ then-is_free w ↦ (
       omega arith,
       omega (arith, w.2),
-      stored-now (stored_same (stored-byte i.2 n refl) (sym (pick-taken _ n (free-is f ∙ w.0.taken)))) w.2 w.1,
-    ))
-    (λ w. (omega arith, omega (arith, w.2), stored-now (stored_same i.2 (sym (pick-left _ n (free-is f ∙ w.0.left)))) w.2 w.1))
-    c.if1.branch
+      stored-now (stored_same (stored-byte i.2 n refl) (sym (pick-taken _ n (free-is f ∙ w.if-is_free.true)))) w.2 w.1,
+    ) | else-is_free w ↦ (omega arith, omega (arith, w.2), stored-now (stored_same i.2 (sym (pick-left _ n (free-is f ∙ w.if-is_free.false)))) w.2 w.1) ]
 
-same_length : tie.Need-same-length invariant-loop decreases-loop
-same_length c = stored-length c.before.loop.invariant.2
+same_length : tie.Need-shape_of-out invariant-loop decreases-loop
+same_length c = stored-length c.loop-node.invariant.2
 
 returns : tie.Need-returns invariant-loop decreases-loop
 unfolding free_nodes_of instance_of compile held
 returns c =
-    let b = c.before.before.before.args.t1 in
+    let b = c.args.b in
     let many : length b.nodes ≡ 96 = search rules in
-    let all : length (take b.node_count b.nodes) ≡ b.node_count = length-take-le _ _ (omega (arith, many, c.before.before.before.requires.0.nodes)) in
-    let e : c.before.loop.node ≡ length (take b.node_count b.nodes) = omega (arith, all, c.before.loop.invariant.0, c.loop-test.false) in
-    let stored = stored_same c.before.loop.invariant.2 (ap (before b) e) in
+    let all : length (take b.node_count b.nodes) ≡ b.node_count = length-take-le _ _ (omega (arith, many, c.requires.0.nodes)) in
+    let e : c.loop-node.node ≡ length (take b.node_count b.nodes) = omega (arith, all, c.loop-node.invariant.0, c.loop-node-test.false) in
+    let stored = stored_same c.loop-node.invariant.2 (ap (before b) e) in
     (stored.ends ∙ zero-add _, stored.bytes)
 
-pub list-free-spec : {M : Type 1} → statement M
-list-free-spec =
+pub list_free_spec : {M : Type 1} → statement M
+list_free_spec =
     tie.close
     (tie.spec
     invariant-loop
@@ -80,7 +78,7 @@ list-free-spec =
     (λ c. omega arith)
     (λ c κs. search rules)
     (λ c. omega arith)
-    (λ c. omega (arith, stored-length c.before.before.before.before.loop.invariant.2))
+    (λ c. omega (arith, stored-length c.loop-node.invariant.2))
     (λ c. omega arith)
     (λ c. omega arith)
     (λ c. omega arith)

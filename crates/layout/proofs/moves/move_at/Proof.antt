@@ -12,7 +12,7 @@ use Rattle.layout.proofs.Places.{move-fits, move-is}
 use Rattle.layout.proofs.moves.move_at.Statement.{statement}
 use Rattle.layout.proofs.moves.move_at.Tie as tie
 
-move-place-requires : tie.Need-move-place-requires
+move-place-requires : tie.Need-move_place-requires
 move-place-requires c κs = search rules
 
 pair-requires : tie.Need-pair-requires
@@ -23,18 +23,18 @@ pair-requires c κs =
     let I = instance_of (held a.b) in
     let known : a.train < I.trains = omega (arith, p.2, trains-is a.b p.0) in
     let inside : a.interval < I.intervals = omega (arith, p.3, intervals-is a.b p.0) in
-    omega (arith, p.1, c.move-place.ensures, move-fits I a.train a.interval known inside)
+    omega (arith, p.1, c.move_place.ensures, move-fits I a.train a.interval known inside)
 
-move-of-requires : tie.Need-move-of-requires
+move-of-requires : tie.Need-move_of-requires
 move-of-requires c κs = search rules
 
 returns : tie.Need-returns
 returns c =
     let m = c.before.before in
-    let a = m.before.before.args in
-    c.move-of.ensures
-    ∙ ap move_of (c.before.pair.ensures.0 ∙ ap (λ (at : ℕ). field a.plan.now at 2) m.move-place.ensures)
+    let a = m.args in
+    c.move_of.ensures
+    ∙ ap move_of (c.pair.ensures.0 ∙ ap (λ (at : ℕ). field a.plan.now at 2) m.move_place.ensures)
     ∙ move-is _ _ _ _
 
-pub move-at-spec : {M : Type 1} → statement M
-move-at-spec = tie.close (tie.spec move-place-requires pair-requires move-of-requires returns)
+pub move_at_spec : {M : Type 1} → statement M
+move_at_spec = tie.close (tie.spec move-place-requires pair-requires move-of-requires returns)

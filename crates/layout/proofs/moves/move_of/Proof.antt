@@ -21,14 +21,14 @@ run_of : (n : ℕ) → eqb n 65534 ≡ false → eqb n 65535 ≡ false → run n
 unfolding move_of
 run_of n h k = rw (h, k, move_of)
 
-returns : tie.Need-returns
-returns c = absent-of _ (eq-eqb _ _ c.if1.true)
+returns : tie.Need-returns-then-code-eq-ABSENT
+returns c = absent-of _ (eq-eqb _ _ c.if-code-eq-ABSENT.true)
 
-returns-2 : tie.Need-returns-2
-returns-2 c = gone_of _ (ne_eqb _ _ c.before.if1.false) (eq-eqb _ _ c.if2.true)
+returns-2 : tie.Need-returns-then-code-eq-GONE
+returns-2 c = gone_of _ (ne_eqb _ _ c.if-code-eq-ABSENT.false) (eq-eqb _ _ c.if-code-eq-GONE.true)
 
-returns-3 : tie.Need-returns-3
-returns-3 c = run_of _ (ne_eqb _ _ c.before.if1.false) (ne_eqb _ _ c.if2.false)
+returns-3 : tie.Need-returns
+returns-3 c = run_of _ (ne_eqb _ _ c.if-code-eq-ABSENT.false) (ne_eqb _ _ c.if-code-eq-GONE.false)
 
-pub move-of-spec : {M : Type 1} → statement M
-move-of-spec = tie.close (tie.spec returns returns-2 returns-3)
+pub move_of_spec : {M : Type 1} → statement M
+move_of_spec = tie.close (tie.spec returns returns-2 returns-3)

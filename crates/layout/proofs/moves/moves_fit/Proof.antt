@@ -19,38 +19,38 @@ abbrev fits : BookStruct → Bytes → ℕ → Bool
 fits b plan i =
     all (λ t. is_move (instance_of (held b)) i ((plan_of (instance_of (held b)) plan).move i t)) (up_to (instance_of (held b)).intervals)
 
-abbrev invariant-loop : tie.invariant-loop
+abbrev invariant-loop : tie.invariant-loop-i
 invariant-loop b plan runs trains i₀ i = all (fits b plan) (up_to (instance_of (held b)).trains) ≡ all (fits b plan) (range i trains)
 
-abbrev decreases-loop : tie.decreases-loop
+abbrev decreases-loop : tie.decreases-loop-i
 decreases-loop b plan runs trains i₀ i = trains - i
 
-loop-holds : tie.Need-loop-init invariant-loop decreases-loop
+loop-holds : tie.Need-loop-i-init invariant-loop decreases-loop
 loop-holds c =
     let s = c.before in
     ap (λ (n : ℕ). all (fits s.args.b s.args.plan.now) (up_to n)) (trains-is s.args.b s.requires.0.passed) ∙ all_start _ _
 
-few : (c : tie.In-loop invariant-loop decreases-loop) → c.before.loop.i < 8
-few c = omega (arith, c.loop-test.true, c.before.before.before.requires.0.passed.packed.counts.trains)
+few : (c : tie.In-loop-i invariant-loop decreases-loop) → c.loop-i.i < 8
+few c = omega (arith, c.loop-i-test.true, c.requires.0.passed.packed.counts.trains)
 
-train-fits-requires : tie.Need-train-fits-requires invariant-loop decreases-loop
+train-fits-requires : tie.Need-train_fits-requires invariant-loop decreases-loop
 train-fits-requires c κs =
-    let p = c.before.before.before.requires in
-    let below = c.loop-test.true in
-    (p.0.passed, p.1, below, p.0.runs c.before.loop.i below)
+    let p = c.requires in
+    let below = c.loop-i-test.true in
+    (p.0.passed, p.1, below, p.0.runs c.loop-i.i below)
 
-returns : tie.Need-returns invariant-loop decreases-loop
+returns : tie.Need-returns-then-not-train_fits invariant-loop decreases-loop
 returns c =
-    all-broken _ c.before.before.before.loop.invariant c.before.before.loop-test.true
-    (sym c.before.train-fits.ensures ∙ not-true _ c.if1.true)
+    all-broken _ c.loop-i.invariant c.loop-i-test.true
+    (sym c.train_fits.ensures ∙ not-true _ c.if-not-train_fits.true)
 
-loop-again : tie.Need-loop-preserved invariant-loop decreases-loop
+loop-again : tie.Need-loop-i-preserved invariant-loop decreases-loop
 loop-again c =
-    all-turn _ c.before.before.before.loop.invariant c.before.before.loop-test.true
-    (sym c.before.train-fits.ensures ∙ not-false _ c.if1.false)
+    all-turn _ c.loop-i.invariant c.loop-i-test.true
+    (sym c.train_fits.ensures ∙ not-false _ c.if-not-train_fits.false)
 
-pub moves-fit-spec : {M : Type 1} → statement M
-moves-fit-spec =
+pub moves_fit_spec : {M : Type 1} → statement M
+moves_fit_spec =
     tie.close
     (tie.spec
     invariant-loop
@@ -63,4 +63,4 @@ moves-fit-spec =
     (λ c. omega arith)
     (λ c. omega arith)
     loop-again
-    (λ c. all_done _ c.before.loop.invariant c.loop-test.false))
+    (λ c. all_done _ c.loop-i.invariant c.loop-i-test.false))

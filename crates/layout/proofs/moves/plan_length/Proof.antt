@@ -10,14 +10,14 @@ use Rattle.layout.proofs.Places.{place_end}
 use Rattle.layout.proofs.moves.plan_length.Statement.{statement}
 use Rattle.layout.proofs.moves.plan_length.Tie as tie
 
-move-place-requires : tie.Need-move-place-requires
+move-place-requires : tie.Need-move_place-requires
 move-place-requires c κs = search rules
 
 returns : tie.Need-returns
 returns c =
-    let b = c.before.args.b in
+    let b = c.args.b in
     let I = instance_of (held b) in
-    c.move-place.ensures ∙ ap (λ (i : ℕ). move_at I i 0) (sym (trains-is b c.before.requires)) ∙ place_end I
+    c.move_place.ensures ∙ ap (λ (i : ℕ). move_at I i 0) (sym (trains-is b c.requires)) ∙ place_end I
 
-pub plan-length-spec : {M : Type 1} → statement M
-plan-length-spec = tie.close (tie.spec move-place-requires returns)
+pub plan_length_spec : {M : Type 1} → statement M
+plan_length_spec = tie.close (tie.spec move-place-requires returns)

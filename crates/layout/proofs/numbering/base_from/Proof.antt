@@ -11,19 +11,19 @@ width-requires : tie.Need-width-requires
 width-requires c κs = search rules
 
 -- the intervals before it have so many variables at most
-span : (c : tie.After-width) → c.before.args.interval * c.width.result ≤ 21037056
-span c = mul-le-mul {n₂ = 65536} {m₂ = 321} c.before.requires.3 (omega arith)
+span : (c : tie.After-width) → c.args.interval * c.width.result ≤ 21037056
+span c = mul-le-mul {n₂ = 65536} {m₂ = 321} c.requires.3 (omega arith)
 
-mul-result : tie.Need-overflow-mul-result
+mul-result : tie.Need-overflow_mul-result
 mul-result c = omega (arith, span c)
 
-add-result : tie.Need-overflow-add-result
+add-result : tie.Need-overflow_add-result
 add-result c = omega (arith, span c)
 
 returns : tie.Need-returns
 returns c =
-    let a = c.before.args in
+    let a = c.args in
     (ap (λ (w : ℕ). a.first + a.interval * w) c.width.ensures, omega (arith, span c))
 
-pub base-from-spec : {M : Type 1} → statement M
-base-from-spec = tie.close (tie.spec width-requires mul-result add-result returns)
+pub base_from_spec : {M : Type 1} → statement M
+base_from_spec = tie.close (tie.spec width-requires mul-result add-result returns)

@@ -8,11 +8,11 @@ use Rattle.tables.proofs.Small.{few-runs, few-segments, first_below, base-here}
 use Rattle.layout.proofs.numbering.base_of.Statement.{statement}
 use Rattle.layout.proofs.numbering.base_of.Tie as tie
 
-base-from-requires : tie.Need-base-from-requires
+base-from-requires : tie.Need-base_from-requires
 base-from-requires c κs =
-    let a = c.before.args in
-    let p = c.before.requires in (
-      subst (λ (n : ℕ). n ≤ 168296544) (sym c.first-variable.ensures) (first_below a.b a.t2 p.0 a.train p.1),
+    let a = c.args in
+    let p = c.requires in (
+      subst (λ (n : ℕ). n ≤ 168296544) (sym c.first_variable.ensures) (first_below a.b a.t2 p.0 a.train p.1),
       few-runs a.b a.t2 p.0 a.train p.1,
       few-segments a.b a.t2 p.0 a.train p.1,
       omega (arith, p.0.passed.packed.numbers.intervals, p.2),
@@ -21,16 +21,16 @@ base-from-requires c κs =
 returns : tie.Need-returns
 returns c =
     let v = c.before in
-    let a = v.before.args in
-    let p = v.before.requires in (
-      c.base-from.ensures.0
-          ∙ ap (λ (x : ℕ). x + a.interval * (get_or a.t2 a.train 0 + 1 + a.b.segment_count)) v.first-variable.ensures
+    let a = v.args in
+    let p = v.requires in (
+      c.base_from.ensures.0
+          ∙ ap (λ (x : ℕ). x + a.interval * (get_or a.t2 a.train 0 + 1 + a.b.segment_count)) v.first_variable.ensures
           ∙ base-here a.b a.t2 p.0 a.train p.1 a.interval,
-      c.base-from.ensures.1,
+      c.base_from.ensures.1,
     )
 
-pub base-of-spec : {M : Type 1} → statement M
-base-of-spec =
+pub base_of_spec : {M : Type 1} → statement M
+base_of_spec =
     tie.close
     (tie.spec
     (λ c κs. search rules)

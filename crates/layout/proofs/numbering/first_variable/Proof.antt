@@ -13,62 +13,62 @@ use Rattle.tables.proofs.Small.{first-none, nodes-is, few-trains, few-runs, few-
 use Rattle.layout.proofs.numbering.first_variable.Statement.{statement}
 use Rattle.layout.proofs.numbering.first_variable.Tie as tie
 
-abbrev invariant-loop : tie.invariant-loop
+abbrev invariant-loop : tie.invariant-loop-j
 invariant-loop b train runs first₀ j₀ first j = (j ≤ train) × (first ≡ first_var (instance_of (held b)) j)
 
-abbrev decreases-loop : tie.decreases-loop
+abbrev decreases-loop : tie.decreases-loop-j
 decreases-loop b train runs first₀ j₀ first j = train - j
 
-loop-holds : tie.Need-loop-init invariant-loop decreases-loop
+loop-holds : tie.Need-loop-j-init invariant-loop decreases-loop
 loop-holds c =
     let a = c.args in
     (omega arith, sym (first-none (instance_of (held a.b)) ∙ nodes-is a.b c.requires.0.passed))
 
 -- what holds of train j
-module _ (c : tie.In-loop invariant-loop decreases-loop) where
+module _ (c : tie.In-loop-j invariant-loop decreases-loop) where
   abbrev b : BookStruct
-  b = c.before.before.args.b
+  b = c.args.b
 
   abbrev runs : List ℕ
-  runs = c.before.before.args.t2
+  runs = c.args.counts
 
   abbrev j : ℕ
-  j = c.before.loop.j
+  j = c.loop-j.j
 
   counted : Counted b runs
-  counted = c.before.before.requires.0
+  counted = c.requires.0
 
   below : j < b.train_count
-  below = omega (arith, c.loop-test.true, c.before.before.requires.1)
+  below = omega (arith, c.loop-j-test.true, c.requires.1)
 
   few-j : j < 8
   few-j = few-trains b runs counted j below
 
-  next : c.before.loop.first + b.intervals * (get_or runs j 0 + 1 + b.segment_count) ≡ first_var (instance_of (held b)) (j + 1)
+  next : c.loop-j.first + b.intervals * (get_or runs j 0 + 1 + b.segment_count) ≡ first_var (instance_of (held b)) (j + 1)
   next =
-      ap (λ (n : ℕ). n + b.intervals * (get_or runs j 0 + 1 + b.segment_count)) c.before.loop.invariant.1
+      ap (λ (n : ℕ). n + b.intervals * (get_or runs j 0 + 1 + b.segment_count)) c.loop-j.invariant.1
       ∙ first_then b runs counted j below
 
-base-from-requires : tie.Need-base-from-requires invariant-loop decreases-loop
+base-from-requires : tie.Need-base_from-first-requires invariant-loop decreases-loop
 base-from-requires c κs = (
-  subst (λ (n : ℕ). n ≤ 168296544) (sym c.before.loop.invariant.1) (first_below (b c) (runs c) (counted c) (j c) (below c)),
+  subst (λ (n : ℕ). n ≤ 168296544) (sym c.loop-j.invariant.1) (first_below (b c) (runs c) (counted c) (j c) (below c)),
   few-runs (b c) (runs c) (counted c) (j c) (below c),
   few-segments (b c) (runs c) (counted c) (j c) (below c),
   omega (arith, (counted c).passed.packed.numbers.intervals),
 )
 
-loop-again : tie.Need-loop-preserved invariant-loop decreases-loop
+loop-again : tie.Need-loop-j-preserved invariant-loop decreases-loop
 loop-again c =
-    let h = c.before.loop-test.true in
-    (omega arith, c.base-from.ensures.0 ∙ next c.before)
+    let h = c.loop-j-test.true in
+    (omega arith, c.base_from-first.ensures.0 ∙ next c.before)
 
 returns : tie.Need-returns invariant-loop decreases-loop
 returns c =
-    let e : c.before.loop.j ≡ c.before.before.args.train = omega (arith, c.loop-test.false, c.before.loop.invariant.0) in
-    c.before.loop.invariant.1 ∙ ap (first_var (instance_of (held c.before.before.args.b))) e
+    let e : c.loop-j.j ≡ c.args.train = omega (arith, c.loop-j-test.false, c.loop-j.invariant.0) in
+    c.loop-j.invariant.1 ∙ ap (first_var (instance_of (held c.args.b))) e
 
-pub first-variable-spec : {M : Type 1} → statement M
-first-variable-spec =
+pub first_variable_spec : {M : Type 1} → statement M
+first_variable_spec =
     tie.close
     (tie.spec
     invariant-loop
@@ -78,6 +78,6 @@ first-variable-spec =
     (λ c. few-j c)
     base-from-requires
     (λ c. omega (arith, few-j c.before))
-    (λ c. let h = c.before.loop-test.true in omega arith)
+    (λ c. let h = c.loop-j-test.true in omega arith)
     loop-again
     returns)

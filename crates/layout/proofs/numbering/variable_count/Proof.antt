@@ -11,25 +11,25 @@ use Rattle.layout.proofs.numbering.variable_count.Statement.{statement}
 use Rattle.layout.proofs.numbering.variable_count.Tie as tie
 
 -- the counter has few variables
-few : (c : tie.After-counter-of) → c.counter-of.result.most * c.counter-of.result.spare ≤ 9216
-few c = counter-small _ _ c.counter-of.ensures.few
+few : (c : tie.After-counter_of-c) → c.counter_of-c.result.most * c.counter_of-c.result.spare ≤ 9216
+few c = counter-small _ _ c.counter_of-c.ensures.few
 
-mul-result : tie.Need-overflow-mul-result
+mul-result : tie.Need-overflow_mul-result
 mul-result c = omega (arith, few c.before.before)
 
-add-result : tie.Need-overflow-add-result
-add-result c = omega (arith, few c.before.before, c.before.own-variables.ensures.1)
+add-result : tie.Need-overflow_add-result
+add-result c = omega (arith, few c.before.before, c.own_variables.ensures.1)
 
 returns : tie.Need-returns
 returns c =
     let k = c.before.before in
-    let a = k.before.args in
-    let held-counter = k.counter-of.ensures.counter in (
-      ap₂ (λ (n : ℕ) (m : Counter). n + m.most * m.spare) c.before.own-variables.ensures.0 held-counter
+    let a = k.args in
+    let held-counter = k.counter_of-c.ensures.counter in (
+      ap₂ (λ (n : ℕ) (m : Counter). n + m.most * m.spare) c.own_variables.ensures.0 held-counter
           ∙ sym (variables-under (held_cap a.cap) (instance_of (held a.b))),
-      omega (arith, few k, c.before.own-variables.ensures.1),
+      omega (arith, few k, c.own_variables.ensures.1),
     )
 
-pub variable-count-spec : {M : Type 1} → statement M
-variable-count-spec =
+pub variable_count_spec : {M : Type 1} → statement M
+variable_count_spec =
     tie.close (tie.spec (λ c κs. search rules) (λ c κs. search rules) mul-result add-result returns)

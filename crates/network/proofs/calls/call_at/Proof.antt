@@ -18,6 +18,7 @@ use Rattle.spec.specs.Held.{held, zero_call}
 use Rattle.network.proofs.Walks.{length-of-map, slice-next, slice-end}
 use Rattle.network.proofs.calls.call_at.Statement.{statement}
 use Rattle.network.proofs.calls.call_at.Tie as tie
+use Rattle.network.proofs.calls.call_at.Lts.{else-wide-train, then-wide-train}
 
 -- the element with number k among those from i up to n that pass a test
 module _ {ℓ} {A : Type ℓ} (f : A → Bool) (xs : List A) (n i : ℕ) (z : A) where
@@ -43,19 +44,19 @@ module _ {ℓ} {A : Type ℓ} (f : A → Bool) (xs : List A) (n i : ℕ) (z : A)
   unfolding pick
   nth-none k l = ap (λ ys. get_or (pick f ys) k z) (slice-end xs n i l)
 
-abbrev invariant-loop : tie.invariant-loop
+abbrev invariant-loop : tie.invariant-loop-i
 invariant-loop train number b n left₀ i₀ left i =
     call_at (held b) train number ≡ get_or (pick (λ c. eqb c.train train) (slice i n b.calls)) left no_call
 
-abbrev decreases-loop : tie.decreases-loop
+abbrev decreases-loop : tie.decreases-loop-i
 decreases-loop train number b n left₀ i₀ left i = n - i
 
-loop-holds : tie.Need-loop-init invariant-loop decreases-loop
+loop-holds : tie.Need-loop-i-init invariant-loop decreases-loop
 unfolding call_at calls_of held
 loop-holds c = refl
 
-room : (c : tie.Start invariant-loop decreases-loop) → c.args.t1.call_count ≤ length c.args.t1.calls
-room c = let e : length c.args.t1.calls ≡ 32 = search (rules, length-of-map) in omega arith
+room : (c : tie.Start invariant-loop decreases-loop) → c.args.b.call_count ≤ length c.args.b.calls
+room c = let e : length c.args.b.calls ≡ 32 = search (rules, length-of-map) in omega arith
 
 -- a turn: this call where it is the train's, and those behind it
 module _ (c : tie.After-wide invariant-loop decreases-loop) where
@@ -63,19 +64,19 @@ module _ (c : tie.After-wide invariant-loop decreases-loop) where
   start = c.before.before.before.before
 
   abbrev i : ℕ
-  i = c.before.before.before.loop.i
+  i = c.loop-i.i
 
   abbrev left : ℕ
-  left = c.before.before.before.loop.left
+  left = c.loop-i.left
 
   abbrev here : Call
-  here = get_or start.args.t1.calls i zero_call
+  here = get_or start.args.b.calls i zero_call
 
   abbrev wanted : Call
-  wanted = call_at (held start.args.t1) start.args.train start.args.number
+  wanted = call_at (held start.args.b) start.args.train start.args.number
 
   abbrev behind : ℕ → ℕ → Call
-  behind = among (λ k. eqb k.train start.args.train) start.args.t1.calls start.args.t1.call_count i no_call
+  behind = among (λ k. eqb k.train start.args.train) start.args.b.calls start.args.b.call_count i no_call
 
   module _ (e : c.wide.result ≡ start.args.train) where
     is-of : eqb here.train start.args.train ≡ true
@@ -83,34 +84,31 @@ module _ (c : tie.After-wide invariant-loop decreases-loop) where
 
     turn-here : left ≡ 0 → here ≡ wanted
     turn-here z =
-        sym (c.before.before.before.loop.invariant
+        sym (c.loop-i.invariant
         ∙ ap (λ k. behind k i) z
-        ∙ nth_here _ _ _ _ no_call zero_call c.before.before.loop-test.true (room start) is-of)
+        ∙ nth_here _ _ _ _ no_call zero_call c.loop-i-test.true (room start) is-of)
 
     turn-later : 1 ≤ left → wanted ≡ behind (left - 1) (i + 1)
     turn-later m =
-        c.before.before.before.loop.invariant
-        ∙ nth-later _ _ _ _ no_call zero_call c.before.before.loop-test.true (room start) left m is-of
+        c.loop-i.invariant
+        ∙ nth-later _ _ _ _ no_call zero_call c.loop-i-test.true (room start) left m is-of
 
   turn-other : (c.wide.result ≡ start.args.train → ⊥) → wanted ≡ behind left (i + 1)
   turn-other h =
-      c.before.before.before.loop.invariant
-      ∙ nth-other _ _ _ _ no_call zero_call c.before.before.loop-test.true (room start) left
+      c.loop-i.invariant
+      ∙ nth-other _ _ _ _ no_call zero_call c.loop-i-test.true (room start) left
       (ne_eqb _ _ (λ e. h (c.wide.ensures.0 ∙ e)))
 
-loop-again : tie.Need-loop-preserved invariant-loop decreases-loop
+loop-again : tie.Need-loop-i-preserved invariant-loop decreases-loop
 loop-again c =
-    ⊎_elim
-    (λ w. let some = w.1.left in turn-later c.before w.0.taken (omega arith) ∙ simp w.2)
-    (λ w. turn-other c.before w.0.left ∙ simp w.1)
-    c.if1.branch
+    elim (c.if-wide-train.branch) [ then-wide-train w ↦ let some = w.if-left-eq0.false in turn-later c.before w.if-wide-train.true (omega arith) ∙ simp w.2 | else-wide-train w ↦ turn-other c.before w.if-wide-train.false ∙ simp w.1 ]
 
-returns-2 : tie.Need-returns-2 invariant-loop decreases-loop
+returns-2 : tie.Need-returns invariant-loop decreases-loop
 unfolding no_call
-returns-2 c = sym (c.before.loop.invariant ∙ nth-none _ _ _ _ no_call _ c.loop-test.false)
+returns-2 c = sym (c.loop-i.invariant ∙ nth-none _ _ _ _ no_call _ c.loop-i-test.false)
 
-pub call-at-spec : {M : Type 1} → statement M
-call-at-spec =
+pub call_at_spec : {M : Type 1} → statement M
+call_at_spec =
     tie.close
     (tie.spec
     invariant-loop
@@ -119,7 +117,7 @@ call-at-spec =
     (λ c. omega arith)
     (λ c. omega arith)
     (λ c κs. search rules)
-    (λ c. turn-here c.before.before c.before.if1.true c.if2.true)
+    (λ c. turn-here c.before.before c.if-wide-train.true c.if-left-eq0.true)
     (λ c. omega arith)
     (λ c. omega arith)
     (λ c. omega arith)

@@ -16,17 +16,18 @@ use Rattle.network.proofs.Walks.{length-of-map}
 use Rattle.network.proofs.Rests.{last_taken, last-left, last_end}
 use Rattle.network.proofs.calls.goal.Statement.{statement}
 use Rattle.network.proofs.calls.goal.Tie as tie
+use Rattle.network.proofs.calls.goal.Lts.{else-wide-train, then-wide-train}
 
-abbrev invariant-loop : tie.invariant-loop
+abbrev invariant-loop : tie.invariant-loop-i
 invariant-loop train b n last₀ i₀ last i = goal_of (held b) train ≡ last_or last (pick (λ c. eqb c.train train) (slice i n b.calls))
 
-abbrev decreases-loop : tie.decreases-loop
+abbrev decreases-loop : tie.decreases-loop-i
 decreases-loop train b n last₀ i₀ last i = n - i
 
-room : (c : tie.Start invariant-loop decreases-loop) → c.args.t1.call_count ≤ length c.args.t1.calls
-room c = let e : length c.args.t1.calls ≡ 32 = search (rules, length-of-map) in omega arith
+room : (c : tie.Start invariant-loop decreases-loop) → c.args.b.call_count ≤ length c.args.b.calls
+room c = let e : length c.args.b.calls ≡ 32 = search (rules, length-of-map) in omega arith
 
-loop-holds : tie.Need-loop-init invariant-loop decreases-loop
+loop-holds : tie.Need-loop-i-init invariant-loop decreases-loop
 unfolding goal_of calls_of no_call held
 loop-holds c = refl
 
@@ -36,34 +37,31 @@ module _ (c : tie.After-wide invariant-loop decreases-loop) where
   start = c.before.before.before.before
 
   abbrev i : ℕ
-  i = c.before.before.before.loop.i
+  i = c.loop-i.i
 
   abbrev here : Call
-  here = get_or start.args.t1.calls i zero_call
+  here = get_or start.args.b.calls i zero_call
 
   abbrev behind : Call → ℕ → Call
-  behind z k = last_or z (pick (λ k. eqb k.train start.args.train) (slice k start.args.t1.call_count start.args.t1.calls))
+  behind z k = last_or z (pick (λ k. eqb k.train start.args.train) (slice k start.args.b.call_count start.args.b.calls))
 
-  turn-taken : c.wide.result ≡ start.args.train → goal_of (held start.args.t1) start.args.train ≡ behind here (i + 1)
+  turn-taken : c.wide.result ≡ start.args.train → goal_of (held start.args.b) start.args.train ≡ behind here (i + 1)
   turn-taken e =
-      c.before.before.before.loop.invariant
-      ∙ last_taken _ _ _ _ _ zero_call c.before.before.loop-test.true (room start) (eq-eqb _ _ (sym c.wide.ensures.0 ∙ e))
+      c.loop-i.invariant
+      ∙ last_taken _ _ _ _ _ zero_call c.loop-i-test.true (room start) (eq-eqb _ _ (sym c.wide.ensures.0 ∙ e))
 
   turn-left : (c.wide.result ≡ start.args.train → ⊥)
-      → goal_of (held start.args.t1) start.args.train ≡ behind c.before.before.before.loop.last (i + 1)
+      → goal_of (held start.args.b) start.args.train ≡ behind c.loop-i.last (i + 1)
   turn-left h =
-      c.before.before.before.loop.invariant
-      ∙ last-left _ _ _ _ _ zero_call c.before.before.loop-test.true (room start) (ne_eqb _ _ (λ e. h (c.wide.ensures.0 ∙ e)))
+      c.loop-i.invariant
+      ∙ last-left _ _ _ _ _ zero_call c.loop-i-test.true (room start) (ne_eqb _ _ (λ e. h (c.wide.ensures.0 ∙ e)))
 
-loop-again : tie.Need-loop-preserved invariant-loop decreases-loop
+loop-again : tie.Need-loop-i-preserved invariant-loop decreases-loop
 loop-again c =
-    ⊎_elim
-    (λ w. turn-taken c.before w.0.taken ∙ simp w.1)
-    (λ w. turn-left c.before w.0.left ∙ simp w.1)
-    c.if1.branch
+    elim (c.if-wide-train.branch) [ then-wide-train w ↦ turn-taken c.before w.if-wide-train.true ∙ simp w.1 | else-wide-train w ↦ turn-left c.before w.if-wide-train.false ∙ simp w.1 ]
 
-pub goal-spec : {M : Type 1} → statement M
-goal-spec =
+pub goal_spec : {M : Type 1} → statement M
+goal_spec =
     tie.close
     (tie.spec
     invariant-loop
@@ -75,4 +73,4 @@ goal-spec =
     (λ c. omega arith)
     (λ c. omega arith)
     loop-again
-    (λ c. sym (c.before.loop.invariant ∙ last_end _ _ _ _ _ c.loop-test.false)))
+    (λ c. sym (c.loop-i.invariant ∙ last_end _ _ _ _ _ c.loop-i-test.false)))

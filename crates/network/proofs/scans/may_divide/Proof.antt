@@ -20,142 +20,142 @@ use Rattle.network.proofs.Dividing.{hits, Marks, open_here, divide-by-segment, m
 use Rattle.network.proofs.scans.may_divide.Statement.{statement}
 use Rattle.network.proofs.scans.may_divide.Tie as tie
 
-abbrev invariant-loop : tie.invariant-loop
+abbrev invariant-loop : tie.invariant-loop-i
 invariant-loop ttd b n seen₀ i₀ seen i =
     (length seen ≡ 96) × (may_divide (held b) ttd ≡ any (hits (held b) ttd) (range i n)) × Marks b ttd i seen
 
-abbrev decreases-loop : tie.decreases-loop
+abbrev decreases-loop : tie.decreases-loop-i
 decreases-loop ttd b n seen₀ i₀ seen i = n - i
 
 -- the answer, and whether a segment from i on is hit
 abbrev whole : tie.Start invariant-loop decreases-loop → Bool
-whole c = may_divide (held c.args.t1) c.args.ttd
+whole c = may_divide (held c.args.b) c.args.ttd
 
 abbrev behind : tie.Start invariant-loop decreases-loop → ℕ → Bool
-behind c i = any (hits (held c.args.t1) c.args.ttd) (range i c.args.t1.segment_count)
+behind c i = any (hits (held c.args.b) c.args.ttd) (range i c.args.b.segment_count)
 
-room : (c : tie.Start invariant-loop decreases-loop) → c.args.t1.segment_count ≤ length c.args.t1.segments
-room c = let e : length c.args.t1.segments ≡ 64 = search (rules, length-of-map) in omega arith
+room : (c : tie.Start invariant-loop decreases-loop) → c.args.b.segment_count ≤ length c.args.b.segments
+room c = let e : length c.args.b.segments ≡ 64 = search (rules, length-of-map) in omega arith
 
 -- the book's segments are as many as its count says
-count-here : (c : tie.Start invariant-loop decreases-loop) → length (held c.args.t1).segments ≡ c.args.t1.segment_count
+count-here : (c : tie.Start invariant-loop decreases-loop) → length (held c.args.b).segments ≡ c.args.b.segment_count
 unfolding held
 count-here c = let l = room c in rw length-take (omega arith)
 
-loop-holds : tie.Need-loop-init invariant-loop decreases-loop
+loop-holds : tie.Need-loop-i-init invariant-loop decreases-loop
 loop-holds c =
-    let b = held c.args.t1 in (
+    let b = held c.args.b in (
       refl,
       divide-by-segment b c.args.ttd c.requires.1
-          ∙ rw (count-here c) (any-range-all (hits b c.args.ttd) c.args.t1.segment_count),
-      marks-none c.args.t1 c.args.ttd 96,
+          ∙ rw (count-here c) (any-range-all (hits b c.args.ttd) c.args.b.segment_count),
+      marks-none c.args.b c.args.ttd 96,
     )
 
 -- a turn: segment i is hit, or one behind it
-module _ (c : tie.In-loop invariant-loop decreases-loop) where
+module _ (c : tie.In-loop-i invariant-loop decreases-loop) where
   abbrev start : tie.Start invariant-loop decreases-loop
   start = c.before.before
 
   abbrev i : ℕ
-  i = c.before.loop.i
+  i = c.loop-i.i
 
   abbrev seen : List ℕ
-  seen = c.before.loop.seen
+  seen = c.loop-i.seen
 
   abbrev seg : Segment
-  seg = get_or start.args.t1.segments i zero_segment
+  seg = get_or start.args.b.segments i zero_segment
 
   a-below : seg.a < 96
-  a-below = let h = a-inside start.args.t1 start.args.ttd i c.loop-test.true (room start) start.pre.1 in omega arith
+  a-below = let h = a-inside start.args.b start.args.ttd i c.loop-i-test.true (room start) start.requires.1 in omega arith
 
   b-below : seg.b < 96
-  b-below = let h = b-inside start.args.t1 start.args.ttd i c.loop-test.true (room start) start.pre.1 in omega arith
+  b-below = let h = b-inside start.args.b start.args.ttd i c.loop-i-test.true (room start) start.requires.1 in omega arith
 
   turn : whole start
-      ≡ (eqb seg.ttd start.args.ttd && (open_here start.args.t1 seen seg.a || open_here start.args.t1 seen seg.b)
+      ≡ (eqb seg.ttd start.args.ttd && (open_here start.args.b seen seg.a || open_here start.args.b seen seg.b)
       || behind start (i + 1))
   turn =
-      c.before.loop.invariant.1
-      ∙ any-range-next (hits (held start.args.t1) start.args.ttd) start.args.t1.segment_count i c.loop-test.true
+      c.loop-i.invariant.1
+      ∙ any-range-next (hits (held start.args.b) start.args.ttd) start.args.b.segment_count i c.loop-i-test.true
       ∙ ap (λ (h : Bool). h || behind start (i + 1))
-      (hits-here start.args.t1 start.args.ttd i c.loop-test.true (room start) start.pre.1 seen c.before.loop.invariant.2)
+      (hits-here start.args.b start.args.ttd i c.loop-i-test.true (room start) start.requires.1 seen c.loop-i.invariant.2)
 
 -- segment i is of the TTD: its ends are nodes
-module _ (c : tie.After-wide3 invariant-loop decreases-loop) where
-  abbrev inside : tie.In-loop invariant-loop decreases-loop
+module _ (c : tie.After-wide-e invariant-loop decreases-loop) where
+  abbrev inside : tie.In-loop-i invariant-loop decreases-loop
   inside = c.before.before.before.before.before
 
   of-here : (seg inside).ttd ≡ (start inside).args.ttd
-  of-here = sym c.before.before.before.wide.ensures.0 ∙ c.before.before.if1.true
+  of-here = sym c.wide.ensures.0 ∙ c.if-wide-ttd.true
 
-  a-fits : c.before.wide2.result < 96
-  a-fits = rw c.before.wide2.ensures.0 (a-below inside)
+  a-fits : c.wide-a.result < 96
+  a-fits = rw c.wide-a.ensures.0 (a-below inside)
 
-  b-fits : c.wide3.result < 96
-  b-fits = rw c.wide3.ensures.0 (b-below inside)
+  b-fits : c.wide-e.result < 96
+  b-fits = rw c.wide-e.ensures.0 (b-below inside)
 
   turn-of : whole (start inside)
-      ≡ (open_here (start inside).args.t1 (seen inside) (seg inside).a || open_here (start inside).args.t1 (seen inside) (seg inside).b
+      ≡ (open_here (start inside).args.b (seen inside) (seg inside).a || open_here (start inside).args.b (seen inside) (seg inside).b
       || behind (start inside) (i inside + 1))
   turn-of = let h = eq-eqb _ _ of-here in turn inside ∙ simp h
 
 -- what `divides` says of them
 at_a : (c : tie.After-divides invariant-loop decreases-loop)
-    → open_here (start (inside c.before.before)).args.t1 (seen (inside c.before.before)) (seg (inside c.before.before)).a
+    → open_here (start (inside c.before.before)).args.b (seen (inside c.before.before)) (seg (inside c.before.before)).a
     ≡ c.divides.result
-at_a c = sym (c.divides.ensures ∙ simp c.before.before.before.wide2.ensures.0)
+at_a c = sym (c.divides.ensures ∙ simp c.wide-a.ensures.0)
 
-module _ (c : tie.After-divides2 invariant-loop decreases-loop) where
+module _ (c : tie.After-divides-then-wide-ttd invariant-loop decreases-loop) where
   abbrev first : tie.After-divides invariant-loop decreases-loop
   first = c.before.before.before
 
-  abbrev both : tie.After-wide3 invariant-loop decreases-loop
+  abbrev both : tie.After-wide-e invariant-loop decreases-loop
   both = first.before.before
 
-  at_b : open_here (start (inside both)).args.t1 (seen (inside both)) (seg (inside both)).b ≡ c.divides2.result
-  at_b = sym (c.divides2.ensures ∙ simp both.wide3.ensures.0)
+  at_b : open_here (start (inside both)).args.b (seen (inside both)) (seg (inside both)).b ≡ c.divides-then-wide-ttd.result
+  at_b = sym (c.divides-then-wide-ttd.ensures ∙ simp both.wide-e.ensures.0)
 
-  turn-b : whole (start (inside both)) ≡ (c.divides2.result || behind (start (inside both)) (i (inside both) + 1))
-  turn-b = let h = at_a first in turn-of both ∙ simp (h, c.before.before.if2.false, at_b)
+  turn-b : whole (start (inside both)) ≡ (c.divides-then-wide-ttd.result || behind (start (inside both)) (i (inside both) + 1))
+  turn-b = let h = at_a first in turn-of both ∙ simp (h, c.if-divides.false, at_b)
 
 -- the marks behind a segment of the TTD, and behind another
-marks-of : (c : tie.After-wide3 invariant-loop decreases-loop)
-    → Marks (start (inside c)).args.t1 (start (inside c)).args.ttd (i (inside c) + 1)
-    (set (set (seen (inside c)) c.before.wide2.result 1) c.wide3.result 1)
+marks-of : (c : tie.After-wide-e invariant-loop decreases-loop)
+    → Marks (start (inside c)).args.b (start (inside c)).args.ttd (i (inside c) + 1)
+    (set (set (seen (inside c)) c.wide-a.result 1) c.wide-e.result 1)
 marks-of c =
     let s = inside c in
-    let b = (start s).args.t1 in
-    let e = s.before.loop.inv.0 in
-    marks-ends b (start s).args.ttd (i s) s.loop-test.taken (room (start s)) (start s).pre.1 (seen s) s.before.loop.inv.2
-    (of-here c) c.before.wide2.result c.wide3.result c.before.wide2.ensures.0 c.wide3.ensures.0
+    let b = (start s).args.b in
+    let e = s.loop-i.invariant.0 in
+    marks-ends b (start s).args.ttd (i s) s.loop-i-test.true (room (start s)) (start s).requires.1 (seen s) s.loop-i.invariant.2
+    (of-here c) c.wide-a.result c.wide-e.result c.wide-a.ensures.0 c.wide-e.ensures.0
     (rw e (a-fits c)) (rw e (b-fits c))
 
 -- at the end of the turn, with the marks set and with none set
-again-of : (c : tie.Else3 invariant-loop decreases-loop)
+again-of : (c : tie.Else-divides-2 invariant-loop decreases-loop)
     → let s = inside (both c.before) in
-    let out = set (set (seen s) (both c.before).before.wide2.result 1) (both c.before).wide3.result 1 in
-    (length out ≡ 96) × (whole (start s) ≡ behind (start s) (i s + 1)) × Marks (start s).args.t1 (start s).args.ttd (i s + 1) out
+    let out = set (set (seen s) (both c.before).wide-a.result 1) (both c.before).wide-e.result 1 in
+    (length out ≡ 96) × (whole (start s) ≡ behind (start s) (i s + 1)) × Marks (start s).args.b (start s).args.ttd (i s + 1) out
 again-of c =
     let s = inside (both c.before) in
-    (simp length-set s.before.loop.inv.0, turn-b c.before ∙ simp c.if3.false, marks-of (both c.before))
+    (simp length-set s.loop-i.invariant.0, turn-b c.before ∙ simp c.if-divides-2.false, marks-of (both c.before))
 
-again-other : (c : tie.Else1 invariant-loop decreases-loop)
+again-other : (c : tie.Else-wide-ttd invariant-loop decreases-loop)
     → let s = c.before.before.before in
-    (whole (start s) ≡ behind (start s) (i s + 1)) × Marks (start s).args.t1 (start s).args.ttd (i s + 1) (seen s)
+    (whole (start s) ≡ behind (start s) (i s + 1)) × Marks (start s).args.b (start s).args.ttd (i s + 1) (seen s)
 again-other c =
     let s = c.before.before.before in
-    let o : (seg s).ttd ≡ (start s).args.ttd → ⊥ = λ e. c.if1.false (c.before.wide.ensures.0 ∙ e) in
+    let o : (seg s).ttd ≡ (start s).args.ttd → ⊥ = λ e. c.if-wide-ttd.false (c.wide.ensures.0 ∙ e) in
     let h = ne_eqb _ _ o in (
       turn s ∙ simp h,
-      marks-other (start s).args.t1 (start s).args.ttd (i s) s.loop-test.true (room (start s)) (start s).requires.1 (seen s)
-          s.before.loop.invariant.2 o,
+      marks-other (start s).args.b (start s).args.ttd (i s) s.loop-i-test.true (room (start s)) (start s).requires.1 (seen s)
+          s.loop-i.invariant.2 o,
     )
 
-loop-again : tie.Need-loop-preserved invariant-loop decreases-loop
+loop-again : tie.Need-loop-i-preserved invariant-loop decreases-loop
 loop-again c =
     ⊎_elim
     (λ w.
-    let e : tie.Else3 invariant-loop decreases-loop = record {
+    let e : tie.Else-divides-2 invariant-loop decreases-loop = record {
       before = record {
         before = record {
           before = record {
@@ -175,16 +175,16 @@ loop-again c =
       if3 = w.8;
     } in
     rw w.9 (again-of e))
-    (λ w. let e : tie.Else1 invariant-loop decreases-loop = record { before = c.before; if1 = w.0 } in
-    rw w.1 (c.before.before.before.before.loop.invariant.0, (again-other e).0, (again-other e).1))
-    c.if1.branch
+    (λ w. let e : tie.Else-wide-ttd invariant-loop decreases-loop = record { before = c.before; if1 = w.0 } in
+    rw w.1 (c.loop-i.invariant.0, (again-other e).0, (again-other e).1))
+    c.if-wide-ttd.branch
 
-returns-3 : tie.Need-returns-3 invariant-loop decreases-loop
+returns-3 : tie.Need-returns invariant-loop decreases-loop
 returns-3 c =
-    sym (c.before.loop.invariant.1 ∙ any-range-end (hits (held c.before.before.args.t1) c.before.before.args.ttd) _ _ c.loop-test.false)
+    sym (c.loop-i.invariant.1 ∙ any-range-end (hits (held c.args.b) c.args.ttd) _ _ c.loop-i-test.false)
 
-pub may-divide-spec : {M : Type 1} → statement M
-may-divide-spec =
+pub may_divide_spec : {M : Type 1} → statement M
+may_divide_spec =
     tie.close
     (tie.spec
     invariant-loop
@@ -198,11 +198,11 @@ may-divide-spec =
     (λ c. a-fits c)
     (λ c. a-fits c.before)
     (λ c κs. tt)
-    (λ c. let h = at_a c.before in sym (turn-of c.before.before.before ∙ simp (h, c.if2.true)))
+    (λ c. let h = at_a c.before in sym (turn-of c.before.before.before ∙ simp (h, c.if-divides.true)))
     (λ c. b-fits c.before.before.before)
     (λ c. b-fits c.before.before.before.before)
     (λ c κs. tt)
-    (λ c. sym (turn-b c.before ∙ simp c.if3.true))
+    (λ c. sym (turn-b c.before ∙ simp c.if-divides-2.true))
     (λ c. a-fits (both c.before))
     (λ c. b-fits (both c.before))
     (λ c. omega arith)

@@ -32,69 +32,69 @@ from_next place n i l fits =
     ∙ ap (λ (b : Bool). b && from place n (i + 1))
     (all_map (λ y. not (eqb (segment_of (get_or place i 0)) y)) segment_of (slice (i + 1) n place))
 
-abbrev invariant-loop2 : tie.invariant-loop2
+abbrev invariant-loop2 : tie.invariant-loop-j
 invariant-loop2 n place i j₀ j = from place n i ≡ (apart place n i j && from place n (i + 1))
 
-abbrev decreases-loop2 : tie.decreases-loop2
+abbrev decreases-loop2 : tie.decreases-loop-j
 decreases-loop2 n place i j₀ j = n - j
 
-abbrev invariant-loop : tie.invariant-loop
+abbrev invariant-loop : tie.invariant-loop-i
 invariant-loop n place i₀ i = from place n 0 ≡ from place n i
 
-abbrev decreases-loop : tie.decreases-loop
+abbrev decreases-loop : tie.decreases-loop-i
 decreases-loop n place i₀ i = n - i
 
-room : (c : tie.Start invariant-loop2 decreases-loop2 invariant-loop decreases-loop) → c.args.n ≤ length c.args.t1
-room c = let e : length c.args.t1 ≡ 8 = search rules in omega arith
+room : (c : tie.Start invariant-loop2 decreases-loop2 invariant-loop decreases-loop) → c.args.n ≤ length c.args.place
+room c = let e : length c.args.place ≡ 8 = search rules in omega arith
 
 -- an inner turn: j's segment, and those behind it
-module _ (c : tie.In-loop2 invariant-loop2 decreases-loop2 invariant-loop decreases-loop) where
+module _ (c : tie.In-loop-j invariant-loop2 decreases-loop2 invariant-loop decreases-loop) where
   abbrev place : List ℕ
-  place = c.before.before.before.before.args.t1
+  place = c.args.place
 
   abbrev n : ℕ
-  n = c.before.before.before.before.args.n
+  n = c.args.n
 
   abbrev i : ℕ
-  i = c.before.before.before.loop.i
+  i = c.loop-i.i
 
   abbrev j : ℕ
-  j = c.before.loop2.j
+  j = c.loop-j.j
 
   turn : apart place n i j ≡ (not (eqb (segment_of (get_or place i 0)) (segment_of (get_or place j 0))) && apart place n i (j + 1))
-  turn = all-next _ _ _ 0 c.loop2-test.true (room c.before.before.before.before) _
+  turn = all-next _ _ _ 0 c.loop-j-test.true (room c.before.before.before.before) _
 
-returns : tie.Need-returns invariant-loop2 decreases-loop2 invariant-loop decreases-loop
+returns : tie.Need-returns-then-place-i invariant-loop2 decreases-loop2 invariant-loop decreases-loop
 unfolding segment_of
 returns c =
     let s = c.before.before in
     let e = turn c.before in
-    let h = eq-eqb _ _ c.if1.true in
-    sym (s.before.before.loop.invariant ∙ s.loop2.invariant ∙ simp (e, h))
+    let h = eq-eqb _ _ c.if-place-i.true in
+    sym (s.loop-i.invariant ∙ s.loop-j.invariant ∙ simp (e, h))
 
-loop2-again : tie.Need-loop2-preserved invariant-loop2 decreases-loop2 invariant-loop decreases-loop
+loop2-again : tie.Need-loop-j-preserved invariant-loop2 decreases-loop2 invariant-loop decreases-loop
 unfolding segment_of
 loop2-again c =
     let e = turn c.before in
-    let h = ne_eqb _ _ c.if1.false in
-    c.before.before.loop2.invariant ∙ simp (e, h)
+    let h = ne_eqb _ _ c.if-place-i.false in
+    c.loop-j.invariant ∙ simp (e, h)
 
-loop-again : tie.Need-loop-preserved invariant-loop2 decreases-loop2 invariant-loop decreases-loop
+loop-again : tie.Need-loop-i-preserved invariant-loop2 decreases-loop2 invariant-loop decreases-loop
 loop-again c =
     let s = c.before in
-    let a = s.before.before.before.args in
-    let e = all_end a.t1 a.n s.loop2.j c.loop2-test.false in
-    s.before.before.loop.invariant ∙ s.loop2.invariant ∙ simp e
+    let a = s.args in
+    let e = all_end a.t1 a.n s.loop-j.j c.loop-j-test.false in
+    s.loop-i.invariant ∙ s.loop-j.invariant ∙ simp e
 
-returns-2 : tie.Need-returns-2 invariant-loop2 decreases-loop2 invariant-loop decreases-loop
+returns-2 : tie.Need-returns invariant-loop2 decreases-loop2 invariant-loop decreases-loop
 unfolding different
 returns-2 c =
-    let a = c.before.before.args in
-    let e = slice-end a.t1 a.n c.before.loop.i c.loop-test.false in
-    sym (c.before.loop.invariant ∙ simp e)
+    let a = c.args in
+    let e = slice-end a.t1 a.n c.loop-i.i c.loop-i-test.false in
+    sym (c.loop-i.invariant ∙ simp e)
 
-pub all-different-spec : {M : Type 1} → statement M
-all-different-spec =
+pub all_different_spec : {M : Type 1} → statement M
+all_different_spec =
     tie.close
     (tie.spec
     invariant-loop2
@@ -103,7 +103,7 @@ all-different-spec =
     decreases-loop
     (λ c. refl)
     (λ c. omega arith)
-    (λ c. from_next _ _ _ c.loop-test.true (room c.before.before))
+    (λ c. from_next _ _ _ c.loop-i-test.true (room c.before.before))
     (λ c. omega arith)
     (λ c. omega arith)
     returns

@@ -16,58 +16,58 @@ use Rattle.network.proofs.Links.{linked-next, linked-end}
 use Rattle.network.proofs.track.all_linked.Statement.{statement}
 use Rattle.network.proofs.track.all_linked.Tie as tie
 
-abbrev invariant-loop : tie.invariant-loop
+abbrev invariant-loop : tie.invariant-loop-i
 invariant-loop b n place i₀ i = (1 ≤ i) × (linked (held b) (slice 0 n place) ≡ linked (held b) (slice (i - 1) n place))
 
-abbrev decreases-loop : tie.decreases-loop
+abbrev decreases-loop : tie.decreases-loop-i
 decreases-loop b n place i₀ i = n - i
 
 -- the answer for what stands from i on
 abbrev from : tie.Start invariant-loop decreases-loop → ℕ → Bool
-from c i = linked (held c.args.b) (slice i c.args.n c.args.t2)
+from c i = linked (held c.args.b) (slice i c.args.n c.args.place)
 
-room : (c : tie.Start invariant-loop decreases-loop) → c.args.n ≤ length c.args.t2
-room c = let e : length c.args.t2 ≡ 8 = search rules in omega arith
+room : (c : tie.Start invariant-loop decreases-loop) → c.args.n ≤ length c.args.place
+room c = let e : length c.args.place ≡ 8 = search rules in omega arith
 
 -- each directed segment of the place is one of the book
-known : (c : tie.Start invariant-loop decreases-loop) (k : ℕ) → k < c.args.n → get_or c.args.t2 k 0 < 2 * c.args.b.segment_count
+known : (c : tie.Start invariant-loop decreases-loop) (k : ℕ) → k < c.args.n → get_or c.args.place k 0 < 2 * c.args.b.segment_count
 known c k l =
-    ltb→lt _ _ (all-take-at (λ d. ltb d (2 * c.args.b.segment_count)) c.args.t2 c.args.n k 0 l (room c) c.requires.2)
+    ltb→lt _ _ (all-take-at (λ d. ltb d (2 * c.args.b.segment_count)) c.args.place c.args.n k 0 l (room c) c.requires.2)
 
-leads-to-requires : tie.Need-leads-to-requires invariant-loop decreases-loop
+leads-to-requires : tie.Need-leads_to-requires invariant-loop decreases-loop
 leads-to-requires c κs =
     let s = c.before.before.before in
-    let p = known s.before (s.loop.i - 1) (omega arith) in
-    let q = known s.before s.loop.i c.before.before.loop-test.true in
-    (s.before.requires.0, rw c.before.wide.ensures.0 p, rw c.wide2.ensures.0 q)
+    let p = known s.before (s.loop-i.i - 1) (omega arith) in
+    let q = known s.before s.loop-i.i c.loop-i-test.true in
+    (s.requires.0, rw c.wide.ensures.0 p, rw c.wide-in-loop-i.ensures.0 q)
 
 -- a turn: the link to i, and those behind it
-turn : (c : tie.After-leads-to invariant-loop decreases-loop)
+turn : (c : tie.After-leads_to invariant-loop decreases-loop)
     → from c.before.before.before.before.before 0
-    ≡ (c.leads-to.result && from c.before.before.before.before.before c.before.before.before.before.loop.i)
+    ≡ (c.leads_to.result && from c.before.before.before.before.before c.loop-i.i)
 turn c =
     let s = c.before.before.before.before in
-    let e : s.loop.i - 1 + 1 ≡ s.loop.i = omega arith in
-    let l : s.loop.i - 1 + 1 < s.before.args.n = omega arith in
-    s.loop.invariant.1
+    let e : s.loop-i.i - 1 + 1 ≡ s.loop-i.i = omega arith in
+    let l : s.loop-i.i - 1 + 1 < s.args.n = omega arith in
+    s.loop-i.invariant.1
     ∙ linked-next _ _ _ _ 0 l (room s.before)
-    ∙ simp (e, c.leads-to.ensures, c.before.before.wide.ensures.0, c.before.wide2.ensures.0)
+    ∙ simp (e, c.leads_to.ensures, c.wide.ensures.0, c.wide-in-loop-i.ensures.0)
 
-loop-again : tie.Need-loop-preserved invariant-loop decreases-loop
+loop-again : tie.Need-loop-i-preserved invariant-loop decreases-loop
 loop-again c =
-    let h = not-false c.before.leads-to.result c.if1.false in
-    let i = c.before.before.before.before.before.loop.i in
+    let h = not-false c.leads_to.result c.if-not-leads_to.false in
+    let i = c.loop-i.i in
     let e : i + 1 - 1 ≡ i = omega arith in
     (omega arith, turn c.before ∙ simp (h, e))
 
-returns-2 : tie.Need-returns-2 invariant-loop decreases-loop
+returns-2 : tie.Need-returns invariant-loop decreases-loop
 returns-2 c =
     let s = c.before in
-    let l : s.before.args.n ≤ s.loop.i - 1 + 1 = omega arith in
-    sym (s.loop.invariant.1 ∙ linked-end _ _ _ _ l)
+    let l : s.args.n ≤ s.loop-i.i - 1 + 1 = omega arith in
+    sym (s.loop-i.invariant.1 ∙ linked-end _ _ _ _ l)
 
-pub all-linked-spec : {M : Type 1} → statement M
-all-linked-spec =
+pub all_linked_spec : {M : Type 1} → statement M
+all_linked_spec =
     tie.close
     (tie.spec
     invariant-loop
@@ -79,7 +79,7 @@ all-linked-spec =
     (λ c. omega arith)
     (λ c κs. search rules)
     leads-to-requires
-    (λ c. let h = not-true c.before.leads-to.result c.if1.true in sym (turn c.before ∙ simp h))
+    (λ c. let h = not-true c.leads_to.result c.if-not-leads_to.true in sym (turn c.before ∙ simp h))
     (λ c. omega arith)
     (λ c. omega arith)
     loop-again

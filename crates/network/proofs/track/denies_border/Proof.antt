@@ -5,13 +5,13 @@ use Rattle.spec.specs.Book.{denies_border}
 use Rattle.network.proofs.track.denies_border.Statement.{statement}
 use Rattle.network.proofs.track.denies_border.Tie as tie
 
-returns : tie.Need-returns
+returns : tie.Need-returns-then-kind-eq0
 unfolding denies_border
-returns c = let h = eq-eqb _ _ c.if1.true in simp h
+returns c = let h = eq-eqb _ _ c.if-kind-eq0.true in simp h
 
-returns-2 : tie.Need-returns-2
+returns-2 : tie.Need-returns-else-kind-eq0
 unfolding denies_border
-returns-2 c = let h = ne_eqb _ _ c.before.if1.false in simp h c.is-exit.ensures
+returns-2 c = let h = ne_eqb _ _ c.if-kind-eq0.false in simp h c.is_exit.ensures
 
-pub denies-border-spec : {M : Type 1} → statement M
-denies-border-spec = tie.close (tie.spec (λ c κs. search rules) returns returns-2)
+pub denies_border_spec : {M : Type 1} → statement M
+denies_border_spec = tie.close (tie.spec (λ c κs. search rules) returns returns-2)

@@ -10,25 +10,25 @@ use Rattle.network.proofs.Held.{kind_at, end-at}
 use Rattle.network.proofs.track.ends_at_exit.Statement.{statement}
 use Rattle.network.proofs.track.ends_at_exit.Tie as tie
 
-module _ (c : tie.After-end-in) where
+module _ (c : tie.After-end_in-node) where
   abbrev start : tie.Start
   start = c.before.before
 
-  node-is : c.end-in.result ≡ end_node (held start.args.t1) start.args.d
-  node-is = c.end-in.ensures.0 ∙ end-at start.args.t1 start.args.d start.pre.1
+  node-is : c.end_in-node.result ≡ end_node (held start.args.b) start.args.d
+  node-is = c.end_in-node.ensures.0 ∙ end-at start.args.b start.args.d start.requires.1
 
-  node-known : c.end-in.result < start.args.t1.node_count
-  node-known = omega (arith, node-is, start.pre.2)
+  node-known : c.end_in-node.result < start.args.b.node_count
+  node-known = omega (arith, node-is, start.requires.2)
 
-node-fits : tie.Need-element-copy-out-is-exit
+node-fits : tie.Need-bounds-b-node
 node-fits c = omega (arith, node-known c, (start c).requires.0.nodes)
 
 returns : tie.Need-returns
 returns c =
     let n = c.before.before in
-    let b = (start n).args.t1 in
-    c.is-exit.ensures ∙ ap is_exit (sym (kind_at b _ (node-known n)) ∙ ap (node_kind_at (held b)) (node-is n))
+    let b = (start n).args.b in
+    c.is_exit.ensures ∙ ap is_exit (sym (kind_at b _ (node-known n)) ∙ ap (node_kind_at (held b)) (node-is n))
 
-pub ends-at-exit-spec : {M : Type 1} → statement M
-ends-at-exit-spec =
+pub ends_at_exit_spec : {M : Type 1} → statement M
+ends_at_exit_spec =
     tie.close (tie.spec (λ c. search rules) (λ c. search rules) (λ c κs. search rules) node-fits (λ c κs. search rules) returns)

@@ -8,5 +8,5 @@ returns : tie.Need-returns
 unfolding forces_border
 returns c = refl
 
-pub forces-border-spec : {M : Type 1} → statement M
-forces-border-spec = tie.close (tie.spec returns)
+pub forces_border_spec : {M : Type 1} → statement M
+forces_border_spec = tie.close (tie.spec returns)

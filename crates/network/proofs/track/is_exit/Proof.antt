@@ -8,5 +8,5 @@ returns : tie.Need-returns
 unfolding is_exit
 returns c = refl
 
-pub is-exit-spec : {M : Type 1} → statement M
-is-exit-spec = tie.close (tie.spec returns)
+pub is_exit_spec : {M : Type 1} → statement M
+is_exit_spec = tie.close (tie.spec returns)

@@ -7,18 +7,18 @@ use Rattle.spec.specs.Book.{forces_border}
 use Rattle.network.proofs.track.is_free.Statement.{statement}
 use Rattle.network.proofs.track.is_free.Tie as tie
 
-returns : tie.Need-returns
+returns : tie.Need-returns-then-not-denies_border
 returns c =
     let d = c.before.before in
-    simp (sym d.denies-border.ensures ∙ not-true _ c.before.if1.true, c.forces-border.ensures)
+    simp (sym d.denies_border.ensures ∙ not-true _ c.if-not-denies_border.true, c.forces_border.ensures)
 
-returns-2 : tie.Need-returns-2
+returns-2 : tie.Need-returns-else-not-denies_border
 returns-2 c =
     let d = c.before in
-    c.if1.false ∙ sym (ap (λ (t : Bool). not t && not (forces_border d.before.args.kind)) (sym d.denies-border.ensures ∙ not-false _ c.if1.false))
+    c.if-not-denies_border.false ∙ sym (ap (λ (t : Bool). not t && not (forces_border d.args.kind)) (sym d.denies_border.ensures ∙ not-false _ c.if-not-denies_border.false))
 
-pub is-free-spec : {M : Type 1} → statement M
-is-free-spec =
+pub is_free_spec : {M : Type 1} → statement M
+is_free_spec =
     tie.close
     (tie.spec
     (λ c κs. search rules)

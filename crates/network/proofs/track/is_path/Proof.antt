@@ -5,19 +5,19 @@ use Rattle.spec.specs.Runs.{is_path}
 use Rattle.network.proofs.track.is_path.Statement.{statement}
 use Rattle.network.proofs.track.is_path.Tie as tie
 
-all-different-requires : tie.Need-all-different-requires
+all-different-requires : tie.Need-all_different-requires
 all-different-requires c κs = search rules
 
-all-linked-requires : tie.Need-all-linked-requires
+all-linked-requires : tie.Need-all_linked-requires
 all-linked-requires c κs = search rules
 
-returns : tie.Need-returns
+returns : tie.Need-returns-then-all_different
 unfolding is_path
-returns c = let h = sym c.before.before.all-different.ensures ∙ c.before.if1.true in simp (h, c.all-linked.ensures)
+returns c = let h = sym c.all_different.ensures ∙ c.if-all_different.true in simp (h, c.all_linked.ensures)
 
-returns-2 : tie.Need-returns-2
+returns-2 : tie.Need-returns-else-all_different
 unfolding is_path
-returns-2 c = let h = sym c.before.all-different.ensures ∙ c.if1.false in simp (h, c.if1.false)
+returns-2 c = let h = sym c.all_different.ensures ∙ c.if-all_different.false in simp (h, c.if-all_different.false)
 
-pub is-path-spec : {M : Type 1} → statement M
-is-path-spec = tie.close (tie.spec all-different-requires all-linked-requires returns returns-2)
+pub is_path_spec : {M : Type 1} → statement M
+is_path_spec = tie.close (tie.spec all-different-requires all-linked-requires returns returns-2)

@@ -14,34 +14,34 @@ use Rattle.network.proofs.Walks.{length-of-map, any_next, any-end}
 use Rattle.network.proofs.track.join_among.Statement.{statement}
 use Rattle.network.proofs.track.join_among.Tie as tie
 
-abbrev invariant-loop : tie.invariant-loop
+abbrev invariant-loop : tie.invariant-loop-i
 invariant-loop n node s t joins i₀ i = (i ≤ n) × (any (join_is node s t) (take n joins) ≡ any (join_is node s t) (slice i n joins))
 
-abbrev decreases-loop : tie.decreases-loop
+abbrev decreases-loop : tie.decreases-loop-i
 decreases-loop n node s t joins i₀ i = n - i
 
 -- the answer for all joins, and for those from i on
 abbrev whole : tie.Start invariant-loop decreases-loop → Bool
-whole c = any (join_is c.args.node c.args.s c.args.t) (take c.args.n c.args.t1)
+whole c = any (join_is c.args.node c.args.s c.args.t) (take c.args.n c.args.joins)
 
 abbrev behind : tie.Start invariant-loop decreases-loop → ℕ → Bool
-behind c i = any (join_is c.args.node c.args.s c.args.t) (slice i c.args.n c.args.t1)
+behind c i = any (join_is c.args.node c.args.s c.args.t) (slice i c.args.n c.args.joins)
 
-room : (c : tie.Start invariant-loop decreases-loop) → c.args.n ≤ length c.args.t1
-room c = let e : length c.args.t1 ≡ 128 = search (rules, length-of-map) in omega arith
+room : (c : tie.Start invariant-loop decreases-loop) → c.args.n ≤ length c.args.joins
+room c = let e : length c.args.joins ≡ 128 = search (rules, length-of-map) in omega arith
 
 -- a turn: this join, or those behind it
-turn : (c : tie.After-join-is invariant-loop decreases-loop)
+turn : (c : tie.After-join_is invariant-loop decreases-loop)
     → whole c.before.before.before.before
-    ≡ (c.join-is.result || behind c.before.before.before.before (c.before.before.before.loop.i + 1))
+    ≡ (c.join_is.result || behind c.before.before.before.before (c.loop-i.i + 1))
 turn c =
     let s = c.before.before.before in
-    s.loop.invariant.1
-    ∙ any_next _ _ _ zero_join c.before.before.loop-test.true (room s.before) _
-    ∙ simp c.join-is.ensures
+    s.loop-i.invariant.1
+    ∙ any_next _ _ _ zero_join c.loop-i-test.true (room s.before) _
+    ∙ simp c.join_is.ensures
 
-pub join-among-spec : {M : Type 1} → statement M
-join-among-spec =
+pub join_among_spec : {M : Type 1} → statement M
+join_among_spec =
     tie.close
     (tie.spec
     invariant-loop
@@ -50,8 +50,8 @@ join-among-spec =
     (λ c. omega arith)
     (λ c. omega arith)
     (λ c κs. tt)
-    (λ c. sym (turn c.before ∙ simp c.if1.true))
+    (λ c. sym (turn c.before ∙ simp c.if-join_is.true))
     (λ c. omega arith)
     (λ c. omega arith)
-    (λ c. (omega arith, turn c.before ∙ simp c.if1.false))
-    (λ c. sym (c.before.loop.invariant.1 ∙ any-end _ _ _ c.loop-test.false _)))
+    (λ c. (omega arith, turn c.before ∙ simp c.if-join_is.false))
+    (λ c. sym (c.loop-i.invariant.1 ∙ any-end _ _ _ c.loop-i-test.false _)))

@@ -7,7 +7,7 @@ use Rattle.network.proofs.track.joined.Tie as tie
 
 returns : tie.Need-returns
 unfolding joined held
-returns c = c.join-among.ensures
+returns c = c.join_among.ensures
 
-pub joined-spec : {M : Type 1} → statement M
-joined-spec = tie.close (tie.spec (λ c κs. search rules) returns)
+pub joined_spec : {M : Type 1} → statement M
+joined_spec = tie.close (tie.spec (λ c κs. search rules) returns)

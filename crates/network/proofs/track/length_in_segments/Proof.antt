@@ -6,18 +6,18 @@ use Rattle.spec.specs.Held.{held, held_train}
 use Rattle.network.proofs.track.length_in_segments.Statement.{statement}
 use Rattle.network.proofs.track.length_in_segments.Tie as tie
 
-sub-result : tie.Need-overflow-sub-result
+sub-result : tie.Need-overflow_sub-result
 sub-result c = search rules
 
-add-result : tie.Need-overflow-add-result
+add-result : tie.Need-overflow_add-result
 add-result c = search rules
 
-div-result : tie.Need-nonzero-div-result
+div-result : tie.Need-nonzero_div-result
 div-result c = search rules
 
 returns : tie.Need-returns
 unfolding length_in_segments held held_train
 returns c = refl
 
-pub length-in-segments-spec : {M : Type 1} → statement M
-length-in-segments-spec = tie.close (tie.spec sub-result add-result div-result returns)
+pub length_in_segments_spec : {M : Type 1} → statement M
+length_in_segments_spec = tie.close (tie.spec sub-result add-result div-result returns)

@@ -15,34 +15,34 @@ use Rattle.network.proofs.track.speed_in_segments.Tie as tie
 product : (s : tie.Start) → s.args.t.speed * s.args.b.interval_seconds ≤ 65535 * 65535
 product s = mul-le-mul {n₂ = 65535} {m₂ = 65535} (omega (arith, s.requires.2)) (omega (arith, s.requires.0.seconds))
 
-mul-n : tie.Need-overflow-mul-n
+mul-n : tie.Need-overflow_mul-n
 mul-n c = let p = product c.before.before in omega arith
 
-mul-n-2 : tie.Need-overflow-mul-n-2
+mul-n-2 : tie.Need-overflow_mul-n-2
 mul-n-2 c = let p = product c.before.before in omega arith
 
-mul-d : tie.Need-overflow-mul-d
+mul-d : tie.Need-overflow_mul-d
 mul-d c = search rules
 
-mul-result : tie.Need-overflow-mul-result
+mul-result : tie.Need-overflow_mul-result
 mul-result c = let p = product c.before.before.before in omega arith
 
-sub-result : tie.Need-overflow-sub-result
+sub-result : tie.Need-overflow_sub-result
 sub-result c = search rules
 
-add-result : tie.Need-overflow-add-result
-add-result c = let p = product c.before.before.before in omega (arith, c.before.before.before.requires.0.metres)
+add-result : tie.Need-overflow_add-result
+add-result c = let p = product c.before.before.before in omega (arith, c.requires.0.metres)
 
-mul-result-2 : tie.Need-overflow-mul-result-2
+mul-result-2 : tie.Need-overflow_mul-result-2
 mul-result-2 c = search rules
 
-div-result : tie.Need-nonzero-div-result
+div-result : tie.Need-nonzero_div-result
 div-result c = search rules
 
 returns : tie.Need-returns
 unfolding speed_in_segments held held_train
-returns c = sym (nearest-divided _ _ (omega (arith, c.before.before.before.requires.1)))
+returns c = sym (nearest-divided _ _ (omega (arith, c.requires.1)))
 
-pub speed-in-segments-spec : {M : Type 1} → statement M
-speed-in-segments-spec =
+pub speed_in_segments_spec : {M : Type 1} → statement M
+speed_in_segments_spec =
     tie.close (tie.spec mul-n mul-n-2 mul-d mul-result sub-result add-result mul-result-2 div-result returns)

@@ -10,23 +10,23 @@ use Rattle.network.proofs.track.touches.Tie as tie
 wide-requires : tie.Need-wide-requires
 wide-requires c κs = search rules
 
-wide-requires-2 : tie.Need-wide-requires-2
+wide-requires-2 : tie.Need-wide-requires-else-wide-node
 wide-requires-2 c κs = search rules
 
-returns : tie.Need-returns
+returns : tie.Need-returns-then-wide-node
 unfolding touches
 returns c =
-    let e = c.before.wide.ensures.0 in
-    let h = eq-eqb _ _ (sym e ∙ c.if1.true) in
+    let e = c.wide.ensures.0 in
+    let h = eq-eqb _ _ (sym e ∙ c.if-wide-node.true) in
     simp (e, h)
 
-returns-2 : tie.Need-returns-2
+returns-2 : tie.Need-returns-else-wide-node
 unfolding touches
 returns-2 c =
-    let e = c.before.before.wide.ensures.0 in
-    let e2 = c.wide2.ensures.0 in
-    let h = ne_eqb _ _ (λ q. c.before.if1.false (e ∙ q)) in
+    let e = c.wide.ensures.0 in
+    let e2 = c.wide-else-wide-node.ensures.0 in
+    let h = ne_eqb _ _ (λ q. c.if-wide-node.false (e ∙ q)) in
     simp (e2, h)
 
-pub touches-spec : {M : Type 1} → statement M
-touches-spec = tie.close (tie.spec wide-requires wide-requires-2 returns returns-2)
+pub touches_spec : {M : Type 1} → statement M
+touches_spec = tie.close (tie.spec wide-requires wide-requires-2 returns returns-2)

@@ -9,21 +9,21 @@ use Rattle.plan_coding.proofs.counting.with_next.Statement.{statement}
 use Rattle.plan_coding.proofs.counting.with_next.Tie as tie
 
 -- no more nodes are set than were looked at
-add-result : tie.Need-overflow-add-result
+add-result : tie.Need-overflow_add-result
 add-result c =
     let s = c.before.before.before in
     omega (arith, set-most s.args.nodes.now s.args.plan.now s.args.n, s.requires.0, s.requires.2)
 
-returns : tie.Need-returns
+returns : tie.Need-returns-then-plan-node-eq1
 returns c =
     let s = c.before.before.before in
-    ap (λ (k : ℕ). k + 1) s.requires.2 ∙ sym (set-taken s.args.nodes.now s.args.plan.now s.args.n (eq-eqb _ _ c.if1.true))
+    ap (λ (k : ℕ). k + 1) s.requires.2 ∙ sym (set-taken s.args.nodes.now s.args.plan.now s.args.n (eq-eqb _ _ c.if-plan-node-eq1.true))
 
-returns-2 : tie.Need-returns-2
+returns-2 : tie.Need-returns
 returns-2 c =
     let s = c.before.before.before in
-    s.requires.2 ∙ sym (set-left s.args.nodes.now s.args.plan.now s.args.n (ne_eqb _ _ c.if1.false))
+    s.requires.2 ∙ sym (set-left s.args.nodes.now s.args.plan.now s.args.n (ne_eqb _ _ c.if-plan-node-eq1.false))
 
-pub with-next-spec : {M : Type 1} → statement M
-with-next-spec =
+pub with_next_spec : {M : Type 1} → statement M
+with_next_spec =
     tie.close (tie.spec (λ c. search rules) (λ c. search rules) (λ c. search rules) add-result returns returns-2)

@@ -23,12 +23,12 @@ use Rattle.plan_coding.proofs.counting.write_counter.Statement.{statement}
 use Rattle.plan_coding.proofs.counting.write_counter.Tie as tie
 
 -- a book has no more nodes of kind 1 than nodes
-free-few : (I : Instance) → length (free_nodes_of I) ≤ I.nodes
+free-few : (I : Instance) → length (free_nodes_of I) ≤ I.nodes-1
 unfolding free_nodes_of
-free-few I = omega (arith, pick-most (is_free I) (up_to I.nodes), length-up_to I.nodes)
+free-few I = omega (arith, pick-most (is_free I) (up_to I.nodes-1), length-up_to I.nodes-1)
 
 -- the list, the counter and its first variable
-module _ (o : tie.After-own-variables) where
+module _ (o : tie.After-own_variables-first) where
   abbrev given : tie.Start
   given = o.before.before.before.before.before.before.before
 
@@ -39,53 +39,53 @@ module _ (o : tie.After-own-variables) where
   cap = held_cap given.args.cap
 
   abbrev nodes : List ℕ
-  nodes = o.before.before.before.list-free.last.1.0
+  nodes = o.list_free.last.1.0
 
   abbrev c : CounterStruct
-  c = o.before.counter-of.result
+  c = o.counter_of-c.result
 
-  counted : I.nodes ≡ given.args.b.node_count
-  counted = nodes-is given.args.b given.pre.0.passed
+  counted : I.nodes-1 ≡ given.args.b.node_count
+  counted = nodes-is given.args.b given.requires.0.passed
 
   listed : (n : ℕ) → n < length (free_nodes_of I) → get_or nodes n 0 ≡ get_or (free_nodes_of I) n 0
   listed =
-      stored-listed (replicate 96 0) (free_nodes_of I) o.before.before.before.list-free.ensures.1
-      (omega (arith, free-few I, counted, length-replicate {A = ℕ} 96 0, given.pre.0.passed.packed.counts.nodes))
+      stored-listed (replicate 96 0) (free_nodes_of I) o.list_free.ensures.1
+      (omega (arith, free-few I, counted, length-replicate {A = ℕ} 96 0, given.requires.0.passed.packed.counts.nodes-1))
 
   whole : c.most + c.spare ≤ length (free_nodes_of I)
   whole =
       subst (λ (m : Counter). m.most + m.spare ≤ length (free_nodes_of I))
-      (sym (o.before.counter-of.ensures.counter ∙ counter-under cap I))
+      (sym (o.counter_of-c.ensures.counter ∙ counter-under cap I))
       (counter-whole cap (length (free_nodes_of I)))
 
   inside : (n : ℕ) → n < c.most + c.spare → get_or nodes n 0 < length given.args.plan.now
   inside n h =
       let l : n < length (free_nodes_of I) = omega (arith, h, whole) in
-      omega (arith, listed n l, free-inside I n l, counted, given.pre.1)
+      omega (arith, listed n l, free-inside I n l, counted, given.requires.1)
 
-  room : o.own-variables.result + c.most * c.spare ≤ length given.args.out.now
+  room : o.own_variables-first.result + c.most * c.spare ≤ length given.args.out.now
   room =
       omega (
         arith,
-        o.own-variables.ensures.0,
-        ap (λ (m : Counter). m.most * m.spare) o.before.counter-of.ensures.counter,
+        o.own_variables-first.ensures.0,
+        ap (λ (m : Counter). m.most * m.spare) o.counter_of-c.ensures.counter,
         variables-under cap I,
-        given.pre.2,
+        given.requires.2,
       )
 
-write-rows-requires : tie.Need-write-rows-requires
-write-rows-requires c κs = let o = c.before.before in (o.before.counter-of.ensures.few, inside o, room o)
+write-rows-requires : tie.Need-write_rows-requires
+write-rows-requires c κs = let o = c.before.before in (o.counter_of-c.ensures.few, inside o, room o)
 
 returns : tie.Need-returns
 returns c =
     let w = c.before.before in
     let o = w.before.before.before in
-    w.write-rows.ensures
-    ∙ ap₂ (λ (k : ℕ) (bytes : Bytes). sets (given o).args.out.now k bytes) o.own-variables.ensures.0
-    (rows-values (cap o) (I o) (nodes o) (given o).args.plan.now (listed o) (held_counter o.before.counter-of.result) o.before.counter-of.ensures.counter)
+    w.write_rows.ensures
+    ∙ ap₂ (λ (k : ℕ) (bytes : Bytes). sets (given o).args.out.now k bytes) o.own_variables-first.ensures.0
+    (rows-values (cap o) (I o) (nodes o) (given o).args.plan.now (listed o) (held_counter o.counter_of-c.result) o.counter_of-c.ensures.counter)
 
-pub write-counter-spec : {M : Type 1} → statement M
-write-counter-spec =
+pub write_counter_spec : {M : Type 1} → statement M
+write_counter_spec =
     tie.close
     (tie.spec
     (λ c. search rules)

@@ -13,49 +13,49 @@ use Rattle.plan_coding.proofs.Rows.{Rows, rows_none, rows_next, rows-kept, plan-
 use Rattle.plan_coding.proofs.decoding.decode.Statement.{statement}
 use Rattle.plan_coding.proofs.decoding.decode.Tie as tie
 
-abbrev invariant-loop : tie.invariant-loop
+abbrev invariant-loop : tie.invariant-loop-train
 invariant-loop b counts values out₀ trains train₀ out train =
     (train ≤ trains) × Rows (train_bytes (instance_of (held b)) values) out₀ (instance_of (held b)).nodes train out
 
-abbrev decreases-loop : tie.decreases-loop
+abbrev decreases-loop : tie.decreases-loop-train
 decreases-loop b counts values out₀ trains train₀ out train = trains - train
 
-decode-borders-requires : tie.Need-decode-borders-requires invariant-loop decreases-loop
+decode-borders-requires : tie.Need-decode_borders-requires invariant-loop decreases-loop
 decode-borders-requires c κs =
     let s = c.before.before.before in
     let p = s.requires.0.passed in
     (p, omega (arith, s.requires.1, nodes-fit s.args.b p))
 
 -- before a train, or after the last one
-module _ (k : tie.At-loop invariant-loop decreases-loop) where
+module _ (k : tie.At-loop-train invariant-loop decreases-loop) where
   abbrev given : tie.Start invariant-loop decreases-loop
   given = k.before.before.before.before.before.before.before
 
   abbrev train : ℕ
-  train = k.loop.train
+  train = k.loop-train.train
 
-  kept : length k.loop.out ≡ length given.args.out.now
-  kept = rows-kept k.loop.inv.1 ∙ ap length k.before.before.before.decode-borders.ensures ∙ simp length-sets
+  kept : length k.loop-train.out-1 ≡ length given.args.out.now
+  kept = rows-kept k.loop-train.invariant.1 ∙ ap length k.decode_borders.ensures ∙ simp length-sets
 
-decode-train-requires : tie.Need-decode-train-requires invariant-loop decreases-loop
+decode-train-requires : tie.Need-decode_train-requires invariant-loop decreases-loop
 decode-train-requires c κs =
     let t = c.before in
     let s = given t.before in
-    (s.pre.0, t.loop-test.true, omega (arith, kept t.before, s.pre.1))
+    (s.requires.0, t.loop-train-test.true, omega (arith, kept t.before, s.requires.1))
 
-add-train : tie.Need-overflow-add-train invariant-loop decreases-loop
+add-train : tie.Need-overflow_add-train invariant-loop decreases-loop
 add-train c =
     let t = c.before.before.before.before in
-    omega (arith, t.loop-test.true, (given t.before).pre.0.passed.packed.counts.trains)
+    omega (arith, t.loop-train-test.true, (given t.before).requires.0.passed.packed.counts.trains)
 
-loop-again : tie.Need-loop-preserved invariant-loop decreases-loop
+loop-again : tie.Need-loop-train-preserved invariant-loop decreases-loop
 loop-again c =
     let t = c.before.before.before.before in
     let s = given t.before in
     let a = s.args in
     let I = instance_of (held a.b) in (
-      omega (arith, t.loop-test.true),
-      rows_next _ _ (λ i. train-length I a.values.now i) t.before.loop.invariant.1 (place-first I _) c.before.before.decode-train.ensures,
+      omega (arith, t.loop-train-test.true),
+      rows_next _ _ (λ i. train-length I a.values.now i) t.loop-train.invariant.1 (place-first I _) c.decode_train.ensures,
     )
 
 returns : tie.Need-returns invariant-loop decreases-loop
@@ -63,14 +63,14 @@ returns c =
     let k = c.before in
     let s = given k in
     let a = s.args in
-    let p = s.pre.0.passed in
+    let p = s.requires.0.passed in
     let I = instance_of (held a.b) in
-    let done : k.loop.train ≡ I.trains = omega (arith, c.loop-test.false, k.loop.invariant.0, trains-is a.b p) in
-    let first = k.before.before.before.decode-borders.ensures in
-    plan-stored I a.values.now a.out.now s.pre.1 first k.loop.invariant.1 done
+    let done : k.loop-train.train ≡ I.trains = omega (arith, c.loop-train-test.false, k.loop-train.invariant.0, trains-is a.b p) in
+    let first = k.decode_borders.ensures in
+    plan-stored I a.values.now a.out-1.now s.requires.1 first k.loop-train.invariant.1 done
 
-pub decode-spec : {M : Type 1} → statement M
-decode-spec =
+pub decode_spec : {M : Type 1} → statement M
+decode_spec =
     tie.close
     (tie.spec
     invariant-loop
@@ -79,7 +79,7 @@ decode-spec =
     (λ c. (omega arith, rows_none))
     decode-train-requires
     add-train
-    (λ c. let h = c.before.before.before.before.loop-test.true in omega (arith, h))
+    (λ c. let h = c.loop-train-test.true in omega (arith, h))
     loop-again
     (λ c. kept c.before)
     returns)

@@ -26,88 +26,88 @@ use Rattle.plan_coding.proofs.decoding.decode_train.Tie as tie
 abbrev cell : BookStruct → Bytes → ℕ → ℕ → Bytes
 cell b values i t = little_endian 2 (move_code ((decoded (instance_of (held b)) (assigned values)).move i t))
 
-abbrev invariant-loop : tie.invariant-loop
+abbrev invariant-loop : tie.invariant-loop-interval
 invariant-loop b train values out₀ first intervals interval₀ out interval =
     (interval ≤ intervals) × Rows (cell b values train) out₀ (move_at (instance_of (held b)) train 0) interval out
 
-abbrev decreases-loop : tie.decreases-loop
+abbrev decreases-loop : tie.decreases-loop-interval
 decreases-loop b train values out₀ first intervals interval₀ out interval = intervals - interval
 
 -- an interval of the train
-module _ (t : tie.In-loop invariant-loop decreases-loop) where
+module _ (t : tie.In-loop-interval invariant-loop decreases-loop) where
   abbrev given : tie.Start invariant-loop decreases-loop
   given = t.before.before.before.before.before
 
   abbrev interval : ℕ
-  interval = t.before.loop.interval
+  interval = t.loop-interval.interval
 
   short : interval < 65536
-  short = omega (arith, t.loop-test.taken, given.pre.0.passed.packed.numbers.intervals)
+  short = omega (arith, t.loop-interval-test.true, given.requires.0.passed.packed.numbers.intervals)
 
-  room : move_at (instance_of (held given.args.b)) given.args.train interval + 2 ≤ length t.before.loop.out
+  room : move_at (instance_of (held given.args.b)) given.args.train interval + 2 ≤ length t.loop-interval.out-1
   room =
       let a = given.args in
-      let counted = given.pre.0 in
+      let counted = given.requires.0 in
       let I = instance_of (held a.b) in
-      let inside : interval < I.intervals = omega (arith, t.loop-test.taken, intervals-is a.b counted.passed) in
+      let inside : interval < I.intervals = omega (arith, t.loop-interval-test.true, intervals-is a.b counted.passed) in
       omega (
         arith,
-        given.pre.2,
-        rows-kept t.before.loop.inv.1,
-        move-fits I a.train interval (known a.b a.counts counted a.train given.pre.1) inside,
+        given.requires.2,
+        rows-kept t.loop-interval.invariant.1,
+        move-fits I a.train interval (known a.b a.counts counted a.train given.requires.1) inside,
       )
 
 -- its block
-block : (c : tie.After-block-at invariant-loop decreases-loop) → let s = given c.before in
-    BlockOf s.args.b s.args.train (interval c.before) c.block_at.result
-block c = block_of c.before.before.before.train-block.ensures.train c.block_at.ensures.0
+block : (c : tie.After-block_at-block invariant-loop decreases-loop) → let s = given c.before in
+    BlockOf s.args.b s.args.train (interval c.before) c.block_at-block.result
+block c = block_of c.train_block-first.ensures.train c.block_at-block.ensures.0
 
-move-place-requires : tie.Need-move-place-requires invariant-loop decreases-loop
+move-place-requires : tie.Need-move_place-at-requires invariant-loop decreases-loop
 move-place-requires c κs =
     let t = c.before.before in
     let p = (given t).requires in
-    (p.0.passed, omega (arith, p.1), omega (arith, t.loop-test.true))
+    (p.0.passed, omega (arith, p.1), omega (arith, t.loop-interval-test.true))
 
-put-pair-requires : tie.Need-put-pair-requires invariant-loop decreases-loop
+put-pair-requires : tie.Need-put_pair-requires invariant-loop decreases-loop
 put-pair-requires c κs =
     let p = c.before in
-    (omega (arith, room p.before.before.before, p.move-place.ensures), p.before.code_of_lem.ensures.1)
+    (omega (arith, room p.before.before.before, p.move_place-at.ensures), p.code_of_lem.ensures.1)
 
-loop-again : tie.Need-loop-preserved invariant-loop decreases-loop
+loop-again : tie.Need-loop-interval-preserved invariant-loop decreases-loop
 loop-again c =
     let p = c.before.before.before.before in
     let v = p.before in
     let t = v.before.before in
     let number = v.code_of_lem.ensures.0 ∙ code_is (block v.before) _ in (
-      omega (arith, t.loop-test.true),
-      rows_next _ 2 (λ i. length-little_endian 2 _) t.before.loop.invariant.1 (p.move-place.ensures ∙ place-from _ _ _)
-          (c.before.before.put-pair.ensures
-          ∙ ap (λ (x : ℕ). sets t.before.loop.out p.move-place.result (little_endian 2 x)) number),
+      omega (arith, t.loop-interval-test.true),
+      rows_next _ 2 (λ i. length-little_endian 2 _) t.loop-interval.invariant.1 (p.move_place-at.ensures ∙ place-from _ _ _)
+          (c.put_pair.ensures
+          ∙ ap (λ (x : ℕ). sets t.loop-interval.out-1 p.move_place-at.result (little_endian 2 x)) number),
     )
 
 returns : tie.Need-returns invariant-loop decreases-loop
 unfolding train_bytes
 returns c =
-    let l = c.before.loop in
+    let l = c.loop-interval in
     let s = c.before.before.before.before.before in
     let done : l.interval ≡ (instance_of (held s.args.b)).intervals
-    = omega (arith, c.loop-test.false, l.invariant.0, intervals-is s.args.b s.requires.0.passed) in
+    = omega (arith, c.loop-interval-test.false, l.invariant.0, intervals-is s.args.b s.requires.0.passed) in
     rows_all l.invariant.1 done
 
-pub decode-train-spec : {M : Type 1} → statement M
-decode-train-spec =
+pub decode_train_spec : {M : Type 1} → statement M
+decode_train_spec =
     tie.close
     (tie.spec
     invariant-loop
     decreases-loop
-    (λ c κs. let p = c.before.before.requires in (p.0, p.1))
+    (λ c κs. let p = c.requires in (p.0, p.1))
     (λ c. (omega arith, rows_none))
-    (λ c κs. let e = c.before.before.train-block.ensures in (block_of (sym e.train) e, omega (arith, c.loop-test.true)))
+    (λ c κs. let e = c.train_block-first.ensures in (block_of (sym e.train) e, omega (arith, c.loop-interval-test.true)))
     (λ c κs. let k = (block c).block in (k.small, runs-small _ k.passed _ k.known _ k.runs))
     move-place-requires
     put-pair-requires
     (λ c. omega (arith, short c.before.before.before.before.before.before.before))
-    (λ c. omega (arith, c.before.before.before.before.before.before.before.loop-test.true))
+    (λ c. omega (arith, c.loop-interval-test.true))
     loop-again
-    (λ c. rows-kept c.before.loop.invariant.1)
+    (λ c. rows-kept c.loop-interval.invariant.1)
     returns)

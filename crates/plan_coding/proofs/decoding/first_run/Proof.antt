@@ -14,34 +14,34 @@ use Rattle.plan_coding.proofs.decoding.first_run.Tie as tie
 abbrev runs : Bytes → ℕ → ℕ → Bool
 runs values base k = assigned values (base + k)
 
-abbrev invariant-loop : tie.invariant-loop
+abbrev invariant-loop : tie.invariant-loop-r
 invariant-loop base n values r₀ r = (r ≤ n) × (least_from (runs values base) 0 n ≡ least_from (runs values base) r (n - r))
 
-abbrev decreases-loop : tie.decreases-loop
+abbrev decreases-loop : tie.decreases-loop-r
 decreases-loop base n values r₀ r = n - r
 
-returns : tie.Need-returns invariant-loop decreases-loop
+returns : tie.Need-returns-then-value invariant-loop decreases-loop
 returns c =
     let t = c.before.before in
-    sym (t.before.loop.invariant.1 ∙ least-here _ _ _ t.loop-test.true (sym c.before.value.ensures ∙ c.if1.true))
+    sym (t.loop-r.invariant.1 ∙ least-here _ _ _ t.loop-r-test.true (sym c.value.ensures ∙ c.if-value.true))
 
-loop-again : tie.Need-loop-preserved invariant-loop decreases-loop
+loop-again : tie.Need-loop-r-preserved invariant-loop decreases-loop
 loop-again c =
     let t = c.before.before in
-    (omega arith, t.before.loop.invariant.1 ∙ least-next _ _ _ t.loop-test.true (sym c.before.value.ensures ∙ c.if1.false))
+    (omega arith, t.loop-r.invariant.1 ∙ least-next _ _ _ t.loop-r-test.true (sym c.value.ensures ∙ c.if-value.false))
 
-returns-2 : tie.Need-returns-2 invariant-loop decreases-loop
+returns-2 : tie.Need-returns invariant-loop decreases-loop
 returns-2 c =
-    let e : c.before.loop.r ≡ c.before.before.before.args.n = omega arith in
-    sym (c.before.loop.invariant.1 ∙ least-end _ _ _ c.loop-test.false ∙ e)
+    let e : c.loop-r.r ≡ c.args.n = omega arith in
+    sym (c.loop-r.invariant.1 ∙ least-end _ _ _ c.loop-r-test.false ∙ e)
 
-pub first-run-spec : {M : Type 1} → statement M
-first-run-spec =
+pub first_run_spec : {M : Type 1} → statement M
+first_run_spec =
     tie.close
     (tie.spec
     invariant-loop
     decreases-loop
-    (λ c. let e : c.before.args.n - 0 ≡ c.before.args.n = omega arith in (omega arith, rw e))
+    (λ c. let e : c.args.n - 0 ≡ c.args.n = omega arith in (omega arith, rw e))
     (λ c. omega arith)
     (λ c κs. tt)
     returns

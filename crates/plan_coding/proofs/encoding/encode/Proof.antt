@@ -24,11 +24,11 @@ use Rattle.plan_coding.proofs.Rows.{Rows, rows_none, rows_behind, rows-kept, row
 use Rattle.plan_coding.proofs.encoding.encode.Statement.{statement}
 use Rattle.plan_coding.proofs.encoding.encode.Tie as tie
 
-abbrev invariant-loop : tie.invariant-loop
+abbrev invariant-loop : tie.invariant-loop-i
 invariant-loop b counts cap runs labels plan out₀ trains i₀ out i =
     (i ≤ trains) × Rows (train_bytes (instance_of (held b)) (plan_of (instance_of (held b)) plan)) out₀ (instance_of (held b)).nodes i out
 
-abbrev decreases-loop : tie.decreases-loop
+abbrev decreases-loop : tie.decreases-loop-i
 decreases-loop b counts cap runs labels plan out₀ trains i₀ out i = trains - i
 
 -- the plan
@@ -41,12 +41,12 @@ module _ (s : tie.Start invariant-loop decreases-loop) where
 
   -- the variables without the cap's are among all
   own-fit : own_variables I ≤ length s.args.out.now
-  own-fit = omega (arith, variables-under (held_cap s.args.cap) I, s.pre.1)
+  own-fit = omega (arith, variables-under (held_cap s.args.cap) I, s.requires.1)
 
   nodes-are : I.nodes ≡ s.args.b.node_count
-  nodes-are = nodes-is s.args.b s.pre.0.0.counted.passed
+  nodes-are = nodes-is s.args.b s.requires.0.0.counted.passed
 
-write-borders-requires : tie.Need-write-borders-requires invariant-loop decreases-loop
+write-borders-requires : tie.Need-write_borders-requires invariant-loop decreases-loop
 write-borders-requires c κs =
     let s = c.before.before.before.before.before in (
       omega (arith, plan-long _ _ s.requires.0.1, nodes-fit s.args.b s.requires.0.0.counted.passed),
@@ -54,49 +54,49 @@ write-borders-requires c κs =
     )
 
 -- behind the borders: before a train, or after the last one
-module _ (k : tie.At-loop invariant-loop decreases-loop) where
-  abbrev borders : tie.After-write-borders invariant-loop decreases-loop
+module _ (k : tie.At-loop-i invariant-loop decreases-loop) where
+  abbrev borders : tie.After-write_borders invariant-loop decreases-loop
   borders = k.before.before.before
 
   abbrev given : tie.Start invariant-loop decreases-loop
   given = borders.before.before.before.before.before.before
 
-  bordered : borders.write-borders.last.1.1.0 ≡ sets given.args.out.now 0 (border_bytes (I given) (p given))
+  bordered : borders.write_borders.last.1.1.0 ≡ sets given.args.out.now 0 (border_bytes (I given) (p given))
   bordered =
-      borders.write-borders.ensures
+      borders.write_borders.ensures
       ∙ ap (λ (n : ℕ). sets given.args.out.now 0 (map (λ k. bit (eqb (get_or given.args.plan.now k 0) 1)) (up_to n)))
       (sym (nodes-are given))
       ∙ ap (sets given.args.out.now 0) (borders-of (I given) given.args.plan.now)
 
-  kept : length k.loop.out ≡ length given.args.out.now
-  kept = rows-kept k.loop.inv.1 ∙ ap length bordered ∙ simp length-sets
+  kept : length k.loop-i.out-1 ≡ length given.args.out.now
+  kept = rows-kept k.loop-i.invariant.1 ∙ ap length bordered ∙ simp length-sets
 
-write-train-requires : tie.Need-write-train-requires invariant-loop decreases-loop
+write-train-requires : tie.Need-write_train-requires invariant-loop decreases-loop
 write-train-requires c κs =
     let t = c.before in
     let s = given t.before in
-    let below : t.before.loop.i < (I s).trains = omega (arith, t.loop-test.true, trains-is s.args.b s.pre.0.0.counted.passed) in
-    (s.pre.0, t.loop-test.true, omega (arith, kept t.before, train-fits (I s) t.before.loop.i below, own-fit s))
+    let below : t.loop-i.i < (I s).trains = omega (arith, t.loop-i-test.true, trains-is s.args.b s.requires.0.0.counted.passed) in
+    (s.requires.0, t.loop-i-test.true, omega (arith, kept t.before, train-fits (I s) t.loop-i.i below, own-fit s))
 
-loop-again : tie.Need-loop-preserved invariant-loop decreases-loop
+loop-again : tie.Need-loop-i-preserved invariant-loop decreases-loop
 loop-again c =
     let t = c.before.before.before.before in
     let s = given t.before in
-    let l = t.before.loop in
-    (omega (arith, t.loop-test.true), rows_behind l.invariant.1 (train-place (I s) (p s) l.i) c.before.before.write-train.ensures)
+    let l = t.loop-i in
+    (omega (arith, t.loop-i-test.true), rows_behind l.invariant.1 (train-place (I s) (p s) l.i) c.write_train.ensures)
 
-write-counter-requires : tie.Need-write-counter-requires invariant-loop decreases-loop
+write-counter-requires : tie.Need-write_counter-requires invariant-loop decreases-loop
 write-counter-requires c κs =
     let k = c.before.before in
     let s = given k in
-    let room : variables (under (held_cap s.args.cap) (I s)) ≤ length k.loop.out = omega (arith, kept k, s.pre.1) in (
-      s.pre.0.0.counted,
-      omega (arith, plan-long _ _ s.pre.0.1, nodes-fit s.args.b s.pre.0.0.counted.passed),
+    let room : variables (under (held_cap s.args.cap) (I s)) ≤ length k.loop-i.out-1 = omega (arith, kept k, s.requires.1) in (
+      s.requires.0.0.counted,
+      omega (arith, plan-long _ _ s.requires.0.1, nodes-fit s.args.b s.requires.0.0.counted.passed),
       room,
     )
 
-same_length : tie.Need-same-length invariant-loop decreases-loop
-same_length c = ap length c.before.before.write-counter.ensures ∙ simp length-sets (kept c.before.before.before.before.before)
+same_length : tie.Need-shape_of-out invariant-loop decreases-loop
+same_length c = ap length c.write_counter.ensures ∙ simp length-sets (kept c.before.before.before.before.before)
 
 returns : tie.Need-returns invariant-loop decreases-loop
 returns c =
@@ -105,16 +105,16 @@ returns c =
     let k = left.before in
     let s = given k in
     let J = under (held_cap s.args.cap) (I s) in
-    let done : k.loop.i ≡ (I s).trains
-    = omega (arith, left.loop-test.false, k.loop.invariant.0, trains-is s.args.b s.pre.0.0.counted.passed) in
-    w.write-counter.ensures
+    let done : k.loop-i.i ≡ (I s).trains
+    = omega (arith, left.loop-i-test.false, k.loop-i.invariant.0, trains-is s.args.b s.requires.0.0.counted.passed) in
+    w.write_counter.ensures
     ∙ ap (λ (out : Bytes). sets out (own_variables (I s)) (cap_values J (p s)))
-    (rows_all k.loop.invariant.1 done
+    (rows_all k.loop-i.invariant.1 done
     ∙ ap (λ (out : Bytes). sets out (I s).nodes (each (up_to (I s).trains) (train_bytes (I s) (p s)))) (bordered k))
-    ∙ assignment-written (held_cap s.args.cap) (I s) (p s) s.args.out.now s.pre.1
+    ∙ assignment-written (held_cap s.args.cap) (I s) (p s) s.args.out.now s.requires.1
 
-pub encode-spec : {M : Type 1} → statement M
-encode-spec =
+pub encode_spec : {M : Type 1} → statement M
+encode_spec =
     tie.close
     (tie.spec
     invariant-loop
@@ -122,8 +122,8 @@ encode-spec =
     write-borders-requires
     (λ c. (omega arith, rows_none))
     write-train-requires
-    (λ c. omega (arith, c.before.before.before.before.loop-test.true))
-    (λ c. omega (arith, c.before.before.before.before.loop-test.true))
+    (λ c. omega (arith, c.loop-i-test.true))
+    (λ c. omega (arith, c.loop-i-test.true))
     loop-again
     write-counter-requires
     same_length

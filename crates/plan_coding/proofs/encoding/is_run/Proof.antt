@@ -13,17 +13,17 @@ use Rattle.plan_coding.proofs.encoding.is_run.Tie as tie
 told : {m m' : Move} (r : ℕ) → m ≡ m' → runs (held_move m') (eqb r) ≡ runs (held_move m) (eqb r)
 told r e = ap (λ (o : Move). runs (held_move o) (eqb r)) (sym e)
 
-returns : tie.Need-returns
+returns : tie.Need-returns-in-Run
 unfolding runs
-returns c = told c.before.before.before.args.r c.before.m.given.1
+returns c = told c.args.r c.m-1.given.1
 
-returns-2 : tie.Need-returns-2
+returns-2 : tie.Need-returns-in-Absent
 unfolding runs
-returns-2 c = told c.before.before.args.r c.enum_told.given.1
+returns-2 c = told c.args.r c.in-Absent.is
 
-returns-3 : tie.Need-returns-3
+returns-3 : tie.Need-returns-in-Gone
 unfolding runs
-returns-3 c = told c.before.before.args.r c.enum-told2.given.1
+returns-3 c = told c.args.r c.in-Gone.is
 
-pub is-run-spec : {M : Type 1} → statement M
-is-run-spec = tie.close (tie.spec (λ c. search rules) (λ c. search rules) (λ c. search rules) returns returns-2 returns-3)
+pub is_run_spec : {M : Type 1} → statement M
+is_run_spec = tie.close (tie.spec (λ c. search rules) (λ c. search rules) (λ c. search rules) returns returns-2 returns-3)

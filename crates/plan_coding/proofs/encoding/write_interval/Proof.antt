@@ -34,90 +34,90 @@ module _ (s : tie.Start) where
   train = s.args.block.train
 
   abbrev known : train < s.args.b.train_count
-  known = s.pre.1.block.known
+  known = s.requires.1.block.known
 
   planned : Planned s.args.b train s.args.plan.now
-  planned = record { passed = s.pre.0.0.counted.passed; known = known; fits = s.pre.0.1 }
+  planned = record { passed = s.requires.0.0.counted.passed; known = known; fits = s.requires.0.1 }
 
   -- the output has room for the block
   room : s.args.block.base + (s.args.block.runs + 1 + s.args.b.segment_count) ≤ length s.args.out.now
-  room = omega (arith, block-end s.pre.1, s.pre.3)
+  room = omega (arith, block-end s.requires.1, s.requires.3)
 
-stretch-of-requires : tie.Need-stretch-of-requires
+stretch-of-requires : tie.Need-stretch_of-requires
 stretch-of-requires c κs =
     let m = c.before.before.before.before in
     let s = m.before.before.before.before.before in (
       few-trains s.args.b s.requires.0.0.counted.passed (train s) (known s),
       s.requires.0.0.long,
-      few-own (planned s) m.move_at.result s.args.interval s.requires.2 m.move_at.ensures,
+      few-own (planned s) m.move_at-m.result s.args.interval s.requires.2 m.move_at-m.ensures,
     )
 
 -- the stretch of the train's run
-module _ (c : tie.After-stretch-of) where
-  abbrev wrote : tie.After-write-move
+module _ (c : tie.After-stretch_of) where
+  abbrev wrote : tie.After-write_move
   wrote = c.before.before.before
 
-  abbrev asked : tie.After-move-at
+  abbrev asked : tie.After-move_at-m
   asked = wrote.before.before
 
   abbrev start : tie.Start
   start = asked.before.before.before.before.before
 
-  stretch-is : c.stretch-of.result ≡ stretch_of start.args.runs.now (train start) ((p start).move (train start) start.args.interval)
-  stretch-is = c.stretch-of.ensures ∙ ap (stretch_of start.args.runs.now (train start)) asked.move_at.ensures
+  stretch-is : c.stretch_of.result ≡ stretch_of start.args.runs.now (train start) ((p start).move (train start) start.args.interval)
+  stretch-is = c.stretch_of.ensures ∙ ap (stretch_of start.args.runs.now (train start)) asked.move_at-m.ensures
 
   -- what the move's bytes left, as long as it was
   abbrev half : Bytes
-  half = wrote.write-move.last.1.1.1.0
+  half = wrote.write_move.last.1.1.1.0
 
   sized : length half ≡ length start.args.out.now
-  sized = ap length wrote.write-move.ensures ∙ simp length-sets
+  sized = ap length wrote.write_move.ensures ∙ simp length-sets
 
 mark-requires : tie.Need-mark-requires
 mark-requires c κs =
     let r = c.before in
     let s = start r in
-    fits-here _ s.pre.0 s.args.interval s.pre.2 (train s) (known s) (stretch-is r)
+    fits-here _ s.requires.0 s.args.interval s.requires.2 (train s) (known s) (stretch-is r)
 
-write-marked-requires : tie.Need-write-marked-requires
+write-marked-requires : tie.Need-write_marked-requires
 write-marked-requires c κs =
     let f = c.before.before in
     let r = f.before.before.before in
     let s = start r in
-    let e = segments-is s.args.b s.pre.0.0.counted.passed in
-    let most : s.args.b.segment_count ≤ 64 = s.pre.0.0.counted.passed.packed.counts.segments in (
-      omega (arith, s.pre.0.2.long, most),
-      (λ k l. omega (arith, s.pre.0.2.below k (subst (λ (n : ℕ). k < n) (sym e) l), e, most)),
-      omega (arith, room s, sized r, f.claims-from.ensures),
+    let e = segments-is s.args.b s.requires.0.0.counted.passed in
+    let most : s.args.b.segment_count ≤ 64 = s.requires.0.0.counted.passed.packed.counts.segments in (
+      omega (arith, s.requires.0.2.long, most),
+      (λ k l. omega (arith, s.requires.0.2.below k (subst (λ (n : ℕ). k < n) (sym e) l), e, most)),
+      omega (arith, room s, sized r, f.claims_from-claims.ensures),
     )
 
 -- both parts are written
-module _ (c : tie.After-write-marked) where
-  abbrev f : tie.After-claims-from
+module _ (c : tie.After-write_marked) where
+  abbrev f : tie.After-claims_from-claims
   f = c.before.before.before
 
-  abbrev r : tie.After-stretch-of
+  abbrev r : tie.After-stretch_of
   r = f.before.before.before
 
-  written : c.write-marked.new.1.1.1.1.0
+  written : c.write_marked.new.1.1.1.1.0
       ≡ sets (start r).args.out.now (formula.base (I (start r)) (train (start r)) (start r).args.interval)
       (interval_bytes (I (start r)) (p (start r)) (train (start r)) (start r).args.interval)
   written =
       let s = start r in
       let a = s.args in
-      c.write-marked.ensures
+      c.write_marked.ensures
       ∙ ap₂ (λ (at : ℕ) (marks : Bytes).
       sets (half r) at (map (λ k. bit (is_marked marks (get_or a.labels.now k 0))) (up_to a.b.segment_count)))
-      f.claims-from.ensures
-      f.before.mark.ensures
+      f.claims_from-claims.ensures
+      f.mark.ensures
       ∙ ap₂ (λ (out claims : Bytes). sets out (a.block.base + (a.block.runs + 1)) claims)
-      (wrote r).write-move.ensures
-      (claims-marked _ s.pre.0 a.interval s.pre.2 (train s) (known s) (stretch-is r))
-      ∙ interval-written (I s) (p s) (train s) a.interval a.block.base _ _ a.out.now s.pre.1.block.runs (asked r).move_at.ensures
-      ∙ ap (λ (at : ℕ). sets a.out.now at (interval_bytes (I s) (p s) (train s) a.interval)) s.pre.1.base
+      (wrote r).write_move.ensures
+      (claims-marked _ s.requires.0 a.interval s.requires.2 (train s) (known s) (stretch-is r))
+      ∙ interval-written (I s) (p s) (train s) a.interval a.block.base _ _ a.out-1.now s.requires.1.block.runs (asked r).move_at-m.ensures
+      ∙ ap (λ (at : ℕ). sets a.out-1.now at (interval_bytes (I s) (p s) (train s) a.interval)) s.requires.1.base
 
-pub write-interval-spec : {M : Type 1} → statement M
-write-interval-spec =
+pub write_interval_spec : {M : Type 1} → statement M
+write_interval_spec =
     tie.close
     (tie.spec
     (λ c κs. let s = c.before.before.before.before in move_asks (planned s) s.args.interval s.requires.2)

@@ -12,28 +12,29 @@ use Rattle.plan_rules.specs.Marks.{is_marked}
 use Rattle.plan_coding.proofs.Writing.{Stored, stored-start, stored_next, stored-done}
 use Rattle.plan_coding.proofs.encoding.write_marked.Statement.{statement}
 use Rattle.plan_coding.proofs.encoding.write_marked.Tie as tie
+use Rattle.plan_coding.proofs.encoding.write_marked.Lts.{else-marks-label-eq1, then-marks-label-eq1}
 
 -- the byte of a segment
 abbrev claim : List ℕ → Bytes → ℕ → ℕ
 claim labels marks s = bit (is_marked marks (get_or labels s 0))
 
-abbrev invariant-loop : tie.invariant-loop
+abbrev invariant-loop : tie.invariant-loop-s
 invariant-loop at n labels marks out₀ s₀ out s = Stored (claim labels marks) n at out₀ out s
 
-abbrev decreases-loop : tie.decreases-loop
+abbrev decreases-loop : tie.decreases-loop-s
 decreases-loop at n labels marks out₀ s₀ out s = n - s
 
-loop-again : tie.Need-loop-preserved invariant-loop decreases-loop
+loop-again : tie.Need-loop-s-preserved invariant-loop decreases-loop
 unfolding bit is_marked
 loop-again c =
     let t = c.before.before.before.before in
-    let a = t.before.args in
-    let byte : c.if1.out ≡ claim a.labels.now a.marks.now t.loop.s =
-    ⊎_elim (λ w. w.1 ∙ ap bit (sym (eq-eqb _ _ w.0.taken))) (λ w. w.1 ∙ ap bit (sym (ne_eqb _ _ w.0.left))) c.if1.branch in
-    stored_next t.loop.invariant c.before.before.before.loop-test.true refl byte
+    let a = t.args in
+    let byte : c.if-marks-label-eq1.out ≡ claim a.labels.now a.marks.now t.loop-s.s =
+    elim (c.if-marks-label-eq1.branch) [ then-marks-label-eq1 w ↦ w.1 ∙ ap bit (sym (eq-eqb _ _ w.if-marks-label-eq1.true)) | else-marks-label-eq1 w ↦ w.1 ∙ ap bit (sym (ne_eqb _ _ w.if-marks-label-eq1.false)) ] in
+    stored_next t.loop-s.invariant c.loop-s-test.true refl byte
 
-pub write-marked-spec : {M : Type 1} → statement M
-write-marked-spec =
+pub write_marked_spec : {M : Type 1} → statement M
+write_marked_spec =
     tie.close
     (tie.spec
     invariant-loop
@@ -41,11 +42,11 @@ write-marked-spec =
     (λ c. stored-start _ _ _ _)
     (λ c. omega arith)
     (λ c. omega arith)
-    (λ c. c.before.before.before.requires.1 c.before.before.loop.s c.before.loop-test.true)
+    (λ c. c.requires.1 c.loop-s.s c.loop-s-test.true)
     (λ c. omega arith)
     (λ c. omega arith)
     (λ c. omega arith)
     (λ c. omega arith)
     loop-again
-    (λ c. c.before.loop.invariant.size)
-    (λ c. stored-done c.before.loop.invariant c.loop-test.false))
+    (λ c. c.loop-s.invariant.size)
+    (λ c. stored-done c.loop-s.invariant c.loop-s-test.false))

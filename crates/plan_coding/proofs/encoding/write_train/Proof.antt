@@ -23,76 +23,76 @@ use Rattle.plan_coding.proofs.encoding.write_train.Tie as tie
 abbrev part : BookStruct → Bytes → ℕ → ℕ → Bytes
 part b plan i t = interval_bytes (instance_of (held b)) (plan_of (instance_of (held b)) plan) i t
 
-abbrev invariant-loop : tie.invariant-loop
+abbrev invariant-loop : tie.invariant-loop-interval
 invariant-loop b counts train runs labels plan out₀ first intervals interval₀ out interval =
     (interval ≤ intervals) × Rows (part b plan train) out₀ (first_var (instance_of (held b)) train) interval out
 
-abbrev decreases-loop : tie.decreases-loop
+abbrev decreases-loop : tie.decreases-loop-interval
 decreases-loop b counts train runs labels plan out₀ first intervals interval₀ out interval = intervals - interval
 
 -- an interval of the train
-module _ (t : tie.In-loop invariant-loop decreases-loop) where
+module _ (t : tie.In-loop-interval invariant-loop decreases-loop) where
   abbrev given : tie.Start invariant-loop decreases-loop
   given = t.before.before.before.before.before.before.before
 
-  room : base (instance_of (held given.args.b)) given.args.train (t.before.loop.interval + 1) ≤ length t.before.loop.out
+  room : base (instance_of (held given.args.b)) given.args.train (t.loop-interval.interval + 1) ≤ length t.loop-interval.out-1
   room =
       let b = given.args.b in
-      let inside : t.before.loop.interval < (instance_of (held b)).intervals
-      = omega (arith, t.loop-test.taken, intervals-is b given.pre.0.0.counted.passed) in
-      omega (arith, interval-fits (instance_of (held b)) given.args.train _ inside, rows-kept t.before.loop.inv.1, given.pre.2)
+      let inside : t.loop-interval.interval < (instance_of (held b)).intervals
+      = omega (arith, t.loop-interval-test.true, intervals-is b given.requires.0.0.counted.passed) in
+      omega (arith, interval-fits (instance_of (held b)) given.args.train _ inside, rows-kept t.loop-interval.invariant.1, given.requires.2)
 
 -- its block is the train's
-own : (c : tie.After-block-at invariant-loop decreases-loop) → c.block_at.result.train ≡ (given c.before).args.train
-own c = c.block_at.ensures.1 ∙ c.before.before.before.train-block.ensures.train
+own : (c : tie.After-block_at-block invariant-loop decreases-loop) → c.block_at-block.result.train ≡ (given c.before).args.train
+own c = c.block_at-block.ensures.1 ∙ c.train_block-first.ensures.train
 
-write-interval-requires : tie.Need-write-interval-requires invariant-loop decreases-loop
+write-interval-requires : tie.Need-write_interval-requires invariant-loop decreases-loop
 write-interval-requires c κs =
     let k = c.before in
     let t = k.before in
     let p = (given t).requires in
-    let e = k.block_at.ensures.0 in
+    let e = k.block_at-block.ensures.0 in
     let I = instance_of (held (given t).args.b) in (
       p.0,
       block_of (sym e.train) e,
-      t.loop-test.true,
-      subst (λ (i : ℕ). base I i (t.before.loop.interval + 1) ≤ length t.before.loop.out) (sym (own k)) (room t),
+      t.loop-interval-test.true,
+      subst (λ (i : ℕ). base I i (t.loop-interval.interval + 1) ≤ length t.loop-interval.out-1) (sym (own k)) (room t),
     )
 
-loop-again : tie.Need-loop-preserved invariant-loop decreases-loop
+loop-again : tie.Need-loop-interval-preserved invariant-loop decreases-loop
 loop-again c =
     let k = c.before.before.before.before in
     let t = k.before in
     let a = (given t).args in
     let I = instance_of (held a.b) in
-    let n = t.before.loop.interval in (
-      omega (arith, t.loop-test.true),
-      rows_next _ (width I a.train) (length-interval I _ a.train) t.before.loop.invariant.1 (interval-place I a.train n)
-          (c.before.before.write-interval.ensures
-          ∙ ap (λ (i : ℕ). sets t.before.loop.out (base I i n) (part a.b a.plan.now i n)) (own k)),
+    let n = t.loop-interval.interval in (
+      omega (arith, t.loop-interval-test.true),
+      rows_next _ (width I a.train) (length-interval I _ a.train) t.loop-interval.invariant.1 (interval-place I a.train n)
+          (c.write_interval.ensures
+          ∙ ap (λ (i : ℕ). sets t.loop-interval.out-1 (base I i n) (part a.b a.plan.now i n)) (own k)),
     )
 
 returns : tie.Need-returns invariant-loop decreases-loop
 unfolding train_bytes
 returns c =
-    let l = c.before.loop in
+    let l = c.loop-interval in
     let s = c.before.before.before.before.before.before.before in
     let done : l.interval ≡ (instance_of (held s.args.b)).intervals
-    = omega (arith, c.loop-test.false, l.invariant.0, intervals-is s.args.b s.requires.0.0.counted.passed) in
+    = omega (arith, c.loop-interval-test.false, l.invariant.0, intervals-is s.args.b s.requires.0.0.counted.passed) in
     rows_all l.invariant.1 done
 
-pub write-train-spec : {M : Type 1} → statement M
-write-train-spec =
+pub write_train_spec : {M : Type 1} → statement M
+write_train_spec =
     tie.close
     (tie.spec
     invariant-loop
     decreases-loop
-    (λ c κs. let p = c.before.before.before.before.requires in (p.0.0.counted, p.1))
+    (λ c κs. let p = c.requires in (p.0.0.counted, p.1))
     (λ c. (omega arith, rows_none))
-    (λ c κs. let e = c.before.before.train-block.ensures in (block_of (sym e.train) e, omega (arith, c.loop-test.true)))
+    (λ c κs. let e = c.train_block-first.ensures in (block_of (sym e.train) e, omega (arith, c.loop-interval-test.true)))
     write-interval-requires
-    (λ c. omega (arith, c.before.before.before.before.before.loop-test.true))
-    (λ c. omega (arith, c.before.before.before.before.before.loop-test.true))
+    (λ c. omega (arith, c.loop-interval-test.true))
+    (λ c. omega (arith, c.loop-interval-test.true))
     loop-again
-    (λ c. rows-kept c.before.loop.invariant.1)
+    (λ c. rows-kept c.loop-interval.invariant.1)
     returns)

@@ -17,11 +17,11 @@ use Rattle.plan_rules.proofs.apart.mark.Tie as tie
 abbrev labelled : List ℕ → ℕ → ℕ
 labelled labels d = get_or labels (segment_of d) 0
 
-abbrev invariant-loop : tie.invariant-loop
+abbrev invariant-loop : tie.invariant-loop-k
 invariant-loop runs labels marks₀ end k₀ marks k =
     (k₀ ≤ k) × (marking marks₀ (map (labelled labels) (slice k₀ end runs)) ≡ marking marks (map (labelled labels) (slice k end runs)))
 
-abbrev decreases-loop : tie.decreases-loop
+abbrev decreases-loop : tie.decreases-loop-k
 decreases-loop runs labels marks₀ end k₀ marks k = end - k
 
 -- the label at k is that of a segment of the stretch
@@ -30,25 +30,25 @@ module _ (c : tie.After-wide invariant-loop decreases-loop) where
   start = c.before.before.before.before.before.before.before
 
   label : HasLabel start.args.labels.now c.wide.result
-  label = label-here start.pre c.before.before.before.loop.invariant.0 c.before.before.loop-test.true c.wide.ensures.0
+  label = label-here start.requires c.loop-k.invariant.0 c.loop-k-test.true c.wide.ensures.0
 
-loop-again : tie.Need-loop-preserved invariant-loop decreases-loop
+loop-again : tie.Need-loop-k-preserved invariant-loop decreases-loop
 unfolding segment_of
 loop-again c =
     let w = c.before in
-    let inv = w.before.before.before.loop.invariant in
+    let inv = w.loop-k.invariant in
     let labels = (start w).args.labels.now in (
       omega arith,
       inv.1
-          ∙ marking-next (labelled labels) _ (start w).args.runs.now w.before.before.before.loop.k _ w.before.before.loop-test.true (start w).requires.fits
-          ∙ ap (λ (d : ℕ). marking (set w.before.before.before.loop.marks (get_or labels (d / 2) 0) 1)
-          (map (labelled labels) (slice (w.before.before.before.loop.k + 1) ((start w).args.stretch.at + (start w).args.stretch.size) (start w).args.runs.now)))
+          ∙ marking-next (labelled labels) _ (start w).args.runs.now w.loop-k.k _ w.loop-k-test.true (start w).requires.fits
+          ∙ ap (λ (d : ℕ). marking (set w.loop-k.marks (get_or labels (d / 2) 0) 1)
+          (map (labelled labels) (slice (w.loop-k.k + 1) ((start w).args.stretch.at + (start w).args.stretch.size) (start w).args.runs.now)))
           (sym w.wide.ensures.0),
     )
 
 returns : tie.Need-returns invariant-loop decreases-loop
 unfolding labels_of place_at
-returns c = sym (c.before.loop.invariant.1 ∙ marking-end _ _ _ _ _ c.loop-test.false)
+returns c = sym (c.loop-k.invariant.1 ∙ marking-end _ _ _ _ _ c.loop-k-test.false)
 
 pub mark_spec : {M : Type 1} → statement M
 mark_spec =

@@ -7,10 +7,10 @@ use Rattle.tables.proofs.Small.{intervals-is}
 use Rattle.plan_rules.proofs.apart.rule_6.Statement.{statement}
 use Rattle.plan_rules.proofs.apart.rule_6.Tie as tie
 
-pub rule-6-spec : {M : Type 1} → statement M
-rule-6-spec =
+pub rule_6_spec : {M : Type 1} → statement M
+rule_6_spec =
     tie.close
     (tie.spec
     (λ c κs. search rules)
     (λ c. let s = c.before.before.before.before.before in
-    ap₂ eqb c.before.earliest-meeting.ensures (sym (intervals-is s.args.b s.requires.0.counted.passed)) ∙ earliest-is _ _))
+    ap₂ eqb c.earliest_meeting-earliest.ensures (sym (intervals-is s.args.b s.requires.0.counted.passed)) ∙ earliest-is _ _))

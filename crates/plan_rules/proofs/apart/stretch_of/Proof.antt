@@ -20,31 +20,31 @@ few : (m : Move) (r : ℕ) → m ≡ Run r → T (if_run (held_move m) (λ k. lt
 unfolding if_run
 few m r e h = (ltb_iff r 256).0 (subst (λ (o : Move). T (if_run (held_move o) (λ k. ltb k 256))) e h)
 
-below : (c : tie.After-known-told) → c.before.m.given.0.0 < 256
-below c = few _ _ c.before.m.given.1 c.before.before.before.before.requires.2
+below : (c : tie.In-Run) → c.m-1.given.0.0 < 256
+below c = few _ _ c.m-1.given.1 c.requires.2
 
 -- the stretch for the case that it is
 told : (runs : Bytes) (i : ℕ) {m m' : Move} → m ≡ m' → stretch_of runs i (held_move m') ≡ stretch_of runs i (held_move m)
 told runs i e = ap (λ (o : Move). stretch_of runs i (held_move o)) (sym e)
 
-returns : tie.Need-returns
+returns : tie.Need-returns-in-Run
 unfolding stretch_of
 returns c =
     let k = c.before.before.before in
-    let a = k.before.before.before.before.args in
-    ap₂ (λ (at size : ℕ). record { at = a.train * train_bytes + at; size = size }) c.before.before.start_of_lem.ensures c.wide.ensures.0
-    ∙ told a.runs.now a.train k.before.m.given.1
+    let a = k.args in
+    ap₂ (λ (at size : ℕ). record { at = a.train * train_bytes + at; size = size }) c.start_of_lem.ensures c.wide-size.ensures.0
+    ∙ told a.runs.now a.train k.m-1.given.1
 
-returns-2 : tie.Need-returns-2
+returns-2 : tie.Need-returns-in-Absent
 unfolding stretch_of
-returns-2 c = told _ _ c.enum_told.given.1
+returns-2 c = told _ _ c.in-Absent.is
 
-returns-3 : tie.Need-returns-3
+returns-3 : tie.Need-returns-in-Gone
 unfolding stretch_of
-returns-3 c = told _ _ c.enum-told2.given.1
+returns-3 c = told _ _ c.in-Gone.is
 
-pub stretch-of-spec : {M : Type 1} → statement M
-stretch-of-spec =
+pub stretch_of_spec : {M : Type 1} → statement M
+stretch_of_spec =
     tie.close
     (tie.spec
     (λ c. search rules)

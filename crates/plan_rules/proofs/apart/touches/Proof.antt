@@ -23,11 +23,11 @@ use Rattle.plan_rules.proofs.apart.touches.Tie as tie
 abbrev marked : Bytes → List ℕ → ℕ → Bool
 marked marks labels d = is_marked marks (get_or labels (segment_of d) 0)
 
-abbrev invariant-loop : tie.invariant-loop
+abbrev invariant-loop : tie.invariant-loop-k
 invariant-loop runs labels marks end k₀ k =
     (k₀ ≤ k) × (any (marked marks labels) (slice k₀ end runs) ≡ any (marked marks labels) (slice k end runs))
 
-abbrev decreases-loop : tie.decreases-loop
+abbrev decreases-loop : tie.decreases-loop-k
 decreases-loop runs labels marks end k₀ k = end - k
 
 -- the label at k is that of a segment of the stretch
@@ -36,10 +36,10 @@ module _ (c : tie.After-wide invariant-loop decreases-loop) where
   start = c.before.before.before.before.before.before.before
 
   label : HasLabel start.args.labels.now c.wide.result
-  label = label-here start.pre c.before.before.before.loop.invariant.0 c.before.before.loop-test.true c.wide.ensures.0
+  label = label-here start.requires c.loop-k.invariant.0 c.loop-k-test.true c.wide.ensures.0
 
   abbrev here : ℕ
-  here = c.before.before.before.loop.k
+  here = c.loop-k.k
 
   abbrev behind : ℕ → Bool
   behind k =
@@ -51,8 +51,8 @@ module _ (c : tie.After-wide invariant-loop decreases-loop) where
       ≡ (is_marked start.args.marks.now (get_or start.args.labels.now (c.wide.result / 2) 0) || behind (here + 1))
   unfolding segment_of
   turn =
-      c.before.before.before.loop.invariant.1
-      ∙ any_next _ _ _ 0 c.before.before.loop-test.true start.pre.fits _
+      c.loop-k.invariant.1
+      ∙ any_next _ _ _ 0 c.loop-k-test.true start.requires.fits _
       ∙ ap (λ (d : ℕ). is_marked start.args.marks.now (get_or start.args.labels.now (d / 2) 0) || behind (here + 1))
       (sym c.wide.ensures.0)
 
@@ -62,24 +62,24 @@ whole : (c : tie.After-wide invariant-loop decreases-loop) → behind c (start c
 unfolding labels_of place_at
 whole c = sym (any-map _ _ _)
 
-returns : tie.Need-returns invariant-loop decreases-loop
+returns : tie.Need-returns-then-marks-label-eq1 invariant-loop decreases-loop
 unfolding is_marked
 returns c =
     let w = c.before.before.before in
-    sym (sym (whole w) ∙ turn w ∙ ap (λ (t : Bool). t || behind w (here w + 1)) (eq-eqb _ _ c.if1.true))
+    sym (sym (whole w) ∙ turn w ∙ ap (λ (t : Bool). t || behind w (here w + 1)) (eq-eqb _ _ c.if-marks-label-eq1.true))
 
-loop-again : tie.Need-loop-preserved invariant-loop decreases-loop
+loop-again : tie.Need-loop-k-preserved invariant-loop decreases-loop
 unfolding is_marked
 loop-again c =
     let w = c.before.before.before in
-    (omega arith, turn w ∙ ap (λ (t : Bool). t || behind w (here w + 1)) (ne_eqb _ _ c.if1.false))
+    (omega arith, turn w ∙ ap (λ (t : Bool). t || behind w (here w + 1)) (ne_eqb _ _ c.if-marks-label-eq1.false))
 
-returns-2 : tie.Need-returns-2 invariant-loop decreases-loop
+returns-2 : tie.Need-returns invariant-loop decreases-loop
 unfolding labels_of place_at
-returns-2 c = sym (any-map _ _ _ ∙ c.before.loop.invariant.1 ∙ any-end _ _ _ c.loop-test.false _)
+returns-2 c = sym (any-map _ _ _ ∙ c.loop-k.invariant.1 ∙ any-end _ _ _ c.loop-k-test.false _)
 
-pub touches-spec : {M : Type 1} → statement M
-touches-spec =
+pub touches_spec : {M : Type 1} → statement M
+touches_spec =
     tie.close
     (tie.spec
     invariant-loop

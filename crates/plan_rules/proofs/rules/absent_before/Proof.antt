@@ -24,40 +24,40 @@ use Rattle.plan_rules.proofs.rules.absent_before.Tie as tie
 abbrev step : BookStruct → Bytes → ℕ → ℕ → ℕ → Bool
 step b plan train d t = absent_step (instance_of (held b)) (plan_of (instance_of (held b)) plan) train d t
 
-abbrev invariant-loop : tie.invariant-loop
+abbrev invariant-loop : tie.invariant-loop-t
 invariant-loop train plan b d intervals t₀ t =
     absent_before (instance_of (held b)) (plan_of (instance_of (held b)) plan) train ≡ all (step b plan train d) (range t intervals)
 
-abbrev decreases-loop : tie.decreases-loop
+abbrev decreases-loop : tie.decreases-loop-t
 decreases-loop train plan b d intervals t₀ t = intervals - t
 
 few : (s : tie.Start invariant-loop decreases-loop) → s.args.train < 8
-few s = few-trains s.args.t1 s.requires.passed s.args.train s.requires.known
+few s = few-trains s.args.b s.requires.passed s.args.train s.requires.known
 
-loop-holds : tie.Need-loop-init invariant-loop decreases-loop
+loop-holds : tie.Need-loop-t-init invariant-loop decreases-loop
 loop-holds c =
     let s = c.before in
-    let b = s.args.t1 in
+    let b = s.args.b in
     let p = s.requires in
     absent-steps (instance_of (held b)) _ s.args.train (sym (departs-here b p.passed s.args.train p.known))
     (intervals-is b p.passed) (omega (arith, (departs-asks b p.passed s.args.train p.known).0))
 
 -- the answer about this interval
-module _ (c : tie.After-absent-if invariant-loop decreases-loop) where
+module _ (c : tie.After-absent_if invariant-loop decreases-loop) where
   abbrev start : tie.Start invariant-loop decreases-loop
   start = c.before.before.before.before.before
 
   abbrev d : ℕ
-  d = (get_or start.args.t1.trains start.args.train no_train).departure
+  d = (get_or start.args.b.trains start.args.train no_train).departure
 
   abbrev time : ℕ
-  time = c.before.before.before.loop.t
+  time = c.loop-t.t
 
-  here : c.absent-if.result ≡ step start.args.t1 start.args.plan.now start.args.train d time
-  here = c.absent-if.ensures ∙ ap (λ (m : Move). cond (ltb time d) (is_absent m) (not (is_absent m))) c.before.move_at.ensures
+  here : c.absent_if.result ≡ step start.args.b start.args.plan.now start.args.train d time
+  here = c.absent_if.ensures ∙ ap (λ (m : Move). cond (ltb time d) (is_absent m) (not (is_absent m))) c.move_at-m.ensures
 
-pub absent-before-spec : {M : Type 1} → statement M
-absent-before-spec =
+pub absent_before_spec : {M : Type 1} → statement M
+absent_before_spec =
     tie.close
     (tie.spec
     invariant-loop
@@ -65,10 +65,10 @@ absent-before-spec =
     (λ c. omega (arith, few c.before))
     (λ c. few c.before)
     loop-holds
-    (λ c κs. move_asks c.before.before.before.requires c.before.loop.t c.loop-test.true)
+    (λ c κs. move_asks c.requires c.loop-t.t c.loop-t-test.true)
     (λ c κs. tt)
-    (λ c. let t = c.before.before.before in all-fails _ t.before.loop.invariant t.loop-test.true (here c.before) c.if1.true)
+    (λ c. let t = c.before.before.before in all-fails _ t.loop-t.invariant t.loop-t-test.true (here c.before) c.if-not-absent_if.true)
     (λ c. omega arith)
     (λ c. omega arith)
-    (λ c. let t = c.before.before.before in all-goes _ t.before.loop.invariant t.loop-test.true (here c.before) c.if1.false)
-    (λ c. all_done _ c.before.loop.invariant c.loop-test.false))
+    (λ c. let t = c.before.before.before in all-goes _ t.loop-t.invariant t.loop-t-test.true (here c.before) c.if-not-absent_if.false)
+    (λ c. all_done _ c.loop-t.invariant c.loop-t-test.false))

@@ -20,17 +20,17 @@ away : (before : Bool) → before ≡ cond before true false
 away true = refl
 away false = refl
 
-returns : tie.Need-returns
+returns : tie.Need-returns-in-Run
 unfolding is_absent
-returns c = let b = c.before.before.args.before in there b ∙ told (answer b) c.enum_told.given.1
+returns c = let b = c.args.before in there b ∙ told (answer b) c.in-Run.is
 
-returns-2 : tie.Need-returns-2
+returns-2 : tie.Need-returns-in-Absent
 unfolding is_absent
-returns-2 c = let b = c.before.before.args.before in away b ∙ told (answer b) c.enum-told2.given.1
+returns-2 c = let b = c.args.before in away b ∙ told (answer b) c.in-Absent.is
 
-returns-3 : tie.Need-returns-3
+returns-3 : tie.Need-returns-in-Gone
 unfolding is_absent
-returns-3 c = let b = c.before.before.args.before in there b ∙ told (answer b) c.enum-told3.given.1
+returns-3 c = let b = c.args.before in there b ∙ told (answer b) c.in-Gone.is
 
-pub absent-if-spec : {M : Type 1} → statement M
-absent-if-spec = tie.close (tie.spec (λ c. search rules) (λ c. search rules) (λ c. search rules) returns returns-2 returns-3)
+pub absent_if_spec : {M : Type 1} → statement M
+absent_if_spec = tie.close (tie.spec (λ c. search rules) (λ c. search rules) (λ c. search rules) returns returns-2 returns-3)

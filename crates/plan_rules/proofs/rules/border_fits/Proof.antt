@@ -22,16 +22,16 @@ bare true false = refl
 bare false true = refl
 bare false false = refl
 
-returns : tie.Need-returns
+returns : tie.Need-returns-then-border
 returns c =
-    let k = c.before.before.args.kind in
-    ap not c.denies-border.ensures ∙ bordered (denies_border k) (forces_border k) ∙ ap (answer k) (sym c.before.if1.true)
+    let k = c.args.kind in
+    ap not c.denies_border.ensures ∙ bordered (denies_border k) (forces_border k) ∙ ap (answer k) (sym c.if-border.true)
 
-returns-2 : tie.Need-returns-2
+returns-2 : tie.Need-returns-else-border
 returns-2 c =
-    let k = c.before.before.args.kind in
-    ap not c.forces-border.ensures ∙ bare (denies_border k) (forces_border k) ∙ ap (answer k) (sym c.before.if1.false)
+    let k = c.args.kind in
+    ap not c.forces_border.ensures ∙ bare (denies_border k) (forces_border k) ∙ ap (answer k) (sym c.if-border.false)
 
-pub border-fits-spec : {M : Type 1} → statement M
-border-fits-spec =
+pub border_fits_spec : {M : Type 1} → statement M
+border_fits_spec =
     tie.close (tie.spec (λ c κs. search rules) (λ c κs. search rules) returns returns-2)

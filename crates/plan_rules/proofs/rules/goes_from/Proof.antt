@@ -8,17 +8,17 @@ use Rattle.plan_rules.proofs.rules.goes_from.Tie as tie
 -- the move is a run of the train's
 follows-requires : tie.Need-follows-requires
 follows-requires c κs =
-    let p = c.before.before.before.before.requires in
-    follows-asks p.0 _ _ p.1 (below p.0 p.2 c.before.m.given.1)
+    let p = c.requires in
+    follows-asks p.0 _ _ p.1 (below p.0 p.2 c.m-1.given.1)
 
-returns : tie.Need-returns
+returns : tie.Need-returns-in-Run
 returns c =
-    let told = c.before.before.m.given.1 in
-    let p = c.before.before.before.before.before.requires in
+    let told = c.m-1.given.1 in
+    let p = c.requires in
     follows-answer p.0 _ _ p.1 (below p.0 p.2 told) c.follows.ensures ∙ if-run _ told
 
-pub goes-from-spec : {M : Type 1} → statement M
-goes-from-spec =
+pub goes_from_spec : {M : Type 1} → statement M
+goes_from_spec =
     tie.close
     (tie.spec
     (λ c. search rules)
@@ -26,5 +26,5 @@ goes-from-spec =
     (λ c. search rules)
     (λ c. search rules)
     returns
-    (λ c. if-absent _ c.enum_told.given.1)
-    (λ c. if-gone _ c.enum-told2.given.1))
+    (λ c. if-absent _ c.in-Absent.is)
+    (λ c. if-gone _ c.in-Gone.is))

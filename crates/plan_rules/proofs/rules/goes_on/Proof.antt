@@ -5,19 +5,19 @@ use Rattle.plan_rules.proofs.Ready.{if-run, if-absent, if-gone, below}
 use Rattle.plan_rules.proofs.rules.goes_on.Statement.{statement}
 use Rattle.plan_rules.proofs.rules.goes_on.Tie as tie
 
-goes-from-requires : tie.Need-goes-from-requires
+goes-from-requires : tie.Need-goes_from-requires
 goes-from-requires c κs =
     let s = c.before.before.before.before in
-    (s.requires.0, below s.requires.0 s.requires.1 c.before.before2.given.1, s.requires.2)
+    (s.requires.0, below s.requires.0 s.requires.1 c.before.before-1.given.1, s.requires.2)
 
-pub goes-on-spec : {M : Type 1} → statement M
-goes-on-spec =
+pub goes_on_spec : {M : Type 1} → statement M
+goes_on_spec =
     tie.close
     (tie.spec
     (λ c. search rules)
     goes-from-requires
     (λ c. search rules)
     (λ c. search rules)
-    (λ c. c.goes-from.ensures ∙ if-run _ c.before.before.before2.given.1)
-    (λ c. if-absent _ c.enum_told.given.1)
-    (λ c. if-gone _ c.enum-told2.given.1))
+    (λ c. c.goes_from.ensures ∙ if-run _ c.before.before.before-1.given.1)
+    (λ c. if-absent _ c.in-Absent.is)
+    (λ c. if-gone _ c.in-Gone.is))

@@ -23,7 +23,7 @@ goes true = refl
 goes false = refl
 
 -- what the two moves are
-module _ (c : tie.After-is-gone2) where
+module _ (c : tie.After-is_gone) where
   abbrev start : tie.Start
   start = c.before.before.before
 
@@ -36,51 +36,51 @@ module _ (c : tie.After-is-gone2) where
   abbrev leaves : Bool
   leaves = runs (held_move start.args.before) (λ r. (instance_of (held start.args.b)).leaves start.args.train r)
 
-  gone-now : {x : Bool} → c.before.is-gone.result ≡ x → x ≡ now
-  gone-now e = sym e ∙ c.before.is-gone.ensures
+  gone-now : {x : Bool} → c.is_gone-gone.result ≡ x → x ≡ now
+  gone-now e = sym e ∙ c.is_gone-gone.ensures
 
-  gone-before : {x : Bool} → c.is-gone2.result ≡ x → x ≡ was
-  gone-before e = sym e ∙ c.is-gone2.ensures
+  gone-before : {x : Bool} → c.is_gone.result ≡ x → x ≡ was
+  gone-before e = sym e ∙ c.is_gone.ensures
 
   of-cases : (late : Bool) {x y : Bool} → x ≡ now → y ≡ was → answer late x y leaves ≡ answer late now was leaves
   of-cases late e f = ap₂ (λ (g w : Bool). answer late g w leaves) e f
 
-returns : tie.Need-returns
+returns : tie.Need-returns-then-gone
 returns c =
     let k = c.before.before in
     gone-on (start k).args.late (leaves k)
-    ∙ of-cases k (start k).args.late (gone-now k c.if2.true) (gone-before k c.before.if1.true)
+    ∙ of-cases k (start k).args.late (gone-now k c.if-gone.true) (gone-before k c.if-is_gone.true)
 
-returns-2 : tie.Need-returns-2
+returns-2 : tie.Need-returns-else-gone
 returns-2 c =
     let k = c.before.before in
-    c.if2.false ∙ of-cases k (start k).args.late (gone-now k c.if2.false) (gone-before k c.before.if1.true)
+    c.if-gone.false ∙ of-cases k (start k).args.late (gone-now k c.if-gone.false) (gone-before k c.if-is_gone.true)
 
-returns-3 : tie.Need-returns-3
+returns-3 : tie.Need-returns-then-not-gone
 returns-3 c =
     let k = c.before.before in
-    c.if3.true
-    ∙ of-cases k (start k).args.late (gone-now k (not-true _ c.if3.true)) (gone-before k c.before.if1.false)
+    c.if-not-gone.true
+    ∙ of-cases k (start k).args.late (gone-now k (not-true _ c.if-not-gone.true)) (gone-before k c.if-is_gone.false)
 
-returns-4 : tie.Need-returns-4
+returns-4 : tie.Need-returns-then-late
 returns-4 c =
     let e = c.before.before in
     let k = e.before.before in
-    c.may-go.ensures
+    c.may_go.ensures
     ∙ goes (leaves k)
-    ∙ of-cases k true (gone-now k (not-false _ e.if3.false)) (gone-before k e.before.if1.false)
-    ∙ ap (λ (late : Bool). answer late (now k) (was k) (leaves k)) (sym c.before.if4.true)
+    ∙ of-cases k true (gone-now k (not-false _ e.if-not-gone.false)) (gone-before k e.if-is_gone.false)
+    ∙ ap (λ (late : Bool). answer late (now k) (was k) (leaves k)) (sym c.if-late.true)
 
-returns-5 : tie.Need-returns-5
+returns-5 : tie.Need-returns-else-late
 returns-5 c =
     let e = c.before in
     let k = e.before.before in
-    c.if4.false
-    ∙ of-cases k false (gone-now k (not-false _ e.if3.false)) (gone-before k e.before.if1.false)
-    ∙ ap (λ (late : Bool). answer late (now k) (was k) (leaves k)) (sym c.if4.false)
+    c.if-late.false
+    ∙ of-cases k false (gone-now k (not-false _ e.if-not-gone.false)) (gone-before k e.if-is_gone.false)
+    ∙ ap (λ (late : Bool). answer late (now k) (was k) (leaves k)) (sym c.if-late.false)
 
-pub gone-fits-spec : {M : Type 1} → statement M
-gone-fits-spec =
+pub gone_fits_spec : {M : Type 1} → statement M
+gone_fits_spec =
     tie.close
     (tie.spec
     (λ c κs. search rules)

@@ -7,27 +7,27 @@ use Rattle.plan_rules.proofs.rules.may_go.Statement.{statement}
 use Rattle.plan_rules.proofs.rules.may_go.Tie as tie
 
 -- the move is a run of the train's: its end lies in the table
-end-of-requires : tie.Need-end-of-requires
-end-of-requires c κs = let s = c.before.before.before.before in run-asks s.requires.0 s.requires.1 c.before.m.given.1
+end-of-requires : tie.Need-end_of-requires
+end-of-requires c κs = let s = c.before.before.before.before in run-asks s.requires.0 s.requires.1 c.m-1.given.1
 
-may-leave-requires : tie.Need-may-leave-requires
+may-leave-requires : tie.Need-may_leave-requires
 may-leave-requires c κs =
     let s = c.before.before.before.before.before in
     let h = s.requires.0 in
-    let own = below h s.requires.1 c.before.before.m.given.1 in
+    let own = below h s.requires.1 c.m-1.given.1 in
     let place = leave-asks s.args.b s.args.train _ h.reached h.table own h.passed h.known c.end_of.ensures in
     (h.passed, s.requires.2, place.0, place.1, place.2)
 
-returns : tie.Need-returns
+returns : tie.Need-returns-in-Run
 returns c =
     let told = c.before.before.before in
     let s = told.before.before.before in
-    let place = run_ends s.requires.0 s.requires.1 told.m.given.1 c.before.end_of.ensures in
-    leaves-answer s.args.b s.args.train _ s.requires.0.reached place c.may-leave.ensures
-    ∙ runs-run _ told.m.given.1
+    let place = run_ends s.requires.0 s.requires.1 told.m-1.given.1 c.end_of.ensures in
+    leaves-answer s.args.b s.args.train _ s.requires.0.reached place c.may_leave.ensures
+    ∙ runs-run _ told.m-1.given.1
 
-pub may-go-spec : {M : Type 1} → statement M
-may-go-spec =
+pub may_go_spec : {M : Type 1} → statement M
+may_go_spec =
     tie.close
     (tie.spec
     (λ c. search rules)
@@ -36,5 +36,5 @@ may-go-spec =
     (λ c. search rules)
     (λ c. search rules)
     returns
-    (λ c. runs-absent _ c.enum_told.given.1)
-    (λ c. runs-gone _ c.enum-told2.given.1))
+    (λ c. runs-absent _ c.in-Absent.is)
+    (λ c. runs-gone _ c.in-Gone.is))

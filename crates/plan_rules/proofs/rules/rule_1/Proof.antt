@@ -26,64 +26,64 @@ respects denied forced border = (not denied || not border) && (not forced || bor
 abbrev step : Instance → Plan → ℕ → Bool
 step I p n = respects (I.denied n) (I.forced n) (p.border n)
 
-abbrev invariant-loop : tie.invariant-loop
+abbrev invariant-loop : tie.invariant-loop-node
 invariant-loop plan b nodes node₀ node =
     rule1 (instance_of (held b)) (plan_of (instance_of (held b)) plan)
     ≡ all (step (instance_of (held b)) (plan_of (instance_of (held b)) plan)) (range node nodes)
 
-abbrev decreases-loop : tie.decreases-loop
+abbrev decreases-loop : tie.decreases-loop-node
 decreases-loop plan b nodes node₀ node = nodes - node
 
 steps : (I : Instance) (p : Plan) {n : ℕ} → I.nodes ≡ n → rule1 I p ≡ all (step I p) (range 0 n)
 unfolding rule1
 steps I p {n} e = rw e (all_start (step I p) n)
 
-shared-slice-read-border-fits : tie.Need-shared-slice-read-border-fits invariant-loop decreases-loop
+shared-slice-read-border-fits : tie.Need-bounds-plan-node invariant-loop decreases-loop
 shared-slice-read-border-fits c =
     let s = c.before.before.before.before.before in
-    omega (arith, c.before.before.loop-test.true, nodes-is s.args.t1 s.requires.0, nodes-inside _ _ s.requires.1)
+    omega (arith, c.loop-node-test.true, nodes-is s.args.b s.requires.0, nodes-inside _ _ s.requires.1)
 
 -- the answer about this node
-module _ (c : tie.After-border-fits invariant-loop decreases-loop) where
+module _ (c : tie.After-border_fits invariant-loop decreases-loop) where
   abbrev start : tie.Start invariant-loop decreases-loop
   start = c.before.before.before.before.before.before
 
   abbrev node : ℕ
-  node = c.before.before.before.before.loop.node
+  node = c.loop-node.node
 
   abbrev b : BookStruct
-  b = start.args.t1
+  b = start.args.b
 
-  here : c.border-fits.result ≡ step (instance_of (held b)) (plan_of (instance_of (held b)) start.args.plan.now) node
+  here : c.border_fits.result ≡ step (instance_of (held b)) (plan_of (instance_of (held b)) start.args.plan.now) node
   unfolding plan_of
   here =
-      let below = c.before.before.before.loop-test.true in
-      c.border-fits.ensures
+      let below = c.loop-node-test.true in
+      c.border_fits.ensures
       ∙ ap₂ (λ (denied forced : Bool). respects denied forced (eqb (get_or start.args.plan.now node 0) 1))
       (denied-held b node below refl) (forced-held b node below refl)
 
-returns : tie.Need-returns invariant-loop decreases-loop
+returns : tie.Need-returns-then-not-border_fits invariant-loop decreases-loop
 returns c =
     let t = c.before.before.before.before in
-    all-broken _ t.before.loop.invariant t.loop-test.true (sym (here c.before) ∙ not-true _ c.if1.true)
+    all-broken _ t.loop-node.invariant t.loop-node-test.true (sym (here c.before) ∙ not-true _ c.if-not-border_fits.true)
 
-loop-again : tie.Need-loop-preserved invariant-loop decreases-loop
+loop-again : tie.Need-loop-node-preserved invariant-loop decreases-loop
 loop-again c =
     let t = c.before.before.before.before in
-    all-turn _ t.before.loop.invariant t.loop-test.true (sym (here c.before) ∙ not-false _ c.if1.false)
+    all-turn _ t.loop-node.invariant t.loop-node-test.true (sym (here c.before) ∙ not-false _ c.if-not-border_fits.false)
 
-pub rule-1-spec : {M : Type 1} → statement M
-rule-1-spec =
+pub rule_1_spec : {M : Type 1} → statement M
+rule_1_spec =
     tie.close
     (tie.spec
     invariant-loop
     decreases-loop
-    (λ c. let s = c.before in steps (instance_of (held s.args.t1)) _ (nodes-is s.args.t1 s.requires.0))
-    (λ c. omega (arith, c.loop-test.true, c.before.before.before.requires.0.packed.counts.nodes))
+    (λ c. let s = c.before in steps (instance_of (held s.args.b)) _ (nodes-is s.args.b s.requires.0))
+    (λ c. omega (arith, c.loop-node-test.true, c.requires.0.packed.counts.nodes))
     shared-slice-read-border-fits
     (λ c κs. tt)
     returns
     (λ c. omega arith)
     (λ c. omega arith)
     loop-again
-    (λ c. all_done _ c.before.loop.invariant c.loop-test.false))
+    (λ c. all_done _ c.loop-node.invariant c.loop-node-test.false))

@@ -6,7 +6,7 @@ use Rattle.plan_rules.proofs.rules.rule_2.Statement.{statement}
 use Rattle.plan_rules.proofs.rules.rule_2.Tie as tie
 
 returns : tie.Need-returns
-returns c = c.trains-keep.ensures ∙ departing _ _
+returns c = c.trains_keep.ensures ∙ departing _ _
 
-pub rule-2-spec : {M : Type 1} → statement M
-rule-2-spec = tie.close (tie.spec (λ c κs. search rules) returns)
+pub rule_2_spec : {M : Type 1} → statement M
+rule_2_spec = tie.close (tie.spec (λ c κs. search rules) returns)

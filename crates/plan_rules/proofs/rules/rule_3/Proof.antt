@@ -6,7 +6,7 @@ use Rattle.plan_rules.proofs.rules.rule_3.Statement.{statement}
 use Rattle.plan_rules.proofs.rules.rule_3.Tie as tie
 
 returns : tie.Need-returns
-returns c = c.trains-keep.ensures ∙ leaving _ _
+returns c = c.trains_keep.ensures ∙ leaving _ _
 
-pub rule-3-spec : {M : Type 1} → statement M
-rule-3-spec = tie.close (tie.spec (λ c κs. search rules) returns)
+pub rule_3_spec : {M : Type 1} → statement M
+rule_3_spec = tie.close (tie.spec (λ c κs. search rules) returns)

@@ -6,7 +6,7 @@ use Rattle.plan_rules.proofs.rules.rule_4.Statement.{statement}
 use Rattle.plan_rules.proofs.rules.rule_4.Tie as tie
 
 returns : tie.Need-returns
-returns c = c.trains-keep.ensures ∙ running _ _
+returns c = c.trains_keep.ensures ∙ running _ _
 
-pub rule-4-spec : {M : Type 1} → statement M
-rule-4-spec = tie.close (tie.spec (λ c κs. search rules) returns)
+pub rule_4_spec : {M : Type 1} → statement M
+rule_4_spec = tie.close (tie.spec (λ c κs. search rules) returns)

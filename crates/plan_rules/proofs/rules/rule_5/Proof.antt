@@ -6,7 +6,7 @@ use Rattle.plan_rules.proofs.rules.rule_5.Statement.{statement}
 use Rattle.plan_rules.proofs.rules.rule_5.Tie as tie
 
 returns : tie.Need-returns
-returns c = c.trains-keep.ensures ∙ calling _ _
+returns c = c.trains_keep.ensures ∙ calling _ _
 
-pub rule-5-spec : {M : Type 1} → statement M
-rule-5-spec = tie.close (tie.spec (λ c κs. search rules) returns)
+pub rule_5_spec : {M : Type 1} → statement M
+rule_5_spec = tie.close (tie.spec (λ c κs. search rules) returns)

@@ -7,22 +7,22 @@ use Rattle.plan_rules.proofs.rules.run_serves.Statement.{statement}
 use Rattle.plan_rules.proofs.rules.run_serves.Tie as tie
 
 -- the move is a run of the train's: its end lies in the table
-end-of-requires : tie.Need-end-of-requires
-end-of-requires c κs = let s = c.before.before.before.before in run-asks s.requires.0 s.requires.1 c.before.m.given.1
+end-of-requires : tie.Need-end_of-requires
+end-of-requires c κs = let s = c.before.before.before.before in run-asks s.requires.0 s.requires.1 c.m-1.given.1
 
 serves-requires : tie.Need-serves-requires
-serves-requires c κs = let s = c.before.before.before.before.before in run_room s.requires.0 s.requires.1 c.before.before.m.given.1 c.end_of.ensures
+serves-requires c κs = let s = c.before.before.before.before.before in run_room s.requires.0 s.requires.1 c.m-1.given.1 c.end_of.ensures
 
-returns : tie.Need-returns
+returns : tie.Need-returns-in-Run
 returns c =
     let told = c.before.before.before in
     let s = told.before.before.before in
-    let place = run_ends s.requires.0 s.requires.1 told.m.given.1 c.before.end_of.ensures in
+    let place = run_ends s.requires.0 s.requires.1 told.m-1.given.1 c.end_of.ensures in
     serves-answer s.args.b s.args.train _ s.requires.0.reached s.args.number s.requires.2 place c.serves.ensures
-    ∙ runs-run _ told.m.given.1
+    ∙ runs-run _ told.m-1.given.1
 
-pub run-serves-spec : {M : Type 1} → statement M
-run-serves-spec =
+pub run_serves_spec : {M : Type 1} → statement M
+run_serves_spec =
     tie.close
     (tie.spec
     (λ c. search rules)
@@ -31,5 +31,5 @@ run-serves-spec =
     (λ c. search rules)
     (λ c. search rules)
     returns
-    (λ c. runs-absent _ c.enum_told.given.1)
-    (λ c. runs-gone _ c.enum-told2.given.1))
+    (λ c. runs-absent _ c.in-Absent.is)
+    (λ c. runs-gone _ c.in-Gone.is))

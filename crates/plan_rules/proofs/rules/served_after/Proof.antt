@@ -15,6 +15,7 @@ use Rattle.tables.proofs.Small.{intervals-is}
 use Rattle.plan_rules.proofs.Ready.{planned, move_asks, move-own}
 use Rattle.plan_rules.proofs.rules.served_after.Statement.{statement}
 use Rattle.plan_rules.proofs.rules.served_after.Tie as tie
+use Rattle.plan_rules.proofs.rules.served_after.Lts.{else-in_window, then-in_window}
 
 -- whether the run of an interval serves the call
 abbrev serving : Instance → Plan → ℕ → ℕ → ℕ → Bool
@@ -24,71 +25,71 @@ serving I p i c t = runs (p.move i t) (λ r. I.serves i c r)
 abbrev step : Instance → Plan → ℕ → ℕ → ℕ → Bool
 step I p i c t = in_window I i c (t + 1) && serving I p i c t
 
-abbrev invariant-loop : tie.invariant-loop
+abbrev invariant-loop : tie.invariant-loop-t
 invariant-loop train number c l runs plan b intervals t₀ t =
     served_by (instance_of (held b)) (plan_of (instance_of (held b)) plan) train number
     ≡ any (step (instance_of (held b)) (plan_of (instance_of (held b)) plan) train number) (range t intervals)
 
-abbrev decreases-loop : tie.decreases-loop
+abbrev decreases-loop : tie.decreases-loop-t
 decreases-loop train number c l runs plan b intervals t₀ t = intervals - t
 
 few : (s : tie.Start invariant-loop decreases-loop) → s.args.train < 8
-few s = few-trains s.args.t1 s.requires.0.passed s.args.train s.requires.0.known
+few s = few-trains s.args.b s.requires.0.passed s.args.train s.requires.0.known
 
 steps : (I : Instance) (p : Plan) (i c : ℕ) {d n : ℕ} → I.departure i ≡ d → I.intervals ≡ n
     → served_by I p i c ≡ any (step I p i c) (range d n)
 unfolding served_by
 steps I p i c e f = ap₂ (λ (x y : ℕ). any (step I p i c) (range x y)) e f
 
-loop-holds : tie.Need-loop-init invariant-loop decreases-loop
+loop-holds : tie.Need-loop-t-init invariant-loop decreases-loop
 loop-holds c =
     let s = c.before.before in
-    let b = s.args.t1 in
+    let b = s.args.b in
     let p = s.requires.0 in
     let i = s.args.train in
     steps (instance_of (held b)) _ i s.args.number (sym (departs-here b p.passed i p.known)) (intervals-is b p.passed)
 
 -- in the loop
-module _ (c : tie.In-loop invariant-loop decreases-loop) where
+module _ (c : tie.In-loop-t invariant-loop decreases-loop) where
   abbrev start : tie.Start invariant-loop decreases-loop
   start = c.before.before.before.before
 
   abbrev I : Instance
-  I = instance_of (held start.args.t1)
+  I = instance_of (held start.args.b)
 
   abbrev p : Plan
   p = plan_of I start.args.plan.now
 
-  small : c.before.loop.t < 65535
-  small = omega (arith, c.loop-test.true, start.pre.0.passed.packed.numbers.intervals)
+  small : c.loop-t.t < 65535
+  small = omega (arith, c.loop-t-test.true, start.requires.0.passed.packed.numbers.intervals)
 
-move-at-requires : tie.Need-move-at-requires invariant-loop decreases-loop
+move-at-requires : tie.Need-move_at-m-requires invariant-loop decreases-loop
 move-at-requires c κs =
     let k = c.before.before in
-    move_asks (planned (start k).requires.0 (start k).requires.1) k.before.loop.t k.loop-test.true
+    move_asks (planned (start k).requires.0 (start k).requires.1) k.loop-t.t k.loop-t-test.true
 
-run-serves-requires : tie.Need-run-serves-requires invariant-loop decreases-loop
+run-serves-requires : tie.Need-run_serves-requires invariant-loop decreases-loop
 run-serves-requires c κs =
     let k = c.before.before.before in
     let q = (start k).requires in
-    (q.0, move-own (planned q.0 q.1) c.move_at.result k.before.loop.t k.loop-test.true c.move_at.ensures, q.2)
+    (q.0, move-own (planned q.0 q.1) c.move_at-m.result k.loop-t.t k.loop-t-test.true c.move_at-m.ensures, q.2)
 
 -- the answer about this interval
-module _ (c : tie.After-in-window invariant-loop decreases-loop) where
-  abbrev k : tie.In-loop invariant-loop decreases-loop
+module _ (c : tie.After-in_window invariant-loop decreases-loop) where
+  abbrev k : tie.In-loop-t invariant-loop decreases-loop
   k = c.before
 
   abbrev a : tie.Start invariant-loop decreases-loop
   a = start k
 
   abbrev here : Bool
-  here = step (I k) (p k) a.args.train a.args.number k.before.loop.t
+  here = step (I k) (p k) a.args.train a.args.number k.loop-t.t
 
-  window : c.in_window.result ≡ in_window (I k) a.args.train a.args.number (k.before.loop.t + 1)
-  window = window-answer a.args.t1 a.args.train a.args.number a.pre.2 (k.before.loop.t + 1) c.in_window.ensures
+  window : c.in_window.result ≡ in_window (I k) a.args.train a.args.number (k.loop-t.t + 1)
+  window = window-answer a.args.b a.args.train a.args.number a.requires.2 (k.loop-t.t + 1) c.in_window.ensures
 
   abbrev served : Bool
-  served = serving (I k) (p k) a.args.train a.args.number k.before.loop.t
+  served = serving (I k) (p k) a.args.train a.args.number k.loop-t.t
 
   outside : c.in_window.result ≡ false → here ≡ false
   outside e = ap (λ (x : Bool). x && served) (sym window ∙ e)
@@ -96,30 +97,27 @@ module _ (c : tie.After-in-window invariant-loop decreases-loop) where
   within : {x : Bool} → c.in_window.result ≡ true → x ≡ served → here ≡ x
   within e f = ap (λ (x : Bool). x && served) (sym window ∙ e) ∙ sym f
 
-returns : tie.Need-returns invariant-loop decreases-loop
+returns : tie.Need-returns-then-run_serves invariant-loop decreases-loop
 returns c =
     let r = c.before in
     let v = r.before.before.before in
     let t = k v in
-    any_found _ t.before.loop.inv t.loop-test.taken
-    (within v r.before.before.if1.true
-    (sym c.if2.true ∙ r.run-serves.ensures
-    ∙ ap (λ (m : Move). runs m (λ x. (I t).serves (start t).args.train (start t).args.number x)) r.before.move_at.ensures))
+    any_found _ t.loop-t.invariant t.loop-t-test.true
+    (within v r.if-in_window.true
+    (sym c.if-run_serves.true ∙ r.run_serves.ensures
+    ∙ ap (λ (m : Move). runs m (λ x. (I t).serves (start t).args.train (start t).args.number x)) r.move_at-m.ensures))
 
-loop-again : tie.Need-loop-preserved invariant-loop decreases-loop
+loop-again : tie.Need-loop-t-preserved invariant-loop decreases-loop
 loop-again c =
     let v = c.before in
     let t = k v in
-    any-turn _ t.before.loop.inv t.loop-test.taken
-    (⊎_elim
-    (λ w. within v w.0.taken
-    (sym w.3.left ∙ w.2.ensures
-    ∙ ap (λ (m : Move). runs m (λ x. (I t).serves (start t).args.train (start t).args.number x)) w.1.ensures))
-    (λ w. outside v w.left)
-    c.if1.branch)
+    any-turn _ t.loop-t.invariant t.loop-t-test.true
+    (elim (c.if-in_window.branch) [ then-in_window w ↦ within v w.if-in_window.true
+    (sym w.if-run_serves.false ∙ w.run_serves.ensures
+    ∙ ap (λ (m : Move). runs m (λ x. (I t).serves (start t).args.train (start t).args.number x)) w.move_at-m.ensures) | else-in_window w ↦ outside v w.if-in_window.false ]
 
-pub served-after-spec : {M : Type 1} → statement M
-served-after-spec =
+pub served_after_spec : {M : Type 1} → statement M
+served_after_spec =
     tie.close
     (tie.spec
     invariant-loop
@@ -133,6 +131,6 @@ served-after-spec =
     run-serves-requires
     returns
     (λ c. omega (arith, small (k c.before)))
-    (λ c. omega (arith, (k c.before).loop-test.taken))
+    (λ c. omega (arith, (k c.before).loop-t-test.true))
     loop-again
-    (λ c. any-done _ c.before.loop.invariant c.loop-test.false))
+    (λ c. any-done _ c.loop-t.invariant c.loop-t-test.false))

@@ -20,12 +20,12 @@ use Rattle.plan_rules.proofs.rules.train_calls.Tie as tie
 abbrev step : Instance → Plan → ℕ → ℕ → Bool
 step I p i c = served_at_departure I i c || served_by I p i c
 
-abbrev invariant-loop : tie.invariant-loop
+abbrev invariant-loop : tie.invariant-loop-number
 invariant-loop b train l runs plan calls number₀ number =
     keeps_calls (instance_of (held b)) (plan_of (instance_of (held b)) plan) train
     ≡ all (step (instance_of (held b)) (plan_of (instance_of (held b)) plan) train) (range number calls)
 
-abbrev decreases-loop : tie.decreases-loop
+abbrev decreases-loop : tie.decreases-loop-number
 decreases-loop b train l runs plan calls number₀ number = calls - number
 
 steps : (b : BookStruct) (p : Plan) (i : ℕ) {n : ℕ} → n ≡ length (calls_of (held b) i)
@@ -33,23 +33,23 @@ steps : (b : BookStruct) (p : Plan) (i : ℕ) {n : ℕ} → n ≡ length (calls_
 unfolding keeps_calls instance_of compile
 steps b p i {n} e = ap (λ (k : ℕ). all (step (instance_of (held b)) p i) (up_to k)) (sym e) ∙ all_start (step (instance_of (held b)) p i) n
 
-add-number : tie.Need-overflow-add-number invariant-loop decreases-loop
+add-number : tie.Need-overflow_add-number invariant-loop decreases-loop
 add-number c =
     let t = c.before.before in
     let k = t.before.before in
-    omega (arith, t.loop-test.true, k.calls-of.ensures.1, k.before.before.before.requires.0.passed.packed.counts.calls)
+    omega (arith, t.loop-number-test.true, k.calls_of-calls.ensures.1, k.requires.0.passed.packed.counts.calls)
 
-pub train-calls-spec : {M : Type 1} → statement M
-train-calls-spec =
+pub train_calls_spec : {M : Type 1} → statement M
+train_calls_spec =
     tie.close
     (tie.spec
     invariant-loop
     decreases-loop
-    (λ c κs. c.before.before.requires.0.passed.packed.counts)
-    (λ c. let s = c.before.before.before in steps s.args.b _ s.args.train c.calls-of.ensures.0)
+    (λ c κs. c.requires.0.passed.packed.counts)
+    (λ c. let s = c.before.before.before in steps s.args.b _ s.args.train c.calls_of-calls.ensures.0)
     (λ c κs. let s = c.before.before.before.before.before in (s.requires.0, s.requires.1))
-    (λ c. let t = c.before.before in all-fails _ t.before.loop.invariant t.loop-test.true c.before.call-served.ensures c.if1.true)
+    (λ c. let t = c.before.before in all-fails _ t.loop-number.invariant t.loop-number-test.true c.call_served.ensures c.if-not-call_served.true)
     add-number
-    (λ c. omega (arith, c.before.before.loop-test.true))
-    (λ c. let t = c.before.before in all-goes _ t.before.loop.invariant t.loop-test.true c.before.call-served.ensures c.if1.false)
-    (λ c. all_done _ c.before.loop.invariant c.loop-test.false))
+    (λ c. omega (arith, c.loop-number-test.true))
+    (λ c. let t = c.before.before in all-goes _ t.loop-number.invariant t.loop-number-test.true c.call_served.ensures c.if-not-call_served.false)
+    (λ c. all_done _ c.loop-number.invariant c.loop-number-test.false))

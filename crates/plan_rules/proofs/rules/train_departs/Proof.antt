@@ -16,29 +16,29 @@ use Rattle.plan_rules.proofs.rules.train_departs.Statement.{statement}
 use Rattle.plan_rules.proofs.rules.train_departs.Tie as tie
 
 -- the departure, inside the plan
-module _ (c : tie.After-shared-slice-known2) where
+module _ (c : tie.After-shared_slice_known-2-1) where
   abbrev start : tie.Start
   start = c.before.before
 
   abbrev b : BookStruct
-  b = start.args.t1
+  b = start.args.b
 
   abbrev d : ℕ
   d = (get_or b.trains start.args.train no_train).departure
 
   few : start.args.train < 8
-  few = few-trains b start.pre.0.passed start.args.train start.pre.0.known
+  few = few-trains b start.requires.0.passed start.args.train start.requires.0.known
 
   ready : Planned b start.args.train start.args.plan.now
-  ready = planned start.pre.0 start.pre.1
+  ready = planned start.requires.0 start.requires.1
 
   inside : d < b.intervals
-  inside = (departs-asks b start.pre.0.passed start.args.train start.pre.0.known).0
+  inside = (departs-asks b start.requires.0.passed start.args.train start.requires.0.known).0
 
-starts-given-requires : tie.Need-starts-given-requires
+starts-given-requires : tie.Need-starts_given-requires
 starts-given-requires c κs =
     let k = c.before.before.before in
-    ((start k).requires.0, move-own (ready k) c.before.before.move_at.result (d k) (inside k) c.before.before.move_at.ensures)
+    ((start k).requires.0, move-own (ready k) c.move_at-m.result (d k) (inside k) c.move_at-m.ensures)
 
 -- the rule, from its two parts
 module _ (I : Instance) (p : Plan) (i : ℕ) where
@@ -52,18 +52,18 @@ module _ (I : Instance) (p : Plan) (i : ℕ) where
   unfolding departs
   first-fails f = sym (ap (λ (x : Bool). x && runs (p.move i (I.departure i)) (λ r. I.given i r)) f)
 
-returns : tie.Need-returns
+returns : tie.Need-returns-then-absent_before
 returns c =
     let a = c.before.before in
     let k = a.before.before in
     let s = start k in
-    both (instance_of (held (b k))) _ s.args.train (departs-here (b k) s.pre.0.passed s.args.train s.pre.0.known)
-    (sym a.absent-before.ensures ∙ c.before.if1.true)
-    (c.starts-given.ensures
-    ∙ ap (λ (m : Move). runs m (λ r. (instance_of (held (b k))).given s.args.train r)) a.before.move_at.ensures)
+    both (instance_of (held (b k))) _ s.args.train (departs-here (b k) s.requires.0.passed s.args.train s.requires.0.known)
+    (sym a.absent_before.ensures ∙ c.if-absent_before.true)
+    (c.starts_given.ensures
+    ∙ ap (λ (m : Move). runs m (λ r. (instance_of (held (b k))).given s.args.train r)) a.move_at-m.ensures)
 
-pub train-departs-spec : {M : Type 1} → statement M
-train-departs-spec =
+pub train_departs_spec : {M : Type 1} → statement M
+train_departs_spec =
     tie.close
     (tie.spec
     (λ c. omega (arith, few c))
@@ -72,4 +72,4 @@ train-departs-spec =
     (λ c κs. ready c.before)
     starts-given-requires
     returns
-    (λ c. c.if1.false ∙ first-fails _ _ _ (sym c.before.absent-before.ensures ∙ c.if1.false)))
+    (λ c. c.if-absent_before.false ∙ first-fails _ _ _ (sym c.absent_before.ensures ∙ c.if-absent_before.false)))

@@ -16,29 +16,29 @@ use Rattle.plan_rules.proofs.rules.train_keeps.Tie as tie
 
 -- the train is one of the book's
 few : (s : tie.Start) → s.args.train < 8
-few s = few-trains s.args.t1 s.requires.0.passed s.args.train s.requires.0.known
+few s = few-trains s.args.b s.requires.0.passed s.args.train s.requires.0.known
 
-length-in-segments-requires : tie.Need-length-in-segments-requires
+length-in-segments-requires : tie.Need-length_in_segments-l-requires
 length-in-segments-requires c κs =
     let s = c.before.before.before in
-    length-asks s.args.t1 s.requires.0.passed s.args.train s.requires.0.known
+    length-asks s.args.b s.requires.0.passed s.args.train s.requires.0.known
 
 -- with its length, its table is ready
-module _ (c : tie.After-length-in-segments) where
+module _ (c : tie.After-length_in_segments-l) where
   abbrev start : tie.Start
   start = c.before.before.before.before
 
   abbrev b : BookStruct
-  b = start.args.t1
+  b = start.args.b
 
   abbrev i : ℕ
   i = start.args.train
 
-  ready : TrainReady b i c.length-in-segments.result start.args.runs.now
+  ready : TrainReady b i c.length_in_segments-l.result start.args.runs.now
   ready =
-      let p = start.pre.0 in
-      let l = length-here b p.passed i p.known c.length-in-segments.ensures in
-      record { passed = p.passed; known = p.known; reached = l.0; short = l.1; table = start.pre.1 }
+      let p = start.requires.0 in
+      let l = length-here b p.passed i p.known c.length_in_segments-l.ensures in
+      record { passed = p.passed; known = p.known; reached = l.0; short = l.1; table = start.requires.1 }
 
   -- the answer by the rule
   abbrev answer : TrainRule → Bool
@@ -47,24 +47,24 @@ module _ (c : tie.After-length-in-segments) where
   told : {rule : TrainRule} → start.args.rule ≡ rule → answer rule ≡ answer start.args.rule
   told e = ap answer (sym e)
 
-returns : tie.Need-returns
+returns : tie.Need-returns-in-Departing
 unfolding train_keeps
-returns c = c.train-departs.ensures ∙ told c.before.before.before c.before.enum_told.given.1
+returns c = c.train_departs.ensures ∙ told c.before.before.before c.in-Departing.is
 
-returns-2 : tie.Need-returns-2
+returns-2 : tie.Need-returns-in-Leaving
 unfolding train_keeps
-returns-2 c = c.train-leaves.ensures ∙ told c.before.before.before c.before.enum-told2.given.1
+returns-2 c = c.train_leaves.ensures ∙ told c.before.before.before c.in-Leaving.is
 
-returns-3 : tie.Need-returns-3
+returns-3 : tie.Need-returns-in-Running
 unfolding train_keeps
-returns-3 c = c.train-runs.ensures ∙ told c.before.before.before c.before.enum-told3.given.1
+returns-3 c = c.train_runs.ensures ∙ told c.before.before.before c.in-Running.is
 
-returns-4 : tie.Need-returns-4
+returns-4 : tie.Need-returns-in-Calling
 unfolding train_keeps
-returns-4 c = c.train-calls.ensures ∙ told c.before.before.before c.before.enum-told4.given.1
+returns-4 c = c.train_calls.ensures ∙ told c.before.before.before c.in-Calling.is
 
-pub train-keeps-spec : {M : Type 1} → statement M
-train-keeps-spec =
+pub train_keeps_spec : {M : Type 1} → statement M
+train_keeps_spec =
     tie.close
     (tie.spec
     (λ c. omega (arith, few c.before.before))

@@ -24,21 +24,21 @@ use Rattle.plan_rules.proofs.rules.train_leaves.Tie as tie
 abbrev step : BookStruct → Bytes → ℕ → ℕ → ℕ → Bool
 step b plan train d t = leave_step (instance_of (held b)) (plan_of (instance_of (held b)) plan) train d t
 
-abbrev invariant-loop : tie.invariant-loop
+abbrev invariant-loop : tie.invariant-loop-t
 invariant-loop train l runs plan b to d intervals before₀ t₀ before t =
     (leaves_rightly (instance_of (held b)) (plan_of (instance_of (held b)) plan) train ≡ all (step b plan train d) (range t intervals))
     × (held_move before ≡ prior ((plan_of (instance_of (held b)) plan).move train) t)
 
-abbrev decreases-loop : tie.decreases-loop
+abbrev decreases-loop : tie.decreases-loop-t
 decreases-loop train l runs plan b to d intervals before₀ t₀ before t = intervals - t
 
 few : (s : tie.Start invariant-loop decreases-loop) → s.args.train < 8
-few s = few-trains s.args.t1 s.requires.0.passed s.args.train s.requires.0.known
+few s = few-trains s.args.b s.requires.0.passed s.args.train s.requires.0.known
 
-loop-holds : tie.Need-loop-init invariant-loop decreases-loop
+loop-holds : tie.Need-loop-t-init invariant-loop decreases-loop
 loop-holds c =
     let s = c.before.before.before in
-    let b = s.args.t1 in
+    let b = s.args.b in
     let p = s.requires.0 in
     let i = s.args.train in (
       leave-steps (instance_of (held b)) _ i (sym (departs-here b p.passed i p.known))
@@ -46,49 +46,49 @@ loop-holds c =
       refl,
     )
 
-module _ (c : tie.In-loop invariant-loop decreases-loop) where
+module _ (c : tie.In-loop-t invariant-loop decreases-loop) where
   abbrev start : tie.Start invariant-loop decreases-loop
   start = c.before.before.before.before.before
 
-gone-fits-requires : tie.Need-gone-fits-requires invariant-loop decreases-loop
+gone-fits-requires : tie.Need-gone_fits-requires invariant-loop decreases-loop
 gone-fits-requires c κs =
     let k = c.before in
     let p = (start k).requires in
-    let loop = k.before.loop in
-    let own = prior-own (planned p.0 p.1) loop.before loop.t (omega (arith, k.loop-test.true)) loop.invariant.1 in
-    (p.0, own, k.before.before.goal.ensures)
+    let loop = k.loop-t in
+    let own = prior-own (planned p.0 p.1) loop.before loop.t (omega (arith, k.loop-t-test.true)) loop.invariant.1 in
+    (p.0, own, k.goal-to.ensures)
 
 -- the answer about this interval
-module _ (c : tie.After-gone-fits invariant-loop decreases-loop) where
-  abbrev k : tie.In-loop invariant-loop decreases-loop
+module _ (c : tie.After-gone_fits invariant-loop decreases-loop) where
+  abbrev k : tie.In-loop-t invariant-loop decreases-loop
   k = c.before.before
 
   abbrev b : BookStruct
-  b = (start k).args.t1
+  b = (start k).args.b
 
   abbrev d : ℕ
   d = (get_or b.trains (start k).args.train no_train).departure
 
-  here : c.gone-fits.result ≡ step b (start k).args.plan.now (start k).args.train d k.before.loop.t
+  here : c.gone_fits.result ≡ step b (start k).args.plan.now (start k).args.train d k.loop-t.t
   here =
-      c.gone-fits.ensures
-      ∙ ap₂ (gone_step (λ x. runs x (λ r. (instance_of (held b)).leaves (start k).args.train r)) d k.before.loop.t)
-      k.before.loop.inv.1 c.before.move_at.ensures
+      c.gone_fits.ensures
+      ∙ ap₂ (gone_step (λ x. runs x (λ r. (instance_of (held b)).leaves (start k).args.train r)) d k.loop-t.t)
+      k.loop-t.invariant.1 c.move_at-m.ensures
 
-pub train-leaves-spec : {M : Type 1} → statement M
-train-leaves-spec =
+pub train_leaves_spec : {M : Type 1} → statement M
+train_leaves_spec =
     tie.close
     (tie.spec
     invariant-loop
     decreases-loop
-    (λ c κs. c.before.before.requires.0.passed.packed.counts)
+    (λ c κs. c.requires.0.passed.packed.counts)
     (λ c. omega (arith, few c.before.before.before))
     (λ c. few c.before.before.before)
     loop-holds
-    (λ c κs. move_asks (planned (start c).requires.0 (start c).requires.1) c.before.loop.t c.loop-test.true)
+    (λ c κs. move_asks (planned (start c).requires.0 (start c).requires.1) c.loop-t.t c.loop-t-test.true)
     gone-fits-requires
-    (λ c. let t = k c.before in all-fails _ t.before.loop.inv.0 t.loop-test.taken (here c.before) c.if1.true)
-    (λ c. let t = k c.before in omega (arith, t.loop-test.taken, (start t).pre.0.passed.packed.numbers.intervals))
-    (λ c. omega (arith, (k c.before).loop-test.taken))
-    (λ c. let t = k c.before in next-move _ _ t.before.loop.inv.0 t.loop-test.taken (here c.before) c.before.before.move_at.ensures c.if1.false)
-    (λ c. all_done _ c.before.loop.invariant.0 c.loop-test.false))
+    (λ c. let t = k c.before in all-fails _ t.loop-t.invariant.0 t.loop-t-test.true (here c.before) c.if-not-gone_fits.true)
+    (λ c. let t = k c.before in omega (arith, t.loop-t-test.true, (start t).requires.0.passed.packed.numbers.intervals))
+    (λ c. omega (arith, (k c.before).loop-t-test.true))
+    (λ c. let t = k c.before in next-move _ _ t.loop-t.invariant.0 t.loop-t-test.true (here c.before) c.move_at-m.ensures c.if-not-gone_fits.false)
+    (λ c. all_done _ c.loop-t.invariant.0 c.loop-t-test.false))

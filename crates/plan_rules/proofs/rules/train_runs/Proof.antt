@@ -25,58 +25,58 @@ abbrev step : BookStruct → Bytes → ℕ → ℕ → Bool
 step b plan train t =
     run_step (instance_of (held b)) (choices b plan) train (prior ((choices b plan).move train) t) ((choices b plan).move train t)
 
-abbrev invariant-loop : tie.invariant-loop
+abbrev invariant-loop : tie.invariant-loop-t
 invariant-loop b train l runs plan intervals before₀ t₀ before t =
     (runs_on (instance_of (held b)) (choices b plan) train ≡ all (step b plan train) (range t intervals))
     × (held_move before ≡ prior ((choices b plan).move train) t)
 
-abbrev decreases-loop : tie.decreases-loop
+abbrev decreases-loop : tie.decreases-loop-t
 decreases-loop b train l runs plan intervals before₀ t₀ before t = intervals - t
 
-loop-holds : tie.Need-loop-init invariant-loop decreases-loop
+loop-holds : tie.Need-loop-t-init invariant-loop decreases-loop
 loop-holds c =
     let s = c.before.before in
     let b = s.args.b in
     (run-steps (instance_of (held b)) _ s.args.train (intervals-is b s.requires.0.passed), refl)
 
-module _ (c : tie.In-loop invariant-loop decreases-loop) where
+module _ (c : tie.In-loop-t invariant-loop decreases-loop) where
   abbrev start : tie.Start invariant-loop decreases-loop
   start = c.before.before.before.before
 
-goes-on-requires : tie.Need-goes-on-requires invariant-loop decreases-loop
+goes-on-requires : tie.Need-goes_on-requires invariant-loop decreases-loop
 goes-on-requires c κs =
     let k = c.before in
     let p = (start k).requires in
     let h = planned p.0 p.1 in
-    let t = k.before.loop.t in (
+    let t = k.loop-t.t in (
       p.0,
-      prior-own h k.before.loop.before t (omega (arith, k.loop-test.true)) k.before.loop.invariant.1,
-      move-own h c.move_at.result t k.loop-test.true c.move_at.ensures,
+      prior-own h k.loop-t.before t (omega (arith, k.loop-t-test.true)) k.loop-t.invariant.1,
+      move-own h c.move_at-m.result t k.loop-t-test.true c.move_at-m.ensures,
     )
 
 -- the answer about this interval
-module _ (c : tie.After-goes-on invariant-loop decreases-loop) where
-  abbrev k : tie.In-loop invariant-loop decreases-loop
+module _ (c : tie.After-goes_on invariant-loop decreases-loop) where
+  abbrev k : tie.In-loop-t invariant-loop decreases-loop
   k = c.before.before
 
-  here : c.goes_on.result ≡ step (start k).args.b (start k).args.plan.now (start k).args.train k.before.loop.t
+  here : c.goes_on.result ≡ step (start k).args.b (start k).args.plan.now (start k).args.train k.loop-t.t
   here =
       let s = (start k).args in
       c.goes_on.ensures
-      ∙ ap₂ (run_step (instance_of (held s.b)) (choices s.b s.plan.now) s.train) k.before.loop.inv.1
-      c.before.move_at.ensures
+      ∙ ap₂ (run_step (instance_of (held s.b)) (choices s.b s.plan.now) s.train) k.loop-t.invariant.1
+      c.move_at-m.ensures
 
-pub train-runs-spec : {M : Type 1} → statement M
-train-runs-spec =
+pub train_runs_spec : {M : Type 1} → statement M
+train_runs_spec =
     tie.close
     (tie.spec
     invariant-loop
     decreases-loop
     loop-holds
-    (λ c κs. move_asks (planned (start c).requires.0 (start c).requires.1) c.before.loop.t c.loop-test.true)
+    (λ c κs. move_asks (planned (start c).requires.0 (start c).requires.1) c.loop-t.t c.loop-t-test.true)
     goes-on-requires
-    (λ c. let t = k c.before in all-fails _ t.before.loop.inv.0 t.loop-test.taken (here c.before) c.if1.true)
-    (λ c. let t = k c.before in omega (arith, t.loop-test.taken, (start t).pre.0.passed.packed.numbers.intervals))
-    (λ c. omega (arith, (k c.before).loop-test.taken))
-    (λ c. let t = k c.before in next-move _ _ t.before.loop.inv.0 t.loop-test.taken (here c.before) c.before.before.move_at.ensures c.if1.false)
-    (λ c. all_done _ c.before.loop.invariant.0 c.loop-test.false))
+    (λ c. let t = k c.before in all-fails _ t.loop-t.invariant.0 t.loop-t-test.true (here c.before) c.if-not-goes_on.true)
+    (λ c. let t = k c.before in omega (arith, t.loop-t-test.true, (start t).requires.0.passed.packed.numbers.intervals))
+    (λ c. omega (arith, (k c.before).loop-t-test.true))
+    (λ c. let t = k c.before in next-move _ _ t.loop-t.invariant.0 t.loop-t-test.true (here c.before) c.move_at-m.ensures c.if-not-goes_on.false)
+    (λ c. all_done _ c.loop-t.invariant.0 c.loop-t-test.false))

@@ -13,42 +13,42 @@ use Rattle.programs.proofs.dimacs.put_header.Statement.{statement}
 use Rattle.programs.proofs.dimacs.put_header.Tie as tie
 
 -- the line: the opening, the first number, a blank, the second number, the end of the line
-module _ (c : tie.After-slice-known6) where
+module _ (c : tie.After-slice_known-6-1) where
   abbrev first : tie.After-put
   first = c.before.before.before.before.before.before.before.before.before.before
 
-  abbrev opened : tie.After-put-bytes
+  abbrev opened : tie.After-put_bytes-opened
   opened = first.before.before.before.before.before.before.before.before
 
   abbrev given : tie.Start
   given = opened.before.before.before.before
 
-  abbrev second : tie.After-put-number2
+  abbrev second : tie.After-put_number-second
   second = c.before.before.before.before.before.before
 
   line : Stored given.args.buf.now 0 (header_text given.args.variables given.args.clauses)
-      c.before.before.put2.new.0 (second.put-number2.result + 1)
+      c.put-2.new.0 (second.put_number-second.result + 1)
   unfolding header_text dimacs_opening
   line =
       let a = given.args in
-      let front = opened.put-bytes.ensures in
-      let m = first.before.before.before.before.put-number.ensures in
-      let n = second.put-number2.ensures in
-      let o = stored a.buf.now 0 dimacs_opening front.0 front.1 in
+      let front = opened.put_bytes-opened.ensures in
+      let m = first.put_number-first.ensures in
+      let n = second.put_number-second.ensures in
+      let o = stored a.buf-1.now 0 dimacs_opening front.0 front.1 in
       let p = stored-byte (stored-behind o (stored _ _ (decimal a.variables) m.0 m.2)) 32 first.put.ensures in
-      let q = stored-byte (stored-behind p (stored _ _ (decimal a.clauses) n.0 n.2)) 10 c.before.before.put2.ensures in
+      let q = stored-byte (stored-behind p (stored _ _ (decimal a.clauses) n.0 n.2)) 10 c.put-2.ensures in
       stored_same q (in-line dimacs_opening (decimal a.variables) (decimal a.clauses))
 
 returns : tie.Need-returns
 returns c =
-    let m = (first c).before.before.before.before.put-number.ensures in (
+    let m = (first c).put_number-first.ensures in (
       (line c).ends ∙ zero-add _,
-      omega (arith, (opened c).put-bytes.ensures.0, m.1, (second c).put-number2.ensures.1),
+      omega (arith, (opened c).put_bytes-opened.ensures.0, m.1, (second c).put_number-second.ensures.1),
       (line c).bytes,
     )
 
-pub put-header-spec : {M : Type 1} → statement M
-put-header-spec =
+pub put_header_spec : {M : Type 1} → statement M
+put_header_spec =
     tie.close
     (tie.spec
     (λ c. search rules)

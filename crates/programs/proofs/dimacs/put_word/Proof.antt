@@ -18,67 +18,67 @@ use Rattle.programs.proofs.dimacs.put_word.Statement.{statement}
 use Rattle.programs.proofs.dimacs.put_word.Tie as tie
 
 -- the end of a clause
-module _ (c : tie.After-slice-known3) where
+module _ (c : tie.After-slice_known-then-l-eq0-2-1) where
   abbrev given : tie.Start
   given = c.before.before.before.before.before.before.before.before.before.before
 
-  closing : Stored given.args.buf.now given.args.at (word_text given.args.l) c.before.before.put2.new.0
+  closing : Stored given.args.buf.now given.args.at (word_text given.args.l) c.put-then-l-eq0.new.0
       (given.args.at + 1 + 1)
   closing =
       let a = given.args in
-      let z = bits-zero a.l given.fits.l c.before.before.before.before.before.before.before.before.if1.true in
-      let s = stored-byte (stored-none a.buf.now a.at) 48 c.before.before.before.before.before.before.put.ensures in
-      stored_same (stored-byte s 10 c.before.before.put2.ensures) (word-closing a.l z)
+      let z = bits-zero a.l given.fits.l c.if-l-eq0.true in
+      let s = stored-byte (stored-none a.buf-1.now a.at) 48 c.put.ensures in
+      stored_same (stored-byte s 10 c.put-then-l-eq0.ensures) (word-closing a.l z)
 
 -- a literal: its sign
-module _ (c : tie.Joined2) where
+module _ (c : tie.Joined-l-lt0) where
   abbrev start : tie.Start
   start = c.before.before.before
 
-  signed : Stored start.args.buf.now start.args.at (sign start.args.l) c.if2.buf c.if2.from
+  signed : Stored start.args.buf.now start.args.at (sign start.args.l) c.if-l-lt0.buf-1 c.if-l-lt0.from
   signed =
       let a = start.args in
-      let none = stored-none a.buf.now a.at in
+      let none = stored-none a.buf-1.now a.at in
       ⊎_elim
       (λ w.
       let minus = stored-byte none 45 w.2.ensures in
-      stored-now (stored_same minus (sign_below a.l (below a.l start.fits.l w.0.taken))) w.6 w.5)
+      stored-now (stored_same minus (sign_below a.l (below a.l start.fits.l w.0.true))) w.6 w.5)
       (λ w. stored-now (stored_same none (sign_above a.l (not-below a.l start.fits.l w.0.left))) w.2 w.1)
-      c.if2.branch
+      c.if-l-lt0.branch
 
-put-number-requires : tie.Need-put-number-requires
-put-number-requires c κs = omega (arith, (signed c.before.before).ends, sign-most c.before.before.before.before.before.args.l)
+put-number-requires : tie.Need-put_number-end-requires
+put-number-requires c κs = omega (arith, (signed c.before.before).ends, sign-most c.args.l)
 
-add-result-2 : tie.Need-overflow-add-result-2
+add-result-2 : tie.Need-overflow_add-result-2
 add-result-2 c =
     let j = c.before.before.before.before.before.before.before.before.before in
-    omega (arith, (signed j).ends, sign-most j.before.before.before.args.l)
+    omega (arith, (signed j).ends, sign-most j.args.l)
 
 -- then its figures and a blank
-module _ (c : tie.After-slice-known6) where
-  abbrev number : tie.After-put-number
+module _ (c : tie.After-slice_known-3-1) where
+  abbrev number : tie.After-put_number-end
   number = c.before.before.before.before.before.before
 
-  abbrev joined : tie.Joined2
+  abbrev joined : tie.Joined-l-lt0
   joined = number.before.before.before
 
   literal : Stored (start joined).args.buf.now (start joined).args.at (word_text (start joined).args.l)
-      c.before.before.put4.new.0 (number.put-number.result + 1)
+      c.put-2.new.0 (number.put_number-end.result + 1)
   literal =
       let l = (start joined).args.l in
-      let m = number.put-number.ensures in
-      let s = stored-behind (signed joined) (stored _ _ (decimal number.before.magnitude.result) m.0 m.2) in
-      let n = number.before.magnitude.ensures ∙ ap nat_abs (to_z-of_z (start joined).fits.l) in
-      stored_same (stored-byte s 32 c.before.before.put4.ensures)
-      (word-literal l n (λ e. joined.before.if1.left (ap (of_z w32) e)))
+      let m = number.put_number-end.ensures in
+      let s = stored-behind (signed joined) (stored _ _ (decimal number.magnitude.result) m.0 m.2) in
+      let n = number.magnitude.ensures ∙ ap nat_abs (to_z-of_z (start joined).fits.l) in
+      stored_same (stored-byte s 32 c.put-2.ensures)
+      (word-literal l n (λ e. joined.if-l-eq0.false (ap (of_z w32) e)))
 
-returns-2 : tie.Need-returns-2
+returns-2 : tie.Need-returns
 returns-2 c =
     let j = joined c in
-    ((literal c).ends, omega (arith, (number c).put-number.ensures.1, (signed j).ends, sign-most (start j).args.l), (literal c).bytes)
+    ((literal c).ends, omega (arith, (number c).put_number-end.ensures.1, (signed j).ends, sign-most (start j).args.l), (literal c).bytes)
 
-pub put-word-spec : {M : Type 1} → statement M
-put-word-spec =
+pub put_word_spec : {M : Type 1} → statement M
+put_word_spec =
     tie.close
     (tie.spec
     (λ c κs. search rules)

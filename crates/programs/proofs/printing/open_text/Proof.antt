@@ -19,12 +19,12 @@ use Rattle.programs.proofs.Texts.{long-text, long-words, output-words, answer-re
 use Rattle.programs.proofs.printing.open_text.Statement.{statement}
 use Rattle.programs.proofs.printing.open_text.Tie as tie
 
-returns : tie.Need-returns
+returns : tie.Need-returns-then-long
 returns c =
     let then = c.before.before.before.before in
     let s = then.before.before.before in
-    let h = then.if1.true in
-    let e = c.before.before.put-refusal.ensures in
+    let h = then.if-long.true in
+    let e = c.put_refusal.ensures in
     let line = s.args.line.now in
     let room = length s.args.words.now in
     let v = write_formula (held_cap s.args.cap) s.args.book.now room in
@@ -39,19 +39,19 @@ returns c =
       ap words_behind k,
     )
 
-returns-2 : tie.Need-returns-2
+returns-2 : tie.Need-returns-in-Refused
 returns-2 c =
     let place = c.before.before.before.before.before in
     let call = place.before.before.before in
     let s = call.before.before.before.before.before in
-    let h = call.before.before.if1.false in
-    let e = c.before.before.put-refusal2.ensures in
-    let w = call.write-formula.ensures in
+    let h = call.if-long.false in
+    let e = c.put_refusal-in-Refused.ensures in
+    let w = call.write_formula-r.ensures in
     let cap = held_cap s.args.cap in
     let book = s.args.book.now in
     let old = s.args.words.now in
     let line = s.args.line.now in
-    let g = place.r.given in
+    let g = place.r-1.given in
     let text = refusal_line g.0.0 g.0.1.0 in
     let v = answer-refused _ w.0 g.1 in
     let k = sym (not-long (write_formula cap book (length old)) h ∙ v) in (
@@ -66,19 +66,19 @@ returns-2 c =
       ap words_behind k,
     )
 
-returns-3 : tie.Need-returns-3
+returns-3 : tie.Need-returns-in-Totals
 returns-3 c =
     let place = c.before.before.before.before.before in
     let call = place.before.before.before in
     let s = call.before.before.before.before.before in
-    let h = call.before.before.if1.false in
-    let e = c.before.before.put-header.ensures in
-    let w = call.write-formula.ensures in
+    let h = call.if-long.false in
+    let e = c.put_header.ensures in
+    let w = call.write_formula-r.ensures in
     let cap = held_cap s.args.cap in
     let book = s.args.book.now in
     let old = s.args.words.now in
     let line = s.args.line.now in
-    let g = place.r2.given in
+    let g = place.r-in-Totals-1.given in
     let text = header_text g.0.0 g.0.1.0 in
     let a = answer-totals (write_formula cap book (length old)) w.0 g.1 in
     let k = sym (not-long (write_formula cap book (length old)) h ∙ a.1) in
@@ -96,8 +96,8 @@ returns-3 c =
       a.4 ∙ ap words_behind k,
     )
 
-pub open-text-spec : {M : Type 1} → statement M
-open-text-spec =
+pub open_text_spec : {M : Type 1} → statement M
+open_text_spec =
     tie.close
     (tie.spec
     (λ c κs. search rules)

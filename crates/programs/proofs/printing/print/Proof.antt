@@ -5,12 +5,12 @@ use lib.ListN.{length-take}
 use Rattle.programs.proofs.printing.print.Statement.{statement}
 use Rattle.programs.proofs.printing.print.Tie as tie
 
-slice-aggregate-write-all : tie.Need-slice-aggregate-write-all
+slice-aggregate-write-all : tie.Need-slice_bounds-write_all-end
 slice-aggregate-write-all c =
-    omega (arith, c.before.if1.true, length-take c.before.before.before.args.n c.before.before.before.args.buf.now)
+    omega (arith, c.if-n-buf.true, length-take c.args.n c.args.buf.now)
 
-pub print-spec : {M : Type 1} → statement M
-print-spec =
+pub print_spec : {M : Type 1} → statement M
+print_spec =
     tie.close
     (tie.spec
     slice-aggregate-write-all

@@ -5,13 +5,13 @@ use lib.ListN.{length-take}
 use Rattle.programs.proofs.printing.print_formula_text.Statement.{statement}
 use Rattle.programs.proofs.printing.print_formula_text.Tie as tie
 
-slice-aggregate-print-words : tie.Need-slice-aggregate-print-words
+slice-aggregate-print-words : tie.Need-slice_bounds-print_words-end
 slice-aggregate-print-words c =
-    let o = c.before.before.before.before.before.before.open-text in
-    omega (arith, o.ensures.4, length-take o.result.words o.new.1.1.1.0)
+    let o = c.open_text-opened in
+    omega (arith, o.ensures.4, length-take o.result.words-1 o.new.1.1.1.0)
 
-pub print-formula-text-spec : {M : Type 1} → statement M
-print-formula-text-spec =
+pub print_formula_text_spec : {M : Type 1} → statement M
+print_formula_text_spec =
     tie.close
     (tie.spec
     (λ c. search rules)

@@ -11,32 +11,32 @@ use Rattle.programs.proofs.verdicts.asked.Tie as tie
 told : {check case : Check} {named b : Bool} → check ≡ case → named ≡ b → asked_check case b ≡ asked_check check named
 told e f = ap₂ asked_check (sym e) (sym f)
 
-returns : tie.Need-returns
+returns : tie.Need-returns-then-named
 unfolding asked_check
-returns c = told c.before.enum_told.given.1 c.if1.true
+returns c = told c.in-Assignment.is c.if-named.true
 
-returns-2 : tie.Need-returns-2
+returns-2 : tie.Need-returns-else-named
 unfolding asked_check
-returns-2 c = told c.before.enum_told.given.1 c.if1.false
+returns-2 c = told c.in-Assignment.is c.if-named.false
 
-returns-3 : tie.Need-returns-3
+returns-3 : tie.Need-returns-in-Unpacking
 unfolding asked_check
-returns-3 c = told c.enum-told2.given.1 refl
+returns-3 c = told c.in-Unpacking.is refl
 
-returns-4 : tie.Need-returns-4
+returns-4 : tie.Need-returns-in-Plan
 unfolding asked_check
-returns-4 c = told c.enum-told3.given.1 refl
+returns-4 c = told c.in-Plan.is refl
 
-returns-5 : tie.Need-returns-5
+returns-5 : tie.Need-returns-in-Refutation
 unfolding asked_check
-returns-5 c = told c.enum-told4.given.1 refl
+returns-5 c = told c.in-Refutation.is refl
 
-returns-6 : tie.Need-returns-6
+returns-6 : tie.Need-returns-in-Carriers
 unfolding asked_check
-returns-6 c = told c.enum-told5.given.1 refl
+returns-6 c = told c.in-Carriers.is refl
 
-pub asked-spec : {M : Type 1} → statement M
-asked-spec =
+pub asked_spec : {M : Type 1} → statement M
+asked_spec =
     tie.close
     (tie.spec
     (λ c. search rules)

@@ -7,7 +7,7 @@ use Rattle.programs.proofs.verdicts.assignment_text.Tie as tie
 returns : tie.Need-returns
 returns c =
     let k = c.before.before in
-    tells _ _ _ (plain-answer _ k.before.before.check-assignment.ensures) k.say-plain.ensures
+    tells _ _ _ (plain-answer _ k.check_assignment-answer.ensures) k.say_plain.ensures
 
-pub assignment-text-spec : {M : Type 1} → statement M
-assignment-text-spec = tie.close (tie.spec (λ c κs. search rules) (λ c κs. search rules) (λ c. search rules) returns)
+pub assignment_text_spec : {M : Type 1} → statement M
+assignment_text_spec = tie.close (tie.spec (λ c κs. search rules) (λ c κs. search rules) (λ c. search rules) returns)

@@ -9,9 +9,9 @@ returns : tie.Need-returns
 unfolding carriers_output
 returns c =
     let k = c.before.before in
-    let e = k.before.before.before.before.list-carriers.ensures in
+    let e = k.list_carriers-answer.ensures in
     (tells _ _ _ e.0 k.say.ensures, e.1)
 
-pub carriers-text-spec : {M : Type 1} → statement M
-carriers-text-spec =
+pub carriers_text_spec : {M : Type 1} → statement M
+carriers_text_spec =
     tie.close (tie.spec (λ c κs. search rules) (λ c κs. search rules) (λ c. search rules) (λ c. search rules) returns)

@@ -7,20 +7,20 @@ use Rattle.programs.proofs.Lines.{tells, tells-same}
 use Rattle.programs.proofs.verdicts.fewest_text.Statement.{statement}
 use Rattle.programs.proofs.verdicts.fewest_text.Tie as tie
 
-returns : tie.Need-returns
+returns : tie.Need-returns-then-long
 returns c =
     let then = c.before.before.before.before in
-    let q = is-long _ then.if1.true in
-    tells-same q (tells (refused 12 0) _ _ refl c.before.before.say.ensures)
+    let q = is-long _ then.if-long.true in
+    tells-same q (tells (refused 12 0) _ _ refl c.say.ensures)
 
-returns-2 : tie.Need-returns-2
+returns-2 : tie.Need-returns
 returns-2 c =
     let call = c.before.before in
-    let q = not-long _ call.before.before.if1.false in
-    tells-same q call.lent-fewest-text.ensures
+    let q = not-long _ call.if-long.false in
+    tells-same q call.lent_fewest_text.ensures
 
-pub fewest-text-spec : {M : Type 1} → statement M
-fewest-text-spec =
+pub fewest_text_spec : {M : Type 1} → statement M
+fewest_text_spec =
     tie.close
     (tie.spec
     (λ c κs. search rules)

@@ -7,13 +7,13 @@ use Rattle.laws.proofs.Tests.{from-true}
 use Rattle.programs.proofs.verdicts.hand_out.Statement.{statement}
 use Rattle.programs.proofs.verdicts.hand_out.Tie as tie
 
-pub hand-out-spec : {M : Type 1} → statement M
-hand-out-spec =
+pub hand_out_spec : {M : Type 1} → statement M
+hand_out_spec =
     tie.close
     (tie.spec
     (λ c κs. search rules)
     (λ c. search rules)
-    (λ c. sym (length-take-le _ _ (leb→le _ _ (from-true c.before.before.if3.true))))
+    (λ c. sym (length-take-le _ _ (leb→le _ _ (from-true c.if-n-out.true))))
     (λ c κs. search rules)
     (λ c. search rules)
     (λ c. search rules))

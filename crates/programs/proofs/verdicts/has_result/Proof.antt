@@ -10,28 +10,28 @@ use Rattle.programs.proofs.verdicts.has_result.Tie as tie
 told : {check case : Check} → check ≡ case → has_result case ≡ has_result check
 told e = ap has_result (sym e)
 
-returns : tie.Need-returns
+returns : tie.Need-returns-in-Assignment
 unfolding has_result
-returns c = told c.enum_told.given.1
+returns c = told c.in-Assignment.is
 
-returns-2 : tie.Need-returns-2
+returns-2 : tie.Need-returns-in-Unpacking
 unfolding has_result
-returns-2 c = told c.enum-told2.given.1
+returns-2 c = told c.in-Unpacking.is
 
-returns-3 : tie.Need-returns-3
+returns-3 : tie.Need-returns-in-Plan
 unfolding has_result
-returns-3 c = told c.enum-told3.given.1
+returns-3 c = told c.in-Plan.is
 
-returns-4 : tie.Need-returns-4
+returns-4 : tie.Need-returns-in-Refutation
 unfolding has_result
-returns-4 c = told c.enum-told4.given.1
+returns-4 c = told c.in-Refutation.is
 
-returns-5 : tie.Need-returns-5
+returns-5 : tie.Need-returns-in-Carriers
 unfolding has_result
-returns-5 c = told c.enum-told5.given.1
+returns-5 c = told c.in-Carriers.is
 
-pub has-result-spec : {M : Type 1} → statement M
-has-result-spec =
+pub has_result_spec : {M : Type 1} → statement M
+has_result_spec =
     tie.close
     (tie.spec
     (λ c. search rules)

@@ -10,11 +10,11 @@ returns : tie.Need-returns
 unfolding program_lent slice_of slice_bytes
 returns c =
     let k = c.before.before in
-    let e = k.before.before.before.before.before.before.check-fewest.ensures in
-    tells _ _ _ (plain-answer _ e.0) k.say-plain.ensures
+    let e = k.check_fewest-answer.ensures in
+    tells _ _ _ (plain-answer _ e.0) k.say_plain.ensures
 
-pub lent-fewest-text-spec : {M : Type 1} → statement M
-lent-fewest-text-spec =
+pub lent_fewest_text_spec : {M : Type 1} → statement M
+lent_fewest_text_spec =
     tie.close
     (tie.spec
     (λ c. search rules)

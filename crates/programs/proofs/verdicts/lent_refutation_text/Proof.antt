@@ -6,10 +6,10 @@ use Rattle.programs.proofs.verdicts.lent_refutation_text.Tie as tie
 
 returns : tie.Need-returns
 unfolding program_lent slice_of slice_bytes
-returns c = c.before.before.before.before.before.before.refutation-text.ensures.0
+returns c = c.refutation_text.ensures.0
 
-pub lent-refutation-text-spec : {M : Type 1} → statement M
-lent-refutation-text-spec =
+pub lent_refutation_text_spec : {M : Type 1} → statement M
+lent_refutation_text_spec =
     tie.close
     (tie.spec
     (λ c. search rules)

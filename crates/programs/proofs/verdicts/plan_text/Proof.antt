@@ -9,9 +9,9 @@ returns : tie.Need-returns
 unfolding assignment_output
 returns c =
     let k = c.before.before in
-    let e = k.before.before.before.before.check-plan.ensures in
+    let e = k.check_plan-answer.ensures in
     (tells _ _ _ e.0 k.say.ensures, e.1)
 
-pub plan-text-spec : {M : Type 1} → statement M
-plan-text-spec =
+pub plan_text_spec : {M : Type 1} → statement M
+plan_text_spec =
     tie.close (tie.spec (λ c κs. search rules) (λ c κs. search rules) (λ c. search rules) (λ c. search rules) returns)

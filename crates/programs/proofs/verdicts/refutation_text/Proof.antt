@@ -7,11 +7,11 @@ use Rattle.programs.proofs.verdicts.refutation_text.Tie as tie
 returns : tie.Need-returns
 returns c =
     let k = c.before.before in
-    let e = k.before.before.before.before.before.before.before.before.before.check-refutation.ensures in
-    (tells _ _ _ (plain-answer _ e.0) k.say-plain.ensures, e.1, e.2, e.3, e.4)
+    let e = k.check_refutation-answer.ensures in
+    (tells _ _ _ (plain-answer _ e.0) k.say_plain.ensures, e.1, e.2, e.3, e.4)
 
-pub refutation-text-spec : {M : Type 1} → statement M
-refutation-text-spec =
+pub refutation_text_spec : {M : Type 1} → statement M
+refutation_text_spec =
     tie.close
     (tie.spec
     (λ c κs. search rules)

@@ -25,23 +25,23 @@ module _ {a a' : OutputAnswer} (e : a ≡ a') where
   counted : result_length a' ≡ result_length a
   counted = ap result_length (sym e)
 
-returns : tie.Need-returns
+returns : tie.Need-returns-in-Wrote
 unfolding accepted_line
 returns c =
     let k = c.before.before in
-    let t = k.before.before.before.before.answer.given.1 in
-    let e = k.put-bytes.ensures in
+    let t = k.answer-1.given.1 in
+    let e = k.put_bytes.ensures in
     (e.1 ∙ told t _, e.0 ∙ measured t, omega (arith, e.0), answered t, counted t)
 
-returns-2 : tie.Need-returns-2
+returns-2 : tie.Need-returns-in-Refused
 returns-2 c =
     let k = c.before.before in
-    let t = k.before.before.before.answer2.given.1 in
-    let e = k.put-refusal.ensures in
+    let t = k.answer-in-Refused-1.given.1 in
+    let e = k.put_refusal.ensures in
     (e.2 ∙ told t _, e.0 ∙ measured t, omega (arith, e.1), answered t, counted t)
 
-pub say-spec : {M : Type 1} → statement M
-say-spec =
+pub say_spec : {M : Type 1} → statement M
+say_spec =
     tie.close
     (tie.spec
     (λ c. search rules)

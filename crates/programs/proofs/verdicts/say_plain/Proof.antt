@@ -14,14 +14,14 @@ told : {answer case : Answer} (before after : Bytes) (r : Said) → answer ≡ c
     → Says (plain_answer answer) before after r
 told before after r e = subst (λ (a : Answer). Says (plain_answer a) before after r) (sym e)
 
-returns : tie.Need-returns
-returns c = told _ _ _ c.before.before.before.before.enum_told.given.1 c.before.before.say.ensures
+returns : tie.Need-returns-in-Accepted
+returns c = told _ _ _ c.in-Accepted.is c.say.ensures
 
-returns-2 : tie.Need-returns-2
-returns-2 c = told _ _ _ c.before.before.before.before.before.answer.given.1 c.before.before.say2.ensures
+returns-2 : tie.Need-returns-in-Refused
+returns-2 c = told _ _ _ c.answer-1.given.1 c.say-in-Refused.ensures
 
-pub say-plain-spec : {M : Type 1} → statement M
-say-plain-spec =
+pub say_plain_spec : {M : Type 1} → statement M
+say_plain_spec =
     tie.close
     (tie.spec
     (λ c. search rules)

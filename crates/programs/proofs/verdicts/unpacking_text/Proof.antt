@@ -9,9 +9,9 @@ returns : tie.Need-returns
 unfolding plan_output
 returns c =
     let k = c.before.before in
-    let e = k.before.before.before.before.unpack-plan.ensures in
+    let e = k.unpack_plan-answer.ensures in
     (tells _ _ _ e.0 k.say.ensures, e.1)
 
-pub unpacking-text-spec : {M : Type 1} → statement M
-unpacking-text-spec =
+pub unpacking_text_spec : {M : Type 1} → statement M
+unpacking_text_spec =
     tie.close (tie.spec (λ c κs. search rules) (λ c κs. search rules) (λ c. search rules) (λ c. search rules) returns)

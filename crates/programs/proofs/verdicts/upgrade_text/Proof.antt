@@ -8,26 +8,26 @@ use Rattle.programs.proofs.Lines.{tells, tells-same, output-same, refused-output
 use Rattle.programs.proofs.verdicts.upgrade_text.Statement.{statement}
 use Rattle.programs.proofs.verdicts.upgrade_text.Tie as tie
 
-returns : tie.Need-returns
+returns : tie.Need-returns-then-long
 returns c =
     let then = c.before.before.before.before in
-    let out = then.before.before.before.before.args.out.now in
-    let q = is-long _ then.if1.true in
-    (tells-same q (tells (refused 12 0) _ _ refl c.before.before.say.ensures), output-same q out (refused-output out 12 0))
+    let out = then.args.out.now in
+    let q = is-long _ then.if-long.true in
+    (tells-same q (tells (refused 12 0) _ _ refl c.say.ensures), output-same q out (refused-output out 12 0))
 
-returns-2 : tie.Need-returns-2
+returns-2 : tie.Need-returns
 unfolding upgrade_output
 returns-2 c =
     let said = c.before.before in
     let call = said.before.before.before.before in
     let else = call.before.before in
-    let out = else.before.before.before.before.args.out.now in
-    let q = not-long _ else.if1.false in
-    let e = call.upgrade-book.ensures in
-    (tells-same q (tells _ _ _ e.0 said.say2.ensures), output-same q out e.1)
+    let out = else.args.out.now in
+    let q = not-long _ else.if-long.false in
+    let e = call.upgrade_book-answer.ensures in
+    (tells-same q (tells _ _ _ e.0 said.say-2.ensures), output-same q out e.1)
 
-pub upgrade-text-spec : {M : Type 1} → statement M
-upgrade-text-spec =
+pub upgrade_text_spec : {M : Type 1} → statement M
+upgrade_text_spec =
     tie.close
     (tie.spec
     (λ c κs. search rules)

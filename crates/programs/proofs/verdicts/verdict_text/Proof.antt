@@ -23,77 +23,77 @@ asked : (cap : Option ℕ) (book s : Bytes) (room : ℕ) {long : Bool} {check ca
 asked cap book s room {check = check} h told =
     not-long (verdict_of check cap book s room) h ∙ ap (λ (k : Check). verdict_of k cap book s room) told
 
-returns : tie.Need-returns
+returns : tie.Need-returns-then-long
 returns c =
     let then = c.before.before.before.before in
-    let out = then.before.before.before.before.before.args.out.now in
-    let q = is-long _ then.if1.true in
-    (tells-same q (tells (refused 12 0) _ _ refl c.before.before.say.ensures), output-same q out (refused-output out 12 0))
+    let out = then.args.out.now in
+    let q = is-long _ then.if-long.true in
+    (tells-same q (tells (refused 12 0) _ _ refl c.say.ensures), output-same q out (refused-output out 12 0))
 
 -- a check without a result leaves the output as it was
-returns-2 : tie.Need-returns-2
+returns-2 : tie.Need-returns-in-Assignment
 unfolding verdict_of
 returns-2 c =
     let call = c.before.before in
     let told = call.before.before in
-    let args = told.before.before.before.before.before.before.before.args in
+    let args = told.args in
     let book = args.book.now in
     let s = args.second.now in
     let out = args.out.now in
-    let q = asked (held_cap args.cap) book s (length out) told.before.before.if1.false told.enum_told.given.1 in
-    (tells-same q call.assignment-text.ensures, output-same q out (bare-output out (check_assignment (held_cap args.cap) book s)))
+    let q = asked (held_cap args.cap) book s (length out) told.if-long.false told.in-Assignment.is in
+    (tells-same q call.assignment_text.ensures, output-same q out (bare-output out (check_assignment (held_cap args.cap) book s)))
 
-returns-3 : tie.Need-returns-3
+returns-3 : tie.Need-returns-in-Unpacking
 unfolding verdict_of
 returns-3 c =
     let call = c.before.before.before.before in
     let told = call.before.before.before in
-    let args = told.before.before.before.before.before.before.before.args in
+    let args = told.args in
     let book = args.book.now in
     let s = args.second.now in
     let out = args.out.now in
-    let q = asked (held_cap args.cap) book s (length out) told.before.before.if1.false told.enum-told2.given.1 in
-    (tells-same q call.unpacking-text.ensures.0, output-same q _ call.unpacking-text.ensures.1)
+    let q = asked (held_cap args.cap) book s (length out) told.if-long.false told.in-Unpacking.is in
+    (tells-same q call.unpacking_text.ensures.0, output-same q _ call.unpacking_text.ensures.1)
 
-returns-4 : tie.Need-returns-4
+returns-4 : tie.Need-returns-in-Plan
 unfolding verdict_of
 returns-4 c =
     let call = c.before.before.before.before in
     let told = call.before.before.before in
-    let args = told.before.before.before.before.before.before.before.args in
+    let args = told.args in
     let book = args.book.now in
     let s = args.second.now in
     let out = args.out.now in
-    let q = asked (held_cap args.cap) book s (length out) told.before.before.if1.false told.enum-told3.given.1 in
-    (tells-same q call.plan-text.ensures.0, output-same q _ call.plan-text.ensures.1)
+    let q = asked (held_cap args.cap) book s (length out) told.if-long.false told.in-Plan.is in
+    (tells-same q call.plan_text.ensures.0, output-same q _ call.plan_text.ensures.1)
 
-returns-5 : tie.Need-returns-5
+returns-5 : tie.Need-returns-in-Refutation
 unfolding verdict_of
 returns-5 c =
     let call = c.before.before in
     let told = call.before.before in
-    let args = told.before.before.before.before.before.before.before.args in
+    let args = told.args in
     let book = args.book.now in
     let s = args.second.now in
     let out = args.out.now in
-    let q = asked (held_cap args.cap) book s (length out) told.before.before.if1.false told.enum-told4.given.1 in
+    let q = asked (held_cap args.cap) book s (length out) told.if-long.false told.in-Refutation.is in
     let none = bare-output out (check_refutation (held_cap args.cap) book s program_lent) in
-    (tells-same q call.lent-refutation-text.ensures, output-same q out none)
+    (tells-same q call.lent_refutation_text.ensures, output-same q out none)
 
-returns-6 : tie.Need-returns-6
+returns-6 : tie.Need-returns-in-Carriers
 unfolding verdict_of
 returns-6 c =
     let call = c.before.before.before.before in
     let told = call.before.before.before in
-    let args = told.before.before.before.before.before.before.before.args in
+    let args = told.args in
     let book = args.book.now in
     let s = args.second.now in
     let out = args.out.now in
-    let q = asked (held_cap args.cap) book s (length out) told.before.before.if1.false told.enum-told5.given.1 in
-    (tells-same q call.carriers-text.ensures.0, output-same q _ call.carriers-text.ensures.1)
+    let q = asked (held_cap args.cap) book s (length out) told.if-long.false told.in-Carriers.is in
+    (tells-same q call.carriers_text.ensures.0, output-same q _ call.carriers_text.ensures.1)
 
-pub verdict-text-spec : {M : Type 1} → statement M
-verdict-text-spec =
+pub verdict_text_spec : {M : Type 1} → statement M
+verdict_text_spec =
     tie.close
     (tie.spec
     (λ c κs. search rules)

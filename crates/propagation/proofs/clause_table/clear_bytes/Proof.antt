@@ -7,14 +7,14 @@ use Rattle.propagation.proofs.Storing.{Cleared, cleared-start, cleared-next, cle
 use Rattle.propagation.proofs.clause_table.clear_bytes.Statement.{statement}
 use Rattle.propagation.proofs.clause_table.clear_bytes.Tie as tie
 
-abbrev invariant-loop : tie.invariant-loop
+abbrev invariant-loop : tie.invariant-loop-i
 invariant-loop bytes₀ i₀ bytes i = Cleared 0 bytes₀ bytes i
 
-abbrev decreases-loop : tie.decreases-loop
+abbrev decreases-loop : tie.decreases-loop-i
 decreases-loop bytes₀ i₀ bytes i = length bytes₀ - i
 
-pub clear-bytes-spec : {M : Type 1} → statement M
-clear-bytes-spec =
+pub clear_bytes_spec : {M : Type 1} → statement M
+clear_bytes_spec =
     tie.close
     (tie.spec
     invariant-loop
@@ -23,6 +23,6 @@ clear-bytes-spec =
     (λ c. search rules)
     (λ c. search rules)
     (λ c. search rules)
-    (λ c. cleared-next 0 c.before.loop.invariant (omega arith))
-    (λ c. c.before.loop.invariant.size)
-    (λ c. cleared-done 0 c.before.loop.invariant (omega arith)))
+    (λ c. cleared-next 0 c.loop-i.invariant (omega arith))
+    (λ c. c.loop-i.invariant.size)
+    (λ c. cleared-done 0 c.loop-i.invariant (omega arith)))

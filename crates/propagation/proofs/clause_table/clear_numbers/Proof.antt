@@ -7,14 +7,14 @@ use Rattle.propagation.proofs.Storing.{Cleared, cleared-start, cleared-next, cle
 use Rattle.propagation.proofs.clause_table.clear_numbers.Statement.{statement}
 use Rattle.propagation.proofs.clause_table.clear_numbers.Tie as tie
 
-abbrev invariant-loop : tie.invariant-loop
+abbrev invariant-loop : tie.invariant-loop-i
 invariant-loop numbers₀ i₀ numbers i = Cleared 0 numbers₀ numbers i
 
-abbrev decreases-loop : tie.decreases-loop
+abbrev decreases-loop : tie.decreases-loop-i
 decreases-loop numbers₀ i₀ numbers i = length numbers₀ - i
 
-pub clear-numbers-spec : {M : Type 1} → statement M
-clear-numbers-spec =
+pub clear_numbers_spec : {M : Type 1} → statement M
+clear_numbers_spec =
     tie.close
     (tie.spec
     invariant-loop
@@ -24,6 +24,6 @@ clear-numbers-spec =
     (λ c. search rules)
     (λ c. search rules)
     (λ c. search rules)
-    (λ c. cleared-next 0 c.before.loop.invariant (omega arith))
-    (λ c. c.before.loop.invariant.size)
-    (λ c. cleared-done 0 c.before.loop.invariant (omega arith)))
+    (λ c. cleared-next 0 c.loop-i.invariant (omega arith))
+    (λ c. c.loop-i.invariant.size)
+    (λ c. cleared-done 0 c.loop-i.invariant (omega arith)))

@@ -8,14 +8,14 @@ use Rattle.propagation.proofs.Storing.{Cleared, cleared-start, cleared-next, cle
 use Rattle.propagation.proofs.clause_table.clear_words.Statement.{statement}
 use Rattle.propagation.proofs.clause_table.clear_words.Tie as tie
 
-abbrev invariant-loop : tie.invariant-loop
+abbrev invariant-loop : tie.invariant-loop-i
 invariant-loop words₀ i₀ words i = Cleared (pos 0) words₀ words i
 
-abbrev decreases-loop : tie.decreases-loop
+abbrev decreases-loop : tie.decreases-loop-i
 decreases-loop words₀ i₀ words i = length words₀ - i
 
-pub clear-words-spec : {M : Type 1} → statement M
-clear-words-spec =
+pub clear_words_spec : {M : Type 1} → statement M
+clear_words_spec =
     tie.close
     (tie.spec
     invariant-loop
@@ -25,6 +25,6 @@ clear-words-spec =
     (λ c. search rules)
     (λ c. search rules)
     (λ c. search rules)
-    (λ c. cleared-next (pos 0) c.before.loop.invariant (omega arith))
-    (λ c. c.before.loop.invariant.size)
-    (λ c. cleared-done (pos 0) c.before.loop.invariant (omega arith)))
+    (λ c. cleared-next (pos 0) c.loop-i.invariant (omega arith))
+    (λ c. c.loop-i.invariant.size)
+    (λ c. cleared-done (pos 0) c.loop-i.invariant (omega arith)))

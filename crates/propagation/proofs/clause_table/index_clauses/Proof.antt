@@ -12,31 +12,29 @@ use Rattle.spec.specs.Refutation.{clauses_of}
 use Rattle.propagation.proofs.Indexing.{Indexing, indexing-start, indexing-closes, indexing-passes, indexing-done, place-room, closed-proper}
 use Rattle.propagation.proofs.clause_table.index_clauses.Statement.{statement}
 use Rattle.propagation.proofs.clause_table.index_clauses.Tie as tie
+use Rattle.propagation.proofs.clause_table.index_clauses.Lts.{else-words-at-eq0, then-words-at-eq0}
 
-abbrev invariant-loop : tie.invariant-loop
+abbrev invariant-loop : tie.invariant-loop-at
 invariant-loop words starts₀ first₀ clause₀ at₀ starts first clause at = Indexing (clauses_of words) starts₀ starts first clause at
 
-abbrev decreases-loop : tie.decreases-loop
+abbrev decreases-loop : tie.decreases-loop-at
 decreases-loop words starts₀ first₀ clause₀ at₀ starts first clause at = length words - at
 
-slice-write-starts : tie.Need-slice-write-starts invariant-loop decreases-loop
+slice-write-starts : tie.Need-bounds-starts-clause invariant-loop decreases-loop
 slice-write-starts c =
-    let t = c.before.before.before in place-room t.before.requires.0 t.loop.invariant c.before.before.loop-test.true
+    let t = c.before.before.before in place-room t.requires.0 t.loop-at.invariant c.loop-at-test.true
 
-loop-again : tie.Need-loop-preserved invariant-loop decreases-loop
+loop-again : tie.Need-loop-at-preserved invariant-loop decreases-loop
 loop-again c =
     let t = c.before.before.before in
-    let closed = t.before.requires.0 in
-    let l = c.before.before.loop-test.true in
-    let back = to_z-of_z (sfits_of c.before.if12.given) in
-    ⊎_elim
-    (λ w. rw (w.1, w.2, w.3)
-    (indexing-closes closed t.loop.invariant (closed-proper _ closed) l (sym back ∙ ap (to_z w32) w.0.taken)))
-    (λ w. rw (w.1, w.2, w.3) (indexing-passes closed t.loop.invariant l (λ e. w.0.left (ap (of_z w32) e))))
-    c.if1.branch
+    let closed = t.requires.0 in
+    let l = c.loop-at-test.true in
+    let back = to_z-of_z (sfits_of c.t9-1.given) in
+    elim (c.if-words-at-eq0.branch) [ then-words-at-eq0 w ↦ rw (w.1, w.2, w.3)
+    (indexing-closes closed t.loop-at.invariant (closed-proper _ closed) l (sym back ∙ ap (to_z w32) w.if-words-at-eq0.true)) | else-words-at-eq0 w ↦ rw (w.1, w.2, w.3) (indexing-passes closed t.loop-at.invariant l (λ e. w.if-words-at-eq0.false (ap (of_z w32) e))) ]
 
-pub index-clauses-spec : {M : Type 1} → statement M
-index-clauses-spec =
+pub index_clauses_spec : {M : Type 1} → statement M
+index_clauses_spec =
     tie.close
     (tie.spec
     invariant-loop
@@ -52,4 +50,4 @@ index-clauses-spec =
     (λ c. search rules)
     loop-again
     (λ c. search rules)
-    (λ c. indexing-done c.before.before.requires.0 c.before.loop.invariant c.loop-test.false))
+    (λ c. indexing-done c.requires.0 c.loop-at.invariant c.loop-at-test.false))

@@ -16,26 +16,26 @@ use Rattle.propagation.proofs.hints.follows_rule.Statement.{statement}
 use Rattle.propagation.proofs.hints.follows_rule.Tie as tie
 
 -- where the literals are false, there are as many values as at first
-module _ (c : tie.After-take-false) where
+module _ (c : tie.After-take_false-first) where
   abbrev start : tie.Start
   start = c.before.before.before.before.before.before.before.before
 
-  same : length c.take-false.new.1.0 ≡ length start.args.values.now
-  same = c.take-false.auto.1.0
+  same : length c.take_false-first.new.1.0 ≡ length start.args.values.now
+  same = c.take_false-first.auto.1.0
 
-try-hints-requires : tie.Need-try-hints-requires
+try-hints-requires : tie.Need-try_hints-tried-requires
 try-hints-requires c κs =
     let t = c.before.before.before.before.before.before in
     let p = (start t).requires in (
       subst (λ (n : ℕ). Kept n (start t).args.words.now (start t).args.starts.now) (sym (same t)) p.0,
       p.1,
-      t.take-false.ensures.1,
+      t.take_false-first.ensures.1,
       omega (arith, same t, p.5),
     )
 
 -- the hints, gone through from where the literals are false
-module _ (c : tie.After-try-hints) where
-  abbrev taken : tie.After-take-false
+module _ (c : tie.After-try_hints-tried) where
+  abbrev taken : tie.After-take_false-first
   taken = c.before.before.before.before.before.before.before
 
   abbrev first : tie.Start
@@ -44,27 +44,27 @@ module _ (c : tie.After-try-hints) where
   abbrev through : Values → Bool
   through k = go_through (clauses_of first.args.words.now) k (numbers_in first.args.hints.now)
 
-  answer : c.try-hints.result.proved ≡ through (refuting (literals_in first.args.literals.now))
-  answer = c.try-hints.ensures.0 ∙ ap through taken.take-false.ensures.0
+  answer : c.try_hints-tried.result.proved ≡ through (refuting (literals_in first.args.literals.now))
+  answer = c.try_hints-tried.ensures.0 ∙ ap through taken.take_false-first.ensures.0
 
   -- and there are still as many values
-  as_many : length c.try-hints.new.1.1.1.0 ≡ length first.args.values.now
-  as_many = c.try-hints.auto.1.1.1.0 ∙ same taken
+  as_many : length c.try_hints-tried.new.1.1.1.0 ≡ length first.args.values.now
+  as_many = c.try_hints-tried.auto.1.1.1.0 ∙ same taken
 
   -- what was set is left on the trail
-  left : LeftOnTrail (length first.args.values.now) first.args.trail.now c.try-hints.new.1.1.1.1.0
+  left : LeftOnTrail (length first.args.values.now) first.args.trail.now c.try_hints-tried.new.1.1.1.1.0
   left =
-      let e = c.try-hints.ensures in
-      left_here e.1 as_many (e.3 ∙ behind_more _ _ _ _ e.2 taken.take-false.ensures.2)
+      let e = c.try_hints-tried.ensures in
+      left_here e.1 as_many (e.3 ∙ behind_more _ _ _ _ e.2 taken.take_false-first.ensures.2)
 
 returns : tie.Need-returns
 unfolding follows_rule
 returns c =
     let h = c.before.before.before.before.before.before.before.before.before in
-    (answer h, c.before.before.undo.ensures ∙ ap (zeroed 0) (as_many h) ∙ sym (first h).requires.3, left h)
+    (answer h, c.undo.ensures ∙ ap (zeroed 0) (as_many h) ∙ sym (first h).requires.3, left h)
 
-pub follows-rule-spec : {M : Type 1} → statement M
-follows-rule-spec =
+pub follows_rule_spec : {M : Type 1} → statement M
+follows_rule_spec =
     tie.close
     (tie.spec
     (λ c κs. search rules)

@@ -11,6 +11,7 @@ use Rattle.propagation.specs.Known.{false_byte}
 use Rattle.propagation.proofs.Signs.{variable-read, false-byte}
 use Rattle.propagation.proofs.hints.has_false_byte.Statement.{statement}
 use Rattle.propagation.proofs.hints.has_false_byte.Tie as tie
+use Rattle.propagation.proofs.hints.has_false_byte.Lts.{else-l-lt0, then-l-lt0}
 
 module _ (c : tie.After-variable) where
   abbrev start : tie.Start
@@ -21,21 +22,20 @@ module _ (c : tie.After-variable) where
   found = variable-read _ start.fits.l c.variable.ensures
 
   -- and the byte the one that makes it false
-  byte : c.before.if1.byte ≡ false_byte start.args.l
+  byte : c.if-l-lt0.byte ≡ false_byte start.args.l
   byte =
-      ⊎_elim (λ w. false-byte _ start.fits.l w.0.taken w.1) (λ w. false-byte _ start.fits.l w.0.left w.1)
-      c.before.if1.branch
+      elim (c.if-l-lt0.branch) [ then-l-lt0 w ↦ false-byte _ start.fits.l w.if-l-lt0.true w.1 | else-l-lt0 w ↦ false-byte _ start.fits.l w.if-l-lt0.false w.1 ]
 
 returns : tie.Need-returns
 returns c =
     let v = c.before in
     ap₂ (λ (n b : ℕ). eqb (get_or (start v).args.values.now (n - 1) 0) b) (found v) (byte v)
 
-pub has-false-byte-spec : {M : Type 1} → statement M
-has-false-byte-spec =
+pub has_false_byte_spec : {M : Type 1} → statement M
+has_false_byte_spec =
     tie.close
     (tie.spec
     (λ c κs. search rules)
     (λ c. omega (arith, found c, (start c).requires))
-    (λ c. omega (arith, found c.before, (start c.before).pre))
+    (λ c. omega (arith, found c.before, (start c.before).requires))
     returns)

@@ -8,25 +8,26 @@ use Rattle.propagation.specs.Known.{true_byte}
 use Rattle.propagation.proofs.Signs.{variable-read, true-byte, made}
 use Rattle.propagation.proofs.hints.make_true.Statement.{statement}
 use Rattle.propagation.proofs.hints.make_true.Tie as tie
+use Rattle.propagation.proofs.hints.make_true.Lts.{else-l-lt0, then-l-lt0}
 
 -- the variable that was found is the literal's
-found : (c : tie.After-variable) → c.variable.result ≡ variable_of c.before.before.before.args.l
-found c = variable-read _ c.before.before.before.ranges.l c.variable.ensures
+found : (c : tie.After-variable-v) → c.variable-v.result ≡ variable_of c.args.l
+found c = variable-read _ c.ranges.l c.variable-v.ensures
 
 returns : tie.Need-returns
 returns c =
     let s = c.before.before.before.before in
-    let byte : c.if1.values ≡ true_byte s.args.l =
-    ⊎_elim (λ w. true-byte _ s.ranges.l w.0.taken w.1) (λ w. true-byte _ s.ranges.l w.0.left w.1) c.if1.branch in
+    let byte : c.if-l-lt0.values ≡ true_byte s.args.l =
+    elim (c.if-l-lt0.branch) [ then-l-lt0 w ↦ true-byte _ s.ranges.l w.if-l-lt0.true w.1 | else-l-lt0 w ↦ true-byte _ s.ranges.l w.if-l-lt0.false w.1 ] in
     made s.args.values.now s.args.trail.now s.args.set (found c.before) byte
 
-pub make-true-spec : {M : Type 1} → statement M
-make-true-spec =
+pub make_true_spec : {M : Type 1} → statement M
+make_true_spec =
     tie.close
     (tie.spec
     (λ c κs. search rules)
-    (λ c. omega (arith, found c, c.before.before.before.requires))
-    (λ c. omega (arith, found c.before, c.before.before.before.before.requires))
+    (λ c. omega (arith, found c, c.requires))
+    (λ c. omega (arith, found c.before, c.requires))
     (λ c. search rules)
     (λ c. search rules)
     (λ c. search rules)

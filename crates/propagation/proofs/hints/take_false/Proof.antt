@@ -15,54 +15,54 @@ use Rattle.propagation.proofs.Taking.{Taking, taking-start, next, taking-here, t
 use Rattle.propagation.proofs.hints.take_false.Statement.{statement}
 use Rattle.propagation.proofs.hints.take_false.Tie as tie
 
-abbrev invariant-loop : tie.invariant-loop
+abbrev invariant-loop : tie.invariant-loop-i
 invariant-loop list values₀ trail₀ n i₀ values trail i = Taking (literals_in list) (length values₀) trail₀ values trail i
 
-abbrev decreases-loop : tie.decreases-loop
+abbrev decreases-loop : tie.decreases-loop-i
 decreases-loop list values₀ trail₀ n i₀ values trail i = n - i
 
 -- the literal that was found is the next one
-module _ (c : tie.After-literal-at invariant-loop decreases-loop) where
+module _ (c : tie.After-literal_at invariant-loop decreases-loop) where
   abbrev start : tie.Start invariant-loop decreases-loop
   start = c.before.before.before.before.before.before.before.before
 
-  abbrev head : tie.At-loop invariant-loop decreases-loop
+  abbrev head : tie.At-loop-i invariant-loop decreases-loop
   head = c.before.before.before.before
 
-  less : head.loop.i < length (literals_in start.args.list.now)
-  less = omega (arith, literals-length start.args.list.now, c.before.before.before.loop-test.true)
+  less : head.loop-i.i < length (literals_in start.args.list.now)
+  less = omega (arith, literals-length start.args.list.now, c.loop-i-test.true)
 
-  found : to_z w32 (of_z w32 c.literal-at.result) ≡ next head.loop.inv start.pre.0 less
+  found : to_z w32 (of_z w32 c.literal_at.result) ≡ next head.loop-i.invariant start.requires.0 less
   found =
-      to_z-of_z (sfits_of c.literal-at.type-inv)
-      ∙ c.literal-at.ensures
-      ∙ ap (λ (n : ℕ). get_or (literals_in start.args.list.now) (n - 1 - head.loop.i) (pos 0))
+      to_z-of_z (sfits_of c.literal_at.type-inv)
+      ∙ c.literal_at.ensures
+      ∙ ap (λ (n : ℕ). get_or (literals_in start.args.list.now) (n - 1 - head.loop-i.i) (pos 0))
       (sym (literals-length start.args.list.now))
 
-make-false-requires : tie.Need-make-false-requires invariant-loop decreases-loop
+make-false-requires : tie.Need-make_false-requires invariant-loop decreases-loop
 make-false-requires c κs =
-    let h = taking-here (head c).loop.invariant (start c).requires.0 (less c) in
-    rw (found c) (h.0, h.1, omega (arith, h.1, (head c).loop.invariant.size, (start c).requires), h.2)
+    let h = taking-here (head c).loop-i.invariant (start c).requires.0 (less c) in
+    rw (found c) (h.0, h.1, omega (arith, h.1, (head c).loop-i.invariant.size, (start c).requires), h.2)
 
-loop-again : tie.Need-loop-preserved invariant-loop decreases-loop
+loop-again : tie.Need-loop-i-preserved invariant-loop decreases-loop
 loop-again c =
     let l = c.before.before.before.before.before in
-    let m = c.before.before.before.before.make-false.ensures in
-    taking-next (head l).loop.invariant (start l).requires.0 (less l) (rw (found l) at m.0) (rw (found l) at m.1)
+    let m = c.make_false.ensures in
+    taking-next (head l).loop-i.invariant (start l).requires.0 (less l) (rw (found l) at m.0) (rw (found l) at m.1)
 
 returns : tie.Need-returns invariant-loop decreases-loop
 returns c =
-    let e = literals-length c.before.before.before.before.before.args.list.now in
-    let d = taking-done c.before.loop.invariant (omega (arith, e, c.loop-test.false)) in
+    let e = literals-length c.args.list.now in
+    let d = taking-done c.loop-i.invariant (omega (arith, e, c.loop-i-test.false)) in
     (d.0, rw e at d.1, rw e at d.2)
 
-pub take-false-spec : {M : Type 1} → statement M
-take-false-spec =
+pub take_false_spec : {M : Type 1} → statement M
+take_false_spec =
     tie.close
     (tie.spec
     invariant-loop
     decreases-loop
-    (λ c. let p = c.before.before.before.requires in taking-start _ _ _ p.1 p.2)
+    (λ c. let p = c.requires in taking-start _ _ _ p.1 p.2)
     (λ c. omega arith)
     (λ c. omega arith)
     (λ c κs. omega arith)
@@ -70,6 +70,6 @@ take-false-spec =
     (λ c. omega arith)
     (λ c. omega arith)
     loop-again
-    (λ c. c.before.loop.invariant.size)
-    (λ c. c.before.loop.invariant.space)
+    (λ c. c.loop-i.invariant.size)
+    (λ c. c.loop-i.invariant.space)
     returns)

@@ -32,48 +32,48 @@ module _ (c : tie.After-variable) where
       → answered (cond b (deny x) x) ≡ answered (spec.truth (values_in start.args.values.now) start.args.l)
   answer b x e h =
       let here : value_in (get_or start.args.values.now (variable_of start.args.l - 1) 0) ≡ x = rw (← found) h in
-      ap answered (sym (truth-by _ _ b x start.pre.0 e here))
+      ap answered (sym (truth-by _ _ b x start.requires.0 e here))
 
-returns : tie.Need-returns
+returns : tie.Need-returns-then-value-eq0
 unfolding value_in deny
 returns c =
     let v = c.before.before in
     split (lt_z (start v).args.l (pos 0))
-    (λ e. answer v true open' e (ap value_in c.if1.true))
-    (λ e. answer v false open' e (ap value_in c.if1.true))
+    (λ e. answer v true open' e (ap value_in c.if-value-eq0.true))
+    (λ e. answer v false open' e (ap value_in c.if-value-eq0.true))
 
-returns-2 : tie.Need-returns-2
+returns-2 : tie.Need-returns-then-value-eq1
 unfolding value_in deny
 returns-2 c =
     let v = c.before.before.before.before in
-    answer v true yes' (sign_of (start v).ranges.l c.before.if2.true) (ap value_in c.if3.true)
+    answer v true yes' (sign_of (start v).ranges.l c.if-l-lt0.true) (ap value_in c.if-value-eq1.true)
 
-returns-3 : tie.Need-returns-3
+returns-3 : tie.Need-returns-else-value-eq1
 unfolding deny
 returns-3 c =
     let v = c.before.before.before.before in
-    answer v true no' (sign_of (start v).ranges.l c.before.if2.true)
-    (byte-false (byte v) c.before.before.if1.false c.if3.false)
+    answer v true no' (sign_of (start v).ranges.l c.if-l-lt0.true)
+    (byte-false (byte v) c.if-value-eq0.false c.if-value-eq1.false)
 
-returns-4 : tie.Need-returns-4
+returns-4 : tie.Need-returns-then-value-eq1-2
 unfolding value_in
 returns-4 c =
     let v = c.before.before.before.before in
-    answer v false yes' (sign_of (start v).ranges.l c.before.if2.false) (ap value_in c.if4.true)
+    answer v false yes' (sign_of (start v).ranges.l c.if-l-lt0.false) (ap value_in c.if-value-eq1-2.true)
 
-returns-5 : tie.Need-returns-5
+returns-5 : tie.Need-returns-else-value-eq1-2
 returns-5 c =
     let v = c.before.before.before.before in
-    answer v false no' (sign_of (start v).ranges.l c.before.if2.false)
-    (byte-false (byte v) c.before.before.if1.false c.if4.false)
+    answer v false no' (sign_of (start v).ranges.l c.if-l-lt0.false)
+    (byte-false (byte v) c.if-value-eq0.false c.if-value-eq1-2.false)
 
-pub truth-spec : {M : Type 1} → statement M
-truth-spec =
+pub truth_spec : {M : Type 1} → statement M
+truth_spec =
     tie.close
     (tie.spec
     (λ c κs. search rules)
     (λ c. omega (arith, found c, (start c).requires))
-    (λ c. omega (arith, found c.before, (start c.before).pre))
+    (λ c. omega (arith, found c.before, (start c.before).requires))
     returns
     returns-2
     returns-3

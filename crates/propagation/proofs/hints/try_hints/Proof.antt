@@ -26,11 +26,11 @@ use Rattle.propagation.proofs.HintTurns.{Gone, hint-fits, sets-out, clause-begin
 use Rattle.propagation.proofs.hints.try_hints.Statement.{statement}
 use Rattle.propagation.proofs.hints.try_hints.Tie as tie
 
-abbrev invariant-loop : tie.invariant-loop
+abbrev invariant-loop : tie.invariant-loop-at
 invariant-loop hints words starts values trail first n set proved k at₀ unit₀ at unit =
     Scanning words (values_in values) (length values) (clause_at (clauses_of words) (get_or (numbers_in hints) k 0)) at unit
 
-abbrev decreases-loop : tie.decreases-loop
+abbrev decreases-loop : tie.decreases-loop-at
 decreases-loop hints words starts values trail first n set proved k at₀ unit₀ at unit = length words - at
 
 abbrev invariant-hints : tie.invariant-hints
@@ -47,18 +47,18 @@ abbrev entry : tie.At-hints invariant-loop decreases-loop invariant-hints decrea
 entry c = c.before.before.before.before.before
 
 -- the variables are few
-few : (c : tie.At-hints invariant-loop decreases-loop invariant-hints decreases-hints) → length c.hints.values < 2147483648
+few : (c : tie.At-hints invariant-loop decreases-loop invariant-hints decreases-hints) → length c.hints.values-1 < 2147483648
 few c = omega (arith, c.hints.invariant.same_values, (entry c).requires.3)
 
 -- the hint names a clause
-names : (c : tie.After-number-at invariant-loop decreases-loop invariant-hints decreases-hints)
+names : (c : tie.After-number_at invariant-loop decreases-loop invariant-hints decreases-hints)
     → (1 ≤ c.number_at.result) × (c.number_at.result ≤ length (entry c.before.before).args.starts.now)
 names c =
-    let f = hint-fits _ _ _ (entry c.before.before).pre.1 c.before.hints-test.true in
+    let f = hint-fits _ _ _ (entry c.before.before).requires.1 c.hints-test.true in
     let e = c.number_at.ensures.0 in
     omega arith
 
-loop-holds : tie.Need-loop-init invariant-loop decreases-loop invariant-hints decreases-hints
+loop-holds : tie.Need-loop-at-init invariant-loop decreases-loop invariant-hints decreases-hints
 loop-holds c =
     let t = c.before.before.before in
     let n = c.before in
@@ -67,30 +67,30 @@ loop-holds c =
 -- ---- at the head of the loop over a clause's literals
 
 -- the head of the outer loop
-abbrev outer : tie.At-loop invariant-loop decreases-loop invariant-hints decreases-hints → tie.At-hints invariant-loop decreases-loop invariant-hints decreases-hints
+abbrev outer : tie.At-loop-at invariant-loop decreases-loop invariant-hints decreases-hints → tie.At-hints invariant-loop decreases-loop invariant-hints decreases-hints
 outer c = c.before.before.before.before
 
 -- what is known
-abbrev known : tie.At-loop invariant-loop decreases-loop invariant-hints decreases-hints → Values
-known c = values_in (outer c).hints.values
+abbrev known : tie.At-loop-at invariant-loop decreases-loop invariant-hints decreases-hints → Values
+known c = values_in (outer c).hints.values-1
 
 -- the clause that the hint names
-abbrev named : tie.At-loop invariant-loop decreases-loop invariant-hints decreases-hints → Clause
+abbrev named : tie.At-loop-at invariant-loop decreases-loop invariant-hints decreases-hints → Clause
 named c =
     let a = (entry (outer c)).args in
     clause_at (clauses_of a.words.now) (get_or (numbers_in a.hints.now) (outer c).hints.k 0)
 
 -- the word that is read
-abbrev word : tie.At-loop invariant-loop decreases-loop invariant-hints decreases-hints → ℤ
-word c = get_or (entry (outer c)).args.words.now c.loop.at (pos 0)
+abbrev word : tie.At-loop-at invariant-loop decreases-loop invariant-hints decreases-hints → ℤ
+word c = get_or (entry (outer c)).args.words.now c.loop-at.at (pos 0)
 
 -- this is the number of a hint
-turn : (c : tie.At-loop invariant-loop decreases-loop invariant-hints decreases-hints) → (outer c).hints.k < number_count (entry (outer c)).args.hints.now
-turn c = c.before.before.before.hints-test.true
+turn : (c : tie.At-loop-at invariant-loop decreases-loop invariant-hints decreases-hints) → (outer c).hints.k < number_count (entry (outer c)).args.hints.now
+turn c = c.hints-test.true
 
 -- there is a word to read
-reads : (c : tie.At-loop invariant-loop decreases-loop invariant-hints decreases-hints) → c.loop.at < length (entry (outer c)).args.words.now
-reads c = in_words c.loop.invariant
+reads : (c : tie.At-loop-at invariant-loop decreases-loop invariant-hints decreases-hints) → c.loop-at.at < length (entry (outer c)).args.words.now
+reads c = in_words c.loop-at.invariant
 
 -- ---- where a literal was read
 
@@ -109,40 +109,40 @@ false-told values (negsuc v) h e =
     ap (λ (n : ℕ). deny (value_in n)) f
 
 -- a word that is not 0 is a literal of the clause
-abbrev Stands : tie.At-loop invariant-loop decreases-loop invariant-hints decreases-hints → Type 0
+abbrev Stands : tie.At-loop-at invariant-loop decreases-loop invariant-hints decreases-hints → Type 0
 Stands c =
     let words = (entry (outer c)).args.words.now in
-    Ahead words (known c) (length (outer c).hints.values) (named c) c.loop.at c.loop.unit (word c)
+    Ahead words (known c) (length (outer c).hints.values-1) (named c) c.loop-at.at c.loop-at.unit (word c)
 
-stands : (c : tie.Then1 invariant-loop decreases-loop invariant-hints decreases-hints) → Stands c.before.before
-stands c = ahead c.before.before.loop.invariant c.if1.true
+stands : (c : tie.In-loop-at invariant-loop decreases-loop invariant-hints decreases-hints) → Stands c.before.before
+stands c = ahead c.loop-at.invariant c.loop-at-test.true
 
 -- it is in range
-in-range : (c : tie.Then1 invariant-loop decreases-loop invariant-hints decreases-hints)
+in-range : (c : tie.In-loop-at invariant-loop decreases-loop invariant-hints decreases-hints)
     → let l = to_z w32 (of_z w32 (word c.before.before)) in
-    (1 ≤ variable_of l) × (variable_of l ≤ length (outer c.before.before).hints.values) × (variable_of l < 2147483648)
+    (1 ≤ variable_of l) × (variable_of l ≤ length (outer c.before.before).hints.values-1) × (variable_of l < 2147483648)
 in-range c =
     let a = stands c in
     let f = few (outer c.before.before) in
     rw (read_back a f) (a.low, a.high, omega (arith, a.high))
 
 -- where it was asked whether the literal is false
-module _ (c : tie.After-has-false-byte invariant-loop decreases-loop invariant-hints decreases-hints) where
-  abbrev looked : tie.Then1 invariant-loop decreases-loop invariant-hints decreases-hints
+module _ (c : tie.After-has_false_byte invariant-loop decreases-loop invariant-hints decreases-hints) where
+  abbrev looked : tie.In-loop-at invariant-loop decreases-loop invariant-hints decreases-hints
   looked = c.before.before.before
 
-  abbrev inner : tie.At-loop invariant-loop decreases-loop invariant-hints decreases-hints
+  abbrev inner : tie.At-loop-at invariant-loop decreases-loop invariant-hints decreases-hints
   inner = looked.before.before
 
-  is-no : c.has-false-byte.result ≡ true → truth (known inner) (word inner) ≡ no'
+  is-no : c.has_false_byte.result ≡ true → truth (known inner) (word inner) ≡ no'
   is-no e =
       let a = stands looked in
       let b = read_back a (few (outer inner)) in
-      false-told (outer inner).hints.values (word inner) a.low (sym (rw b at c.has-false-byte.ensures) ∙ e)
+      false-told (outer inner).hints.values-1 (word inner) a.low (sym (rw b at c.has_false_byte.ensures) ∙ e)
 
 -- where its truth was
 module _ (c : tie.After-truth invariant-loop decreases-loop invariant-hints decreases-hints) where
-  abbrev asked : tie.After-has-false-byte invariant-loop decreases-loop invariant-hints decreases-hints
+  abbrev asked : tie.After-has_false_byte invariant-loop decreases-loop invariant-hints decreases-hints
   asked = c.before.before.before
 
   -- the literal is what the answer says
@@ -151,7 +151,7 @@ module _ (c : tie.After-truth invariant-loop decreases-loop invariant-hints decr
       let b = read_back (stands (looked asked)) (few (outer (inner asked))) in
       value-told (truth (known (inner asked)) (word (inner asked))) (rw (← b) c.truth.ensures) e
 
-loop-again : tie.Need-loop-preserved invariant-loop decreases-loop invariant-hints decreases-hints
+loop-again : tie.Need-loop-at-preserved invariant-loop decreases-loop invariant-hints decreases-hints
 loop-again c =
     let q = c.before in
     let s = stands (looked q) in
@@ -160,30 +160,30 @@ loop-again c =
     rw w.5 (passes s (told t w.4.given.1)))
     (⊎_elim (λ w. let t : tie.After-truth invariant-loop decreases-loop invariant-hints decreases-hints = record { before = record { before = record { before = q; if2 = w.0 }; truth-arg = w.1 }; truth = w.2 } in
     rw w.6 (notes s f (told t w.4.given.1) w.5.left))
-    (λ w. rw w.1 (passes s (is-no q (not-false _ w.0.left))))) c.if2.branch
+    (λ w. rw w.1 (passes s (is-no q (not-false _ w.0.left))))) c.if-not-has_false_byte.branch
 
 -- ---- where the clause ends
 
 -- an open literal was found
-abbrev Found : tie.At-loop invariant-loop decreases-loop invariant-hints decreases-hints → Type 0
-Found c = OpenOne (known c) (length (outer c).hints.values) c.loop.unit
+abbrev Found : tie.At-loop-at invariant-loop decreases-loop invariant-hints decreases-hints → Type 0
+Found c = OpenOne (known c) (length (outer c).hints.values-1) c.loop-at.unit
 
-finds : (c : tie.Else4 invariant-loop decreases-loop invariant-hints decreases-hints) → Found c.before.before.before
-finds c = open-one c.before.before.before.loop.invariant.found c.if4.false
+finds : (c : tie.Else-unit-eq0 invariant-loop decreases-loop invariant-hints decreases-hints) → Found c.before.before.before
+finds c = open-one c.loop-at.invariant.found c.if-unit-eq0.false
 
-make-true-requires : tie.Need-make-true-requires invariant-loop decreases-loop invariant-hints decreases-hints
+make-true-requires : tie.Need-make_true-requires invariant-loop decreases-loop invariant-hints decreases-hints
 make-true-requires c κs =
     let e = c.before.before in
     let t = outer e.before.before.before in
     let o = finds e in
-    (o.low, o.high, omega (arith, o.high, few t), has_room t.hints.inv o)
+    (o.low, o.high, omega (arith, o.high, few t), has_room t.hints.invariant o)
 
-add-set : tie.Need-overflow-add-set invariant-loop decreases-loop invariant-hints decreases-hints
+add-set : tie.Need-overflow_add-set invariant-loop decreases-loop invariant-hints decreases-hints
 add-set c =
     let e = c.before.before.before.before.before.before.before in
     let t = outer e.before.before.before in
-    let r = has_room t.hints.inv (finds e) in
-    let s = t.hints.inv.same_trail in
+    let r = has_room t.hints.invariant (finds e) in
+    let s = t.hints.invariant.same_trail in
     search rules
 
 hints-again : tie.Need-hints-preserved invariant-loop decreases-loop invariant-hints decreases-hints
@@ -191,49 +191,49 @@ hints-again c =
     let e = c.before.before.before.before.before.before.before in
     let l = e.before.before.before in
     let t = outer l in
-    let m = c.before.before.before.before.make-true.ensures in
-    let w = ends-making l.loop.invariant (few t) e.before.if1.false e.if4.false in
-    goes_on t.hints.inv (turn l) (finds e) w m.0 m.1
+    let m = c.make_true.ensures in
+    let w = ends-making l.loop-at.invariant (few t) e.loop-at-test.false e.if-unit-eq0.false in
+    goes_on t.hints.invariant (turn l) (finds e) w m.0 m.1
 
 -- ---- the four ways out: no hint is left, a true literal, a second open one, and all literals false
 
-returns : tie.Need-returns invariant-loop decreases-loop invariant-hints decreases-hints
+returns : tie.Need-returns-after-hints invariant-loop decreases-loop invariant-hints decreases-hints
 returns c =
-    let g = c.before.hints.invariant in
+    let g = c.hints.invariant in
     (runs-out g c.hints-test.false, g.trailed, g.grown, g.behind)
 
-returns-2 : tie.Need-returns-2 invariant-loop decreases-loop invariant-hints decreases-hints
+returns-2 : tie.Need-returns-in-Yes invariant-loop decreases-loop invariant-hints decreases-hints
 returns-2 c =
     let a = c.before.before in
     let q = asked a in
-    let g = (outer (inner q)).hints.inv in
-    let e = ends-true (stands (looked q)) (told a c.enum-told2.given.1) in
+    let g = (outer (inner q)).hints.invariant in
+    let e = ends-true (stands (looked q)) (told a c.in-Yes.is) in
     (refuses g (turn (inner q)) e, g.trailed, g.grown, g.behind)
 
-returns-3 : tie.Need-returns-3 invariant-loop decreases-loop invariant-hints decreases-hints
+returns-3 : tie.Need-returns-then-unit-ne0 invariant-loop decreases-loop invariant-hints decreases-hints
 returns-3 c =
     let a = c.before.before.before in
     let q = asked a in
-    let g = (outer (inner q)).hints.inv in
-    let e = ends-second (stands (looked q)) (told a c.before.enum-told3.given.1) c.if3.true in
+    let g = (outer (inner q)).hints.invariant in
+    let e = ends-second (stands (looked q)) (told a c.in-Open.is) c.if-unit-ne0.true in
     (refuses g (turn (inner q)) e, g.trailed, g.grown, g.behind)
 
-returns-4 : tie.Need-returns-4 invariant-loop decreases-loop invariant-hints decreases-hints
+returns-4 : tie.Need-returns-then-unit-eq0 invariant-loop decreases-loop invariant-hints decreases-hints
 returns-4 c =
     let l = c.before.before.before in
     let g = (outer l).hints.invariant in
-    let e = ends-proving l.loop.invariant (few (outer l)) c.before.if1.false c.if4.true in
+    let e = ends-proving l.loop-at.invariant (few (outer l)) c.loop-at-test.false c.if-unit-eq0.true in
     (concludes g (turn l) e, g.trailed, g.grown, g.behind)
 
-pub try-hints-spec : {M : Type 1} → statement M
-try-hints-spec =
+pub try_hints_spec : {M : Type 1} → statement M
+try_hints_spec =
     tie.close
     (tie.spec
     invariant-loop
     decreases-loop
     invariant-hints
     decreases-hints
-    (λ c. sets-out _ _ c.before.before.before.before.requires.2)
+    (λ c. sets-out _ _ c.requires.2)
     (λ c κs. search rules)
     (λ c. (names c).0)
     (λ c. search rules)

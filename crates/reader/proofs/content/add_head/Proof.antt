@@ -12,8 +12,8 @@ use Rattle.reader.proofs.content.add_head.Statement.{statement}
 use Rattle.reader.proofs.content.add_head.Tie as tie
 
 -- the three fields that were read, and the format's greatest T
-module _ (c : tie.After-most-intervals) where
-  abbrev read : tie.After-time
+module _ (c : tie.After-most_intervals-most) where
+  abbrev read : tie.After-time-intervals
   read = c.before
 
   abbrev start : tie.Start
@@ -22,40 +22,40 @@ module _ (c : tie.After-most-intervals) where
   abbrev format : Format
   format = format_of start.args.format
 
-returns : tie.Need-returns
+returns : tie.Need-returns-then-metres-lt1
 returns c =
     let a = c.before.before in
     let t = read a in
-    let m = t.before.before.pair.ensures.0 in
-    let n = t.before.pair2.ensures.0 in
-    let u = t.time.ensures.0 in
-    let g = a.most-intervals.ensures in
+    let m = t.pair-metres.ensures.0 in
+    let n = t.pair-seconds.ensures.0 in
+    let u = t.time-intervals.ensures.0 in
+    let g = a.most_intervals-most.ensures in
     refuses (format a) head_kind (start a).requires.0 _
     (head-wrong (format a) _ _ (λ h i j k.
     ⊎_elim (λ w. omega arith)
-    (⊎_elim (λ w. omega (arith, ltb-true t.before.pair2.result 1 w.1.taken))
-    (⊎_elim (λ w. omega (arith, ltb-true t.time.result 1 w.2.taken))
-    (λ w. omega (arith, ltb-true a.most-intervals.result t.time.result w.3.taken))))
-    c.before.if1.branch))
+    (⊎_elim (λ w. omega (arith, ltb-true t.pair-seconds.result 1 w.1.true))
+    (⊎_elim (λ w. omega (arith, ltb-true t.time-intervals.result 1 w.2.true))
+    (λ w. omega (arith, ltb-true a.most_intervals-most.result t.time-intervals.result w.3.true))))
+    c.if-metres-lt1.branch))
     c.refused.ensures
 
-returns-2 : tie.Need-returns-2
+returns-2 : tie.Need-returns
 returns-2 c =
     let a = c.before.before.before.before.before in
     let t = read a in
-    let m = t.before.before.pair.ensures.0 in
-    let n = t.before.pair2.ensures.0 in
-    let u = t.time.ensures.0 in
-    let g = a.most-intervals.ensures in
-    let h = c.before.before.before.before.if1.false in
-    let i = ltb-false t.before.pair2.result 1 c.before.before.before.if2.false in
-    let j = ltb-false t.time.result 1 c.before.before.if3.false in
-    let k = ltb-false a.most-intervals.result t.time.result c.before.if4.false in
+    let m = t.pair-metres.ensures.0 in
+    let n = t.pair-seconds.ensures.0 in
+    let u = t.time-intervals.ensures.0 in
+    let g = a.most_intervals-most.ensures in
+    let h = c.if-metres-lt1.false in
+    let i = ltb-false t.pair-seconds.result 1 c.if-seconds-lt1.false in
+    let j = ltb-false t.time-intervals.result 1 c.if-intervals-lt1.false in
+    let k = ltb-false a.most_intervals-most.result t.time-intervals.result c.if-most-intervals.false in
     accepts (format a) head_kind (start a).requires.0 _ (head-fine (format a) _ _ (omega arith) (omega arith) (omega arith) (omega arith))
     (put-head _ (start a).requires.0 (format a) _ _ _ _ m n u) c.fine.ensures
 
-pub add-head-spec : {M : Type 1} → statement M
-add-head-spec =
+pub add_head_spec : {M : Type 1} → statement M
+add_head_spec =
     tie.close
     (tie.spec
     (λ c κs. search rules)

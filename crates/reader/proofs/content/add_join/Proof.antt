@@ -15,36 +15,36 @@ use Rattle.reader.proofs.Tables.{join-full, join-wrong, join-again, join-fine, j
 use Rattle.reader.proofs.content.add_join.Statement.{statement}
 use Rattle.reader.proofs.content.add_join.Tie as tie
 
-returns : tie.Need-returns
+returns : tie.Need-returns-then-at-ge-MAX_JOINS
 returns c =
     let s = c.before.before.before in
     let n = joins-counted s.requires.0 in
     λ f. refuses f join_kind s.requires.0 _ (join-full _ _ _ (omega arith)) c.refused.ensures
 
 -- where the code is after the test for room
-abbrev roomy : tie.After-join-fits → tie.Else1
+abbrev roomy : tie.After-join_fits → tie.Else-at-ge-MAX_JOINS
 roomy c = c.before.before.before.before
 
-abbrev start : tie.After-join-fits → tie.Start
+abbrev start : tie.After-join_fits → tie.Start
 start c = (roomy c).before.before
 
 -- whether the payload's join fits is what `join_fits` answers
-fits-is : (c : tie.After-join-fits) (t : Bool) → c.join-fits.result ≡ t
+fits-is : (c : tie.After-join_fits) (t : Bool) → c.join_fits.result ≡ t
     → join_fits (held (start c).args.b) (join_in (start c).args.p.now) ≡ t
 fits-is c t e =
     let s = start c in
-    sym (ap (join_fits (held s.args.b)) (join-read s.args.p.now s.pre.1)) ∙ sym c.join-fits.ensures ∙ e
+    sym (ap (join_fits (held s.args.b)) (join-read s.args.p.now s.requires.1)) ∙ sym c.join_fits.ensures ∙ e
 
-returns-2 : tie.Need-returns-2
+returns-2 : tie.Need-returns-then-not-join_fits
 returns-2 c =
     let a = c.before.before in
     let s = start a in
-    let n = joins-counted s.pre.0 in
-    λ f. refuses f join_kind s.pre.0 _
-    (join-wrong _ _ _ (omega (arith, (roomy a).if1.false)) (fits-is a false (not-true _ c.before.if2.true))) c.refused2.ensures
+    let n = joins-counted s.requires.0 in
+    λ f. refuses f join_kind s.requires.0 _
+    (join-wrong _ _ _ (omega (arith, (roomy a).if-at-ge-MAX_JOINS.false)) (fits-is a false (not-true _ c.if-not-join_fits.true))) c.refused-then-not-join_fits.ensures
 
 -- the test that the join fits, behind which `joined` is asked
-abbrev tested : tie.After-joined → tie.Else2
+abbrev tested : tie.After-joined → tie.Else-not-join_fits
 tested c = c.before.before.before.before
 
 -- whether it stands there already is what `joined` answers
@@ -56,36 +56,36 @@ again-is c t e =
     let s = start (tested c).before in
     let p = s.args.p.now in
     let x : Join = record { node = get_or p 0 0; left = get_or p 1 0; right = get_or p 2 0 } in
-    let f : joined (held s.args.b) w.before.before.wide.result w.before.wide2.result w.wide3.result
+    let f : joined (held s.args.b) w.wide.result w.wide-2.result w.wide-3.result
     ≡ join_repeats (held s.args.b).joins x
-    = simp (w.before.before.wide.ensures.0, w.before.wide2.ensures.0, w.wide3.ensures.0) in
-    sym (ap (join_repeats (held s.args.b).joins) (join-read p s.pre.1)) ∙ sym f ∙ sym c.joined.ensures ∙ e
+    = simp (w.wide.ensures.0, w.wide-2.ensures.0, w.wide-3.ensures.0) in
+    sym (ap (join_repeats (held s.args.b).joins) (join-read p s.requires.1)) ∙ sym f ∙ sym c.joined.ensures ∙ e
 
-returns-3 : tie.Need-returns-3
+returns-3 : tie.Need-returns-then-joined
 returns-3 c =
     let g = c.before.before in
     let i = tested g in
     let a = i.before in
     let s = start a in
-    let n = joins-counted s.pre.0 in
-    λ f. refuses f join_kind s.pre.0 _
-    (join-again _ _ _ (omega (arith, (roomy a).if1.left)) (fits-is a true (not-false _ i.if2.left)) (again-is g true c.before.if3.true))
-    c.refused3.ensures
+    let n = joins-counted s.requires.0 in
+    λ f. refuses f join_kind s.requires.0 _
+    (join-again _ _ _ (omega (arith, (roomy a).if-at-ge-MAX_JOINS.false)) (fits-is a true (not-false _ i.if-not-join_fits.false)) (again-is g true c.if-joined.true))
+    c.refused-then-joined.ensures
 
-returns-4 : tie.Need-returns-4
+returns-4 : tie.Need-returns
 returns-4 c =
     let g = c.before.before in
     let i = tested g in
     let a = i.before in
     let s = start a in
-    let n = joins-counted s.pre.0 in
-    let room = (roomy a).if1.left in
-    λ f. accepts f join_kind s.pre.0 _
-    (join-fine _ _ _ (omega (arith, room)) (fits-is a true (not-false _ i.if2.left)) (again-is g false c.before.if3.false))
-    (put-join _ s.pre.0 _ _ _ (join-read _ s.pre.1) room) c.fine.ensures
+    let n = joins-counted s.requires.0 in
+    let room = (roomy a).if-at-ge-MAX_JOINS.false in
+    λ f. accepts f join_kind s.requires.0 _
+    (join-fine _ _ _ (omega (arith, room)) (fits-is a true (not-false _ i.if-not-join_fits.false)) (again-is g false c.if-joined.false))
+    (put-join _ s.requires.0 _ _ _ (join-read _ s.requires.1) room) c.fine.ensures
 
-pub add-join-spec : {M : Type 1} → statement M
-add-join-spec =
+pub add_join_spec : {M : Type 1} → statement M
+add_join_spec =
     tie.close
     (tie.spec
     (λ c κs. search rules)

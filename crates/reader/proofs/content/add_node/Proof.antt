@@ -14,25 +14,25 @@ use Rattle.reader.proofs.content.add_node.Statement.{statement}
 use Rattle.reader.proofs.content.add_node.Tie as tie
 
 -- the kind is the payload's byte
-kind-is : (c : tie.Else1) → field c.before.before.args.p.now 0 1 ≡ get_or c.before.before.args.p.now 0 0
-kind-is c = let l = c.before.before.requires.1 in field-one _ 0 (omega arith)
+kind-is : (c : tie.Else-at-ge-MAX_NODES) → field c.args.p.now 0 1 ≡ get_or c.args.p.now 0 0
+kind-is c = let l = c.requires.1 in field-one _ 0 (omega arith)
 
-returns : tie.Need-returns
+returns : tie.Need-returns-then-at-ge-MAX_NODES
 returns c =
     let s = c.before.before.before in
     let n = nodes-counted s.requires.0 in
     λ f. refuses f node_kind s.requires.0 _ (node-full _ _ _ (omega arith)) c.refused.ensures
 
-returns-2 : tie.Need-returns-2
+returns-2 : tie.Need-returns-then-kind-gt3
 unfolding greatest_node_kind
 returns-2 c =
     let a = c.before.before.before in
     let s = a.before.before in
     let n = nodes-counted s.requires.0 in
     let k = kind-is a in
-    λ f. refuses f node_kind s.requires.0 _ (node-wrong _ _ _ (omega arith) (omega arith)) c.refused2.ensures
+    λ f. refuses f node_kind s.requires.0 _ (node-wrong _ _ _ (omega arith) (omega arith)) c.refused-then-kind-gt3.ensures
 
-returns-3 : tie.Need-returns-3
+returns-3 : tie.Need-returns
 unfolding greatest_node_kind
 returns-3 c =
     let a = c.before.before.before in
@@ -42,8 +42,8 @@ returns-3 c =
     λ f. accepts f node_kind s.requires.0 _ (node-fine _ _ _ (omega arith) (omega arith)) (put-node _ s.requires.0 _ _ _ (sym k) (omega arith))
     c.fine.ensures
 
-pub add-node-spec : {M : Type 1} → statement M
-add-node-spec =
+pub add_node_spec : {M : Type 1} → statement M
+add_node_spec =
     tie.close
     (tie.spec
     (λ c κs. search rules)

@@ -13,46 +13,46 @@ use Rattle.reader.proofs.Tables.{segment-full, segment-wrong, segment-fine, segm
 use Rattle.reader.proofs.content.add_segment.Statement.{statement}
 use Rattle.reader.proofs.content.add_segment.Tie as tie
 
-returns : tie.Need-returns
+returns : tie.Need-returns-then-at-ge-MAX_SEGMENTS
 returns c =
     let s = c.before.before.before in
     let n = segments-counted s.requires.0 in
     λ f. refuses f segment_kind s.requires.0 _ (segment-full _ _ _ (omega arith)) c.refused.ensures
 
 -- where the code is after the test for room
-abbrev roomy : tie.After-segment-fits → tie.Else1
+abbrev roomy : tie.After-segment_fits → tie.Else-at-ge-MAX_SEGMENTS
 roomy c = c.before.before.before.before
 
-abbrev start : tie.After-segment-fits → tie.Start
+abbrev start : tie.After-segment_fits → tie.Start
 start c = (roomy c).before.before
 
 -- whether the payload's segment fits is what `segment_fits` answers
-fits-is : (c : tie.After-segment-fits) (t : Bool) → c.segment-fits.result ≡ t
+fits-is : (c : tie.After-segment_fits) (t : Bool) → c.segment_fits.result ≡ t
     → segment_fits (held (start c).args.b) (segment_in (start c).args.p.now) ≡ t
 fits-is c t e =
     let s = start c in
-    sym (ap (segment_fits (held s.args.b)) (segment-read s.args.p.now s.pre.1)) ∙ sym c.segment-fits.ensures ∙ e
+    sym (ap (segment_fits (held s.args.b)) (segment-read s.args.p.now s.requires.1)) ∙ sym c.segment_fits.ensures ∙ e
 
-returns-2 : tie.Need-returns-2
+returns-2 : tie.Need-returns-then-not-segment_fits
 returns-2 c =
     let a = c.before.before in
     let s = start a in
-    let n = segments-counted s.pre.0 in
-    λ f. refuses f segment_kind s.pre.0 _
-    (segment-wrong _ _ _ (omega (arith, (roomy a).if1.false)) (fits-is a false (not-true _ c.before.if2.true))) c.refused2.ensures
+    let n = segments-counted s.requires.0 in
+    λ f. refuses f segment_kind s.requires.0 _
+    (segment-wrong _ _ _ (omega (arith, (roomy a).if-at-ge-MAX_SEGMENTS.false)) (fits-is a false (not-true _ c.if-not-segment_fits.true))) c.refused-then-not-segment_fits.ensures
 
-returns-3 : tie.Need-returns-3
+returns-3 : tie.Need-returns
 returns-3 c =
     let a = c.before.before in
     let s = start a in
-    let n = segments-counted s.pre.0 in
-    let room = (roomy a).if1.false in
-    λ f. accepts f segment_kind s.pre.0 _
-    (segment-fine _ _ _ (omega (arith, room)) (fits-is a true (not-false _ c.before.if2.false)))
-    (put-segment _ s.pre.0 _ _ _ (segment-read _ s.pre.1) room) c.fine.ensures
+    let n = segments-counted s.requires.0 in
+    let room = (roomy a).if-at-ge-MAX_SEGMENTS.false in
+    λ f. accepts f segment_kind s.requires.0 _
+    (segment-fine _ _ _ (omega (arith, room)) (fits-is a true (not-false _ c.if-not-segment_fits.false)))
+    (put-segment _ s.requires.0 _ _ _ (segment-read _ s.requires.1) room) c.fine.ensures
 
-pub add-segment-spec : {M : Type 1} → statement M
-add-segment-spec =
+pub add_segment_spec : {M : Type 1} → statement M
+add_segment_spec =
     tie.close
     (tie.spec
     (λ c κs. search rules)

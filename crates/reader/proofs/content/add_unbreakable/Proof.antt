@@ -15,51 +15,51 @@ use Rattle.reader.proofs.Tables.{unbreakable-wrong, unbreakable-divided, unbreak
 use Rattle.reader.proofs.content.add_unbreakable.Statement.{statement}
 use Rattle.reader.proofs.content.add_unbreakable.Tie as tie
 
-abbrev start : tie.After-wide → tie.Start
+abbrev start : tie.After-wide-ttd → tie.Start
 start c = c.before.before.before
 
 -- the TTD is the payload's byte
-ttd-is : (c : tie.After-wide) → c.wide.result ≡ field (start c).args.p.now 0 1
-ttd-is c = let l = (start c).requires.2 in c.wide.ensures.0 ∙ sym (field-one _ 0 (omega arith))
+ttd-is : (c : tie.After-wide-ttd) → c.wide-ttd.result ≡ field (start c).args.p.now 0 1
+ttd-is c = let l = (start c).requires.2 in c.wide-ttd.ensures.0 ∙ sym (field-one _ 0 (omega arith))
 
 -- what the two functions answer
-has-is : (c : tie.After-some-has) (t : Bool) → c.some-has.result ≡ t
+has-is : (c : tie.After-some_has) (t : Bool) → c.some_has.result ≡ t
     → let s = start c.before in some_has (held s.args.b) (field s.args.p.now 0 1) ≡ t
 has-is c t e =
     let s = start c.before in
-    sym (ap (some_has (held s.args.b)) (ttd-is c.before)) ∙ sym c.some-has.ensures ∙ e
+    sym (ap (some_has (held s.args.b)) (ttd-is c.before)) ∙ sym c.some_has.ensures ∙ e
 
-divide_is : (c : tie.After-may-divide) (t : Bool) → c.may-divide.result ≡ t
+divide_is : (c : tie.After-may_divide) (t : Bool) → c.may_divide.result ≡ t
     → let s = start c.before.before.before in may_divide (held s.args.b) (field s.args.p.now 0 1) ≡ t
 divide_is c t e =
     let s = start c.before.before.before in
-    sym (ap (may_divide (held s.args.b)) (ttd-is c.before.before.before)) ∙ sym c.may-divide.ensures ∙ e
+    sym (ap (may_divide (held s.args.b)) (ttd-is c.before.before.before)) ∙ sym c.may_divide.ensures ∙ e
 
-returns : tie.Need-returns
+returns : tie.Need-returns-then-not-some_has
 returns c =
     let a = c.before.before in
-    λ f. refuses f unbreakable_kind (start a.before).requires.0 _ (unbreakable-wrong _ _ _ (has-is a false (not-true _ c.before.if1.true)))
+    λ f. refuses f unbreakable_kind (start a.before).requires.0 _ (unbreakable-wrong _ _ _ (has-is a false (not-true _ c.if-not-some_has.true)))
     c.refused.ensures
 
-returns-2 : tie.Need-returns-2
+returns-2 : tie.Need-returns-then-may_divide
 returns-2 c =
     let d = c.before.before in
     let a = d.before.before in
     λ f. refuses f unbreakable_kind (start a.before).requires.0 _
-    (unbreakable-divided _ _ _ (has-is a true (not-false _ d.before.if1.false)) (divide_is d true c.before.if2.true))
-    c.refused2.ensures
+    (unbreakable-divided _ _ _ (has-is a true (not-false _ d.if-not-some_has.false)) (divide_is d true c.if-may_divide.true))
+    c.refused-then-may_divide.ensures
 
-returns-3 : tie.Need-returns-3
+returns-3 : tie.Need-returns
 returns-3 c =
     let d = c.before.before in
     let a = d.before.before in
     let s = start a.before in
-    λ f. accepts f unbreakable_kind s.pre.0 _
-    (unbreakable-fine _ _ _ (has-is a true (not-false _ d.before.if1.false)) (divide_is d false c.before.if2.false))
-    (put-nothing _ s.pre.0 _ _) c.fine.ensures
+    λ f. accepts f unbreakable_kind s.requires.0 _
+    (unbreakable-fine _ _ _ (has-is a true (not-false _ d.if-not-some_has.false)) (divide_is d false c.if-may_divide.false))
+    (put-nothing _ s.requires.0 _ _) c.fine.ensures
 
-pub add-unbreakable-spec : {M : Type 1} → statement M
-add-unbreakable-spec =
+pub add_unbreakable_spec : {M : Type 1} → statement M
+add_unbreakable_spec =
     tie.close
     (tie.spec
     (λ c. search rules)

@@ -17,82 +17,80 @@ use Rattle.network.proofs.Held.{segment-at}
 use Rattle.reader.proofs.Packing.{nodes-held, segments-held}
 use Rattle.reader.proofs.content.join_fits.Statement.{statement}
 use Rattle.reader.proofs.content.join_fits.Tie as tie
+use Rattle.reader.proofs.content.join_fits.Lts.{else-left-right, then-left-right}
 
 -- the three numbers, and the definition's answer
-abbrev node : tie.After-wide3 → ℕ
-node c = c.before.before.wide.result
+abbrev node : tie.After-wide-right → ℕ
+node c = c.wide-node.result
 
-abbrev left : tie.After-wide3 → ℕ
-left c = c.before.wide2.result
+abbrev left : tie.After-wide-right → ℕ
+left c = c.wide-left.result
 
-abbrev right : tie.After-wide3 → ℕ
-right c = c.wide3.result
+abbrev right : tie.After-wide-right → ℕ
+right c = c.wide-right.result
 
-abbrev answer : tie.After-wide3 → Bool
-answer c = let s = c.before.before.before in join_fits (held s.args.t1) s.args.j
+abbrev answer : tie.After-wide-right → Bool
+answer c = let s = c.before.before.before in join_fits (held s.args.b) s.args.j
 
-opened : (c : tie.After-wide3)
-    → let b = c.before.before.before.args.t1 in
+opened : (c : tie.After-wide-right)
+    → let b = c.args.b in
     answer c
     ≡ (ltb (node c) b.node_count && ltb (left c) b.segment_count && ltb (right c) b.segment_count
     && not (eqb (left c) (right c)) && touches (segment_at (held b) (left c)) (node c) && touches (segment_at (held b) (right c)) (node c))
 unfolding join_fits
 opened c =
     let s = c.before.before.before in
-    let b = s.args.t1 in
+    let b = s.args.b in
     let e : length b.segments ≡ 64 = search (rules, length-of-map) in
-    simp (nodes-held b s.requires (search rules), segments-held b s.requires e, c.before.before.wide.ensures.0, c.before.wide2.ensures.0, c.wide3.ensures.0)
+    simp (nodes-held b s.requires (search rules), segments-held b s.requires e, c.wide-node.ensures.0, c.wide-left.ensures.0, c.wide-right.ensures.0)
 
-returns : tie.Need-returns
+returns : tie.Need-returns-then-b-node
 returns c =
     let a = c.before in
-    let n = a.before.before.before.args.t1.segment_count in
-    ⊎_elim (λ w. sym (opened a ∙ simp (le-ltb _ _ w.taken)))
+    let n = a.args.b.segment_count in
+    ⊎_elim (λ w. sym (opened a ∙ simp (le-ltb _ _ w.true)))
     (⊎_elim
-    (λ w. sym (opened a ∙ simp (lt-ltb _ _ w.0.left, le-ltb _ _ (leb-true n (left a) w.1.taken))))
-    (λ w. sym (opened a ∙ simp (lt-ltb _ _ w.0.left, lt-ltb _ _ (leb-false n (left a) w.1.left), le-ltb _ _ (leb-true n (right a) w.2.taken)))))
-    c.if1.branch
+    (λ w. sym (opened a ∙ simp (lt-ltb _ _ w.0.left, le-ltb _ _ (leb-true n (left a) w.1.true))))
+    (λ w. sym (opened a ∙ simp (lt-ltb _ _ w.0.left, lt-ltb _ _ (leb-false n (left a) w.1.left), le-ltb _ _ (leb-true n (right a) w.2.true)))))
+    c.if-b-node.branch
 
 -- past the first test
-inside : (c : tie.Else3)
+inside : (c : tie.Else-b-right)
     → let a = c.before.before.before in
-    let b = a.before.before.before.args.t1 in
+    let b = a.args.b in
     (node a < b.node_count) × (left a < b.segment_count) × (right a < b.segment_count)
-inside c = (c.before.before.if1.false, leb-false _ _ c.before.if2.false, leb-false _ _ c.if3.false)
+inside c = (c.if-b-node.false, leb-false _ _ c.if-b-left.false, leb-false _ _ c.if-b-right.false)
 
 -- two segments, and the first touches the node
-abbrev first_fits : tie.After-wide3 → Bool
-first_fits c = not (eqb (left c) (right c)) && touches (get_or c.before.before.before.args.t1.segments (left c) zero_segment) (node c)
+abbrev first_fits : tie.After-wide-right → Bool
+first_fits c = not (eqb (left c) (right c)) && touches (get_or c.args.b.segments (left c) zero_segment) (node c)
 
-first-touches : (c : tie.Joined4) → c.if4.if5 ≡ first_fits c.before.before.before.before
+first-touches : (c : tie.Joined-left-right) → c.if-left-right.if-touches ≡ first_fits c.before.before.before.before
 first-touches c =
-    ⊎_elim
-    (λ w. w.3 ∙ w.2.ensures ∙ simp (ne_eqb _ _ w.0.taken))
-    (λ w. w.1 ∙ simp (eq-eqb _ _ w.0.left))
-    c.if4.branch
+    elim (c.if-left-right.branch) [ then-left-right w ↦ w.3 ∙ w.touches.ensures ∙ simp (ne_eqb _ _ w.if-left-right.true) | else-left-right w ↦ w.1 ∙ simp (eq-eqb _ _ w.if-left-right.false) ]
 
 -- the definition, past the first test
-whole : (c : tie.Else3)
+whole : (c : tie.Else-b-right)
     → let a = c.before.before.before in
-    (first_fits a && touches (get_or a.before.before.before.args.t1.segments (right a) zero_segment) (node a)) ≡ answer a
+    (first_fits a && touches (get_or a.args.b.segments (right a) zero_segment) (node a)) ≡ answer a
 whole c =
     let a = c.before.before.before in
-    let b = a.before.before.before.args.t1 in
+    let b = a.args.b in
     let l = inside c in
     sym (opened a ∙ simp (lt-ltb _ _ l.0, lt-ltb _ _ l.1, lt-ltb _ _ l.2, segment-at b (left a) l.1, segment-at b (right a) l.2, and_assoc))
 
-returns-2 : tie.Need-returns-2
+returns-2 : tie.Need-returns-then-touches
 returns-2 c =
-    let f = sym (first-touches c.before.before.before) ∙ c.before.before.if5.true in
-    c.touches2.ensures ∙ sym (simp f) ∙ whole c.before.before.before.before
+    let f = sym (first-touches c.before.before.before) ∙ c.if-touches.true in
+    c.touches-then-touches.ensures ∙ sym (simp f) ∙ whole c.before.before.before.before
 
-returns-3 : tie.Need-returns-3
+returns-3 : tie.Need-returns-else-touches
 returns-3 c =
-    let f = sym (first-touches c.before) ∙ c.if5.false in
-    c.if5.false ∙ sym (simp f) ∙ whole c.before.before
+    let f = sym (first-touches c.before) ∙ c.if-touches.false in
+    c.if-touches.false ∙ sym (simp f) ∙ whole c.before.before
 
-pub join-fits-spec : {M : Type 1} → statement M
-join-fits-spec =
+pub join_fits_spec : {M : Type 1} → statement M
+join_fits_spec =
     tie.close
     (tie.spec
     (λ c κs. search rules)

@@ -20,6 +20,7 @@ use Rattle.frames.specs.Framed.{format_of}
 use Rattle.reader.proofs.Packing.{segments-held}
 use Rattle.reader.proofs.content.train_fits.Statement.{statement}
 use Rattle.reader.proofs.content.train_fits.Tie as tie
+use Rattle.reader.proofs.content.train_fits.Lts.{else-pair-ge1, then-pair-ge1}
 
 -- the format of the payload
 abbrev format : tie.Start → Format
@@ -29,13 +30,10 @@ format c = format_of c.args.format
 abbrev early : tie.Start → Bool
 early c = leb 1 (field c.args.p.now 0 2) && ltb (field c.args.p.now 4 (format c).time_width) c.args.b.intervals
 
-starts : (c : tie.Joined1) → c.if1.if2 ≡ early c.before.before.before
+starts : (c : tie.Joined-pair-ge1) → c.if-pair-ge1.if-time-b ≡ early c.before.before.before
 starts c =
-    let m = c.before.pair.ensures.0 in
-    ⊎_elim
-    (λ w. w.3 ∙ simp (← m, le-leb _ _ w.0.taken, w.1.ensures.0))
-    (λ w. w.1 ∙ simp (← m, lt-leb _ _ w.0.left))
-    c.if1.branch
+    let m = c.pair.ensures.0 in
+    elim (c.if-pair-ge1.branch) [ then-pair-ge1 w ↦ w.3 ∙ simp (← m, le-leb _ _ w.if-pair-ge1.true, w.time.ensures.0) | else-pair-ge1 w ↦ w.1 ∙ simp (← m, lt-leb _ _ w.if-pair-ge1.false) ]
 
 -- the definition, over the struct
 whole : (c : tie.Start)
@@ -46,29 +44,29 @@ whole c =
     let e : length c.args.b.segments ≡ 64 = search (rules, length-of-map) in
     simp (segments-held c.args.b c.requires.0 e)
 
-returns : tie.Need-returns
+returns : tie.Need-returns-then-time-b
 returns c =
     let e = c.before.before in
-    let f = sym (starts e.before.before) ∙ e.before.if2.true in
+    let f = sym (starts e.before.before) ∙ e.if-time-b.true in
     let s = e.before.before.before.before.before in
-    let fixed = e.train-end.ensures ∙ zero-add _ in
-    c.all-below.ensures
+    let fixed = e.train_end.ensures ∙ zero-add _ in
+    c.all_below.ensures
     ∙ ap (λ (n : ℕ). all (λ d. ltb d (2 * s.args.b.segment_count)) (drop n s.args.p.now)) fixed
     ∙ sym (ap (λ (t : Bool). t && all (λ d. ltb d (2 * s.args.b.segment_count)) (drop (train_fixed (format s)) s.args.p.now)) f) ∙ whole s
 
-returns-2 : tie.Need-returns-2
+returns-2 : tie.Need-returns-else-time-b
 returns-2 c =
-    let f = sym (starts c.before) ∙ c.if2.false in
-    c.if2.false ∙ sym (simp f) ∙ whole c.before.before.before.before
+    let f = sym (starts c.before) ∙ c.if-time-b.false in
+    c.if-time-b.false ∙ sym (simp f) ∙ whole c.before.before.before.before
 
-pub train-fits-spec : {M : Type 1} → statement M
-train-fits-spec =
+pub train_fits_spec : {M : Type 1} → statement M
+train_fits_spec =
     tie.close
     (tie.spec
     (λ c κs. search rules)
     (λ c κs. search rules)
     (λ c κs. omega arith)
     (λ c. search rules)
-    (λ c κs. omega (arith, c.before.train-end.ensures))
+    (λ c κs. omega (arith, c.train_end.ensures))
     returns
     returns-2)

@@ -22,6 +22,7 @@ use Rattle.reader.specs.BookAnswers.{added_found}
 use Rattle.reader.proofs.ByKind.{by_kind, wrong-length, right-length, elsewhere, there, sized, train-long, train-short, train-wrong, train-right, adds-nothing, none_left, ends-right, no-head, growing-metres, growing-calls, growing-segments}
 use Rattle.reader.proofs.reading.add_frame.Statement.{statement}
 use Rattle.reader.proofs.reading.add_frame.Tie as tie
+use Rattle.reader.proofs.reading.add_frame.Lts.{else-end-fixed, then-end-fixed}
 
 -- the format that is read
 abbrev format : tie.Start → Format
@@ -45,152 +46,150 @@ module _ {st : tie.Start} {k : Kind} {n to : ℕ} (h : Of st k n to) where
   as-told e = e ∙ sym (ap (λ (o : Option Kind). added_found (format st) (held st.args.b) o (up_to st.args.end)) h.told)
 
   wrong : to ≢ st.args.end → {r : Added} → (r.checked ≡ Refused 4) × (r.book ≡ st.args.b) → Becomes (kind_in st.args.kind) r
-  wrong apart e = as-told (elsewhere (format st) _ st.pre.0 _ _ _ st.pre.2 k n to (h.size _) h.ends st.pre.1 apart e)
+  wrong apart e = as-told (elsewhere (format st) _ st.requires.0 _ _ _ st.requires.2 k n to (h.size _) h.ends st.requires.1 apart e)
 
   right : to ≡ st.args.end → {r : Added} → r ≡ added (format st) k (held st.args.b) (up_to to) → Becomes (kind_in st.args.kind) r
-  right same e = as-told (there (format st) _ st.pre.0 _ _ _ st.pre.2 k n to (h.size _) h.ends st.pre.1 same e)
+  right same e = as-told (there (format st) _ st.requires.0 _ _ _ st.requires.2 k n to (h.size _) h.ends st.requires.1 same e)
 
   long : to ≡ st.args.end → length (up_to to) ≡ n
-  long same = sized (format st) _ st.pre.0 _ _ _ st.pre.2 k n to (h.size _) h.ends st.pre.1 same
+  long same = sized (format st) _ st.requires.0 _ _ _ st.requires.2 k n to (h.size _) h.ends st.requires.1 same
 
-head : (c : tie.After-head-end)
-    → let st = c.before.before.before.before in Of st head_kind (4 + (format st).time_width) c.head-end.result
+head : (c : tie.After-head_end-to)
+    → let st = c.before.before.before.before in Of st head_kind (4 + (format st).time_width) c.head_end-to.result
 unfolding length_fits
-head c = record { told = ap kind_in c.before.enum_told.given.1; size = λ p. refl; ends = c.head-end.ensures }
+head c = record { told = ap kind_in c.in-Head.is; size = λ p. refl; ends = c.head_end-to.ensures }
 
-node : (c : tie.After-cursor) → Of c.before.before.before.before node_kind 1 c.cursor.result.end
+node : (c : tie.After-cursor-to) → Of c.before.before.before.before node_kind 1 c.cursor-to.result.end
 unfolding length_fits
-node c = record { told = ap kind_in c.before.enum-told2.given.1; size = λ p. refl; ends = c.cursor.ensures.1 }
+node c = record { told = ap kind_in c.in-Node.is; size = λ p. refl; ends = c.cursor-to.ensures.1 }
 
-segment : (c : tie.After-cursor2) → Of c.before.before.before.before segment_kind 3 c.cursor2.result.end
+segment : (c : tie.After-cursor-to-in-Segment) → Of c.before.before.before.before segment_kind 3 c.cursor-to-in-Segment.result.end
 unfolding length_fits
-segment c = record { told = ap kind_in c.before.enum-told3.given.1; size = λ p. refl; ends = c.cursor2.ensures.1 }
+segment c = record { told = ap kind_in c.in-Segment.is; size = λ p. refl; ends = c.cursor-to-in-Segment.ensures.1 }
 
-join : (c : tie.After-cursor3) → Of c.before.before.before.before join_kind 3 c.cursor3.result.end
+join : (c : tie.After-cursor-to-in-Join) → Of c.before.before.before.before join_kind 3 c.cursor-to-in-Join.result.end
 unfolding length_fits
-join c = record { told = ap kind_in c.before.enum-told4.given.1; size = λ p. refl; ends = c.cursor3.ensures.1 }
+join c = record { told = ap kind_in c.in-Join.is; size = λ p. refl; ends = c.cursor-to-in-Join.ensures.1 }
 
-call : (c : tie.After-call-end)
-    → let st = c.before.before.before.before in Of st call_kind (2 + 2 * (format st).time_width) c.call-end.result
+call : (c : tie.After-call_end-to)
+    → let st = c.before.before.before.before in Of st call_kind (2 + 2 * (format st).time_width) c.call_end-to.result
 unfolding length_fits
-call c = record { told = ap kind_in c.before.enum-told6.given.1; size = λ p. refl; ends = c.call-end.ensures }
+call c = record { told = ap kind_in c.in-Call.is; size = λ p. refl; ends = c.call_end-to.ensures }
 
-add-call-requires : tie.Need-add-call-requires
+add-call-requires : tie.Need-add_call-requires
 add-call-requires c κs =
     let k = c.before.before in
-    let p = k.before.before.before.before.requires in
-    (p.0, growing-calls _ (p.3 (no-head k.before.enum-told6.given.1 (λ e. omega arith))), long (call k) c.before.if7.false)
+    let p = k.requires in
+    (p.0, growing-calls _ (p.3 (no-head k.in-Call.is (λ e. omega arith))), long (call k) c.if-to-end-5.false)
 
-unbreakable : (c : tie.After-cursor4) → Of c.before.before.before.before unbreakable_kind 1 c.cursor4.result.end
+unbreakable : (c : tie.After-cursor-to-in-Unbreakable) → Of c.before.before.before.before unbreakable_kind 1 c.cursor-to-in-Unbreakable.result.end
 unfolding length_fits
-unbreakable c = record { told = ap kind_in c.before.enum-told7.given.1; size = λ p. refl; ends = c.cursor4.ensures.1 }
+unbreakable c = record { told = ap kind_in c.in-Unbreakable.is; size = λ p. refl; ends = c.cursor-to-in-Unbreakable.ensures.1 }
 
-add-unbreakable-requires : tie.Need-add-unbreakable-requires
+add-unbreakable-requires : tie.Need-add_unbreakable-requires
 add-unbreakable-requires c κs =
     let k = c.before.before in
-    let p = k.before.before.before.before.requires in
-    (p.0, growing-segments _ (p.3 (no-head k.before.enum-told7.given.1 (λ e. omega arith))), long (unbreakable k) c.before.if8.false)
+    let p = k.requires in
+    (p.0, growing-segments _ (p.3 (no-head k.in-Unbreakable.is (λ e. omega arith))), long (unbreakable k) c.if-to-end-6.false)
 
 -- Train: its place stands behind the fixed part
-module _ (c : tie.After-train-end) where
+module _ (c : tie.After-train_end-fixed) where
   abbrev start5 : tie.Start
   start5 = c.before.before.before.before
 
   is5 : start5.args.kind ≡ Train
-  is5 = c.before.enum-told5.given.1
+  is5 = c.in-Train.is
 
   -- the count is the last byte of the fixed part
-  count_at : {n : ℕ} → n ≡ get_or start5.args.s.now (c.train-end.result - 1) 0
+  count_at : {n : ℕ} → n ≡ get_or start5.args.s.now (c.train_end-fixed.result - 1) 0
       → n ≡ get_or start5.args.s.now (start5.args.at + train_count_at (format start5)) 0
-  count_at e = e ∙ ap (λ (i : ℕ). get_or start5.args.s.now i 0) (omega (arith, c.train-end.ensures))
+  count_at e = e ∙ ap (λ (i : ℕ). get_or start5.args.s.now i 0) (omega (arith, c.train_end-fixed.ensures))
 
-returns-5 : tie.Need-returns-5
+returns-5 : tie.Need-returns-then-end-fixed
 returns-5 c =
     let k = c.before.before in
     let st = start5 k in
-    by_kind (format st) _ st.pre.0 _ _ _ st.pre.2 (is5 k)
-    (wrong-length (format st) _ st.pre.0 _ _ _ st.pre.2 train_kind
-    (⊎_elim (λ w. train-short (format st) _ st.pre.0 _ _ _ st.pre.2 _ 0 k.train-end.ensures st.pre.1 w.taken)
-    (λ w. train-wrong (format st) _ st.pre.0 _ _ _ st.pre.2 _ _ k.train-end.ensures st.pre.1 w.0.left
-    (count_at k w.2.ensures.0) (eqb-false _ _ (not-true _ w.3.taken)))
-    c.before.if5.branch)
-    c.wrong-length5.ensures)
+    by_kind (format st) _ st.requires.0 _ _ _ st.requires.2 (is5 k)
+    (wrong-length (format st) _ st.requires.0 _ _ _ st.requires.2 train_kind
+    (elim (c.if-end-fixed.branch) [ then-end-fixed w ↦ train-short (format st) _ st.requires.0 _ _ _ st.requires.2 _ 0 k.train_end-fixed.ensures st.requires.1 w.true | else-end-fixed w ↦ train-wrong (format st) _ st.requires.0 _ _ _ st.requires.2 _ _ k.train_end-fixed.ensures st.requires.1 w.0.left
+    (count_at k w.2.ensures.0) (eqb-false _ _ (not-true _ w.3.true)) ]
+    c.wrong_length-then-end-fixed.ensures)
 
-add-train-requires : tie.Need-add-train-requires
+add-train-requires : tie.Need-add_train-requires
 unfolding held
 add-train-requires c κs =
     let k = c.before.before.before.before.before in
     let st = start5 k in
-    let long = train-long (format st) _ st.pre.0 _ _ _ st.pre.2 _ 0 k.train-end.ensures st.pre.1 c.before.before.before.before.if5.false in
-    (st.pre.0, growing-metres _ (st.pre.3 (no-head (is5 k) (λ e. omega arith))), long)
+    let long = train-long (format st) _ st.requires.0 _ _ _ st.requires.2 _ 0 k.train_end-fixed.ensures st.requires.1 c.if-end-fixed.false in
+    (st.requires.0, growing-metres _ (st.requires.3 (no-head (is5 k) (λ e. omega arith))), long)
 
-returns-13 : tie.Need-returns-13
+returns-13 : tie.Need-returns-else-end-fixed-2
 returns-13 c =
     let e = c.before.before in
     let k = e.before.before.before.before in
     let st = start5 k in
-    by_kind (format st) _ st.pre.0 _ _ _ st.pre.2 (is5 k)
-    (right-length (format st) _ st.pre.0 _ _ _ st.pre.2 train_kind
-    (train-right (format st) _ st.pre.0 _ _ _ st.pre.2 _ _ k.train-end.ensures st.pre.1 e.before.before.before.if5.false
-    (count_at k e.before.wide.ensures.0) (eqb-true _ _ (not-false _ e.if6.false)))
-    c.add-train.ensures)
+    by_kind (format st) _ st.requires.0 _ _ _ st.requires.2 (is5 k)
+    (right-length (format st) _ st.requires.0 _ _ _ st.requires.2 train_kind
+    (train-right (format st) _ st.requires.0 _ _ _ st.requires.2 _ _ k.train_end-fixed.ensures st.requires.1 e.if-end-fixed.false
+    (count_at k e.wide.ensures.0) (eqb-true _ _ (not-false _ e.if-end-fixed-2.false)))
+    c.add_train.ensures)
 
 -- End
-ending : (c : tie.After-cursor5) → Of c.before.before.before.before end_kind 0 c.cursor5.result.end
+ending : (c : tie.After-cursor) → Of c.before.before.before.before end_kind 0 c.cursor.result.end
 unfolding length_fits
-ending c = record { told = ap kind_in c.before.enum-told8.given.1; size = λ p. refl; ends = c.cursor5.ensures.1 }
+ending c = record { told = ap kind_in c.in-End.is; size = λ p. refl; ends = c.cursor.ensures.1 }
 
-returns-16 : tie.Need-returns-16
+returns-16 : tie.Need-returns-else-cursor-end
 returns-16 c =
     let k = c.before.before.before in
     let st = k.before.before.before.before in
-    by_kind (format st) _ st.requires.0 _ _ _ st.requires.2 k.before.enum-told8.given.1
+    by_kind (format st) _ st.requires.0 _ _ _ st.requires.2 k.in-End.is
     (ends-right (format st) _ st.requires.0 _ _ _ st.requires.2
-    (none_left (format st) _ st.requires.0 _ _ _ st.requires.2 _ k.cursor5.ensures.1 c.before.if9.false) c.unchanged.ensures)
+    (none_left (format st) _ st.requires.0 _ _ _ st.requires.2 _ k.cursor.ensures.1 c.if-cursor-end.false) c.unchanged.ensures)
 
-returns-17 : tie.Need-returns-17
+returns-17 : tie.Need-returns-in-Unknown
 unfolding kind_faults first_fault add_found
 returns-17 c =
     let st = c.before.before.before.before in
-    by_kind (format st) _ st.requires.0 _ _ _ st.requires.2 c.before.enum-told9.given.1
-    (adds-nothing (format st) _ st.requires.0 _ _ _ st.requires.2 none refl refl c.unchanged2.ensures)
+    by_kind (format st) _ st.requires.0 _ _ _ st.requires.2 c.in-Unknown.is
+    (adds-nothing (format st) _ st.requires.0 _ _ _ st.requires.2 none refl refl c.unchanged-in-Unknown.ensures)
 
-pub add-frame-spec : {M : Type 1} → statement M
-add-frame-spec =
+pub add_frame_spec : {M : Type 1} → statement M
+add_frame_spec =
     tie.close
     (tie.spec
     (λ c. search rules)
     (λ c κs. search rules)
     (λ c κs. search rules)
-    (λ c. wrong (head c.before.before) c.before.if1.true c.wrong-length.ensures)
+    (λ c. wrong (head c.before.before) c.if-to-end.true c.wrong_length.ensures)
     (λ c. search rules)
     (λ c. search rules)
     (λ c. search rules)
-    (λ c κs. let k = c.before.before in (k.before.before.before.before.requires.0, long (head k) c.before.if1.false))
-    (λ c. search rules)
-    (λ c κs. search rules)
-    (λ c κs. search rules)
-    (λ c. wrong (node c.before.before) c.before.if2.true c.wrong-length2.ensures)
-    (λ c. search rules)
-    (λ c. search rules)
-    (λ c. search rules)
-    (λ c κs. let k = c.before.before in (k.before.before.before.before.requires.0, long (node k) c.before.if2.false))
+    (λ c κs. let k = c.before.before in (k.requires.0, long (head k) c.if-to-end.false))
     (λ c. search rules)
     (λ c κs. search rules)
     (λ c κs. search rules)
-    (λ c. wrong (segment c.before.before) c.before.if3.true c.wrong-length3.ensures)
+    (λ c. wrong (node c.before.before) c.if-to-end-2.true c.wrong_length-then-to-end-2.ensures)
     (λ c. search rules)
     (λ c. search rules)
     (λ c. search rules)
-    (λ c κs. let k = c.before.before in (k.before.before.before.before.requires.0, long (segment k) c.before.if3.false))
+    (λ c κs. let k = c.before.before in (k.requires.0, long (node k) c.if-to-end-2.false))
     (λ c. search rules)
     (λ c κs. search rules)
     (λ c κs. search rules)
-    (λ c. wrong (join c.before.before) c.before.if4.true c.wrong-length4.ensures)
+    (λ c. wrong (segment c.before.before) c.if-to-end-3.true c.wrong_length-then-to-end-3.ensures)
     (λ c. search rules)
     (λ c. search rules)
     (λ c. search rules)
-    (λ c κs. let k = c.before.before in (k.before.before.before.before.requires.0, long (join k) c.before.if4.false))
+    (λ c κs. let k = c.before.before in (k.requires.0, long (segment k) c.if-to-end-3.false))
+    (λ c. search rules)
+    (λ c κs. search rules)
+    (λ c κs. search rules)
+    (λ c. wrong (join c.before.before) c.if-to-end-4.true c.wrong_length-then-to-end-4.ensures)
+    (λ c. search rules)
+    (λ c. search rules)
+    (λ c. search rules)
+    (λ c κs. let k = c.before.before in (k.requires.0, long (join k) c.if-to-end-4.false))
     (λ c. search rules)
     (λ c κs. search rules)
     (λ c. search rules)
@@ -206,7 +205,7 @@ add-frame-spec =
     (λ c. search rules)
     (λ c κs. search rules)
     (λ c κs. search rules)
-    (λ c. wrong (call c.before.before) c.before.if7.true c.wrong-length6.ensures)
+    (λ c. wrong (call c.before.before) c.if-to-end-5.true c.wrong_length-then-to-end-5.ensures)
     (λ c. search rules)
     (λ c. search rules)
     (λ c. search rules)
@@ -214,7 +213,7 @@ add-frame-spec =
     (λ c. search rules)
     (λ c κs. search rules)
     (λ c κs. search rules)
-    (λ c. wrong (unbreakable c.before.before) c.before.if8.true c.wrong-length7.ensures)
+    (λ c. wrong (unbreakable c.before.before) c.if-to-end-6.true c.wrong_length-then-to-end-6.ensures)
     (λ c. search rules)
     (λ c. search rules)
     (λ c. search rules)
@@ -222,16 +221,16 @@ add-frame-spec =
     (λ c. search rules)
     (λ c κs. search rules)
     (λ c κs. search rules)
-    (λ c. wrong (ending c.before.before.before) c.before.if9.true c.wrong-length8.ensures)
+    (λ c. wrong (ending c.before.before.before) c.if-cursor-end.true c.wrong_length-then-cursor-end.ensures)
     (λ c κs. search rules)
     (λ c. search rules)
     (λ c κs. search rules)
-    (λ c. right (head c.before.before.before) c.before.before.if1.false c.add-head.ensures)
-    (λ c. right (node c.before.before.before) c.before.before.if2.false (c.add-node.ensures _))
-    (λ c. right (segment c.before.before.before) c.before.before.if3.false (c.add-segment.ensures _))
-    (λ c. right (join c.before.before.before) c.before.before.if4.false (c.add-join.ensures _))
+    (λ c. right (head c.before.before.before) c.if-to-end.false c.add_head.ensures)
+    (λ c. right (node c.before.before.before) c.if-to-end-2.false (c.add_node.ensures _))
+    (λ c. right (segment c.before.before.before) c.if-to-end-3.false (c.add_segment.ensures _))
+    (λ c. right (join c.before.before.before) c.if-to-end-4.false (c.add_join.ensures _))
     returns-13
-    (λ c. right (call c.before.before.before) c.before.before.if7.false c.add-call.ensures)
-    (λ c. right (unbreakable c.before.before.before) c.before.before.if8.false (c.add-unbreakable.ensures _))
+    (λ c. right (call c.before.before.before) c.if-to-end-5.false c.add_call.ensures)
+    (λ c. right (unbreakable c.before.before.before) c.if-to-end-6.false (c.add_unbreakable.ensures _))
     returns-16
     returns-17)

@@ -9,5 +9,5 @@ returns : tie.Need-returns
 unfolding packed no_book padded
 returns c = search rules
 
-pub empty-book-spec : {M : Type 1} → statement M
-empty-book-spec = tie.close (tie.spec returns)
+pub empty_book_spec : {M : Type 1} → statement M
+empty_book_spec = tie.close (tie.spec returns)

@@ -17,10 +17,10 @@ use Rattle.reader.proofs.Way.{OnWay, bytes_of, way-start, way-packed, way-reache
 use Rattle.reader.proofs.reading.read_as.Statement.{statement}
 use Rattle.reader.proofs.reading.read_as.Tie as tie
 
-abbrev invariant-loop : tie.invariant-loop
+abbrev invariant-loop : tie.invariant-loop-n
 invariant-loop format s runs₀ book₀ last₀ at₀ runs book last at = OnWay (format_of format) s book last at × (runs ≡ runs₀)
 
-abbrev decreases-loop : tie.decreases-loop
+abbrev decreases-loop : tie.decreases-loop-n
 decreases-loop format s runs₀ book₀ last₀ at₀ runs book last at = length s - at
 
 -- no format allows more intervals than the one in force
@@ -28,72 +28,72 @@ few-enough : (f : FormatCase) → (format_of f).greatest_t ≤ max_intervals
 few-enough Now = omega arith
 few-enough Old = omega arith
 
-loop-holds : tie.Need-loop-init invariant-loop decreases-loop
+loop-holds : tie.Need-loop-n-init invariant-loop decreases-loop
 loop-holds c =
     let known = c.before.before in
-    let s = known.before.args.s.now in
-    let is_bytes = bytes_of s (λ i. omega (arith, known.shared-slice-known.given i)) in
-    (way-start _ s _ (few-enough known.before.args.format) is_bytes c.empty-book.ensures, refl)
+    let s = known.args.s.now in
+    let is_bytes = bytes_of s (λ i. omega (arith, known.shared_slice_known-1.given i)) in
+    (way-start _ s _ (few-enough known.args.format) is_bytes c.empty_book-book.ensures, refl)
 
-step-requires : tie.Need-step-requires invariant-loop decreases-loop
+step-requires : tie.Need-step-st-requires invariant-loop decreases-loop
 step-requires c κs =
-    let w = c.loop.invariant.0 in
+    let w = c.loop-n.invariant.0 in
     (way-packed _ _ _ _ _ w, way-reached _ _ _ _ _ w, w.inside)
 
-returns : tie.Need-returns invariant-loop decreases-loop
+returns : tie.Need-returns-in-Stop invariant-loop decreases-loop
 returns c =
     let at-step = c.before.before.before.before in
-    let told = c.before.before.next.given.1 in (
-      c.refused-book.ensures
+    let told = c.next-1.given.1 in (
+      c.refused_book.ensures
           ∙ ap book_read_of
-          (sym (way-stop _ _ _ _ _ at-step.before.loop.invariant.0 at-step.step.result at-step.step.ensures _ told)),
-      refused-never c.refused-book.ensures,
-      λ n d refused below. at-step.before.loop.invariant.1,
+          (sym (way-stop _ _ _ _ _ at-step.loop-n.invariant.0 at-step.step-st.result at-step.step-st.ensures _ told)),
+      refused-never c.refused_book.ensures,
+      λ n d refused below. at-step.loop-n.invariant.1,
     )
 
 -- the End: what is left are the book's own refusals
-module _ (c : tie.After-enum-told invariant-loop decreases-loop) where
-  abbrev at-step : tie.After-step invariant-loop decreases-loop
+module _ (c : tie.In-End invariant-loop decreases-loop) where
+  abbrev at-step : tie.After-step-st invariant-loop decreases-loop
   at-step = c.before.before
 
-  abbrev looped : tie.At-loop invariant-loop decreases-loop
+  abbrev looped : tie.At-loop-n invariant-loop decreases-loop
   looped = at-step.before
 
 finish-requires : tie.Need-finish-requires invariant-loop decreases-loop
 finish-requires c κs =
     let e = c.before in
-    let st = (at-step e).step in
-    let f = way-finish _ _ _ _ _ (looped e).loop.invariant.0 st.result st.ensures e.enum_told.given.1 in
-    (f.0, f.1, f.2, ap length (looped e).loop.invariant.1 ∙ (looped e).before.before.before.before.requires)
+    let st = (at-step e).step-st in
+    let f = way-finish _ _ _ _ _ (looped e).loop-n.invariant.0 st.result st.ensures e.in-End.is in
+    (f.0, f.1, f.2, ap length (looped e).loop-n.invariant.1 ∙ (looped e).requires)
 
-returns-2 : tie.Need-returns-2 invariant-loop decreases-loop
+returns-2 : tie.Need-returns-in-End invariant-loop decreases-loop
 returns-2 c =
     let f = c.before.before in
     let e = f.before.before in
-    let st = (at-step e).step in (
+    let st = (at-step e).step-st in (
       f.finish.ensures.0
-          ∙ ap book_read_of (sym (way_end _ _ _ _ _ (looped e).loop.invariant.0 st.result st.ensures e.enum_told.given.1)),
-      λ told. f.finish.ensures.1 told ∙ ap (run_table (held f.finish.result.book)) (looped e).loop.invariant.1,
-      λ n d refused below. f.finish.ensures.2 n d refused below ∙ (looped e).loop.invariant.1,
+          ∙ ap book_read_of (sym (way_end _ _ _ _ _ (looped e).loop-n.invariant.0 st.result st.ensures e.in-End.is)),
+      λ told. f.finish.ensures.1 told ∙ ap (run_table (held f.finish.result.book-1)) (looped e).loop-n.invariant.1,
+      λ n d refused below. f.finish.ensures.2 n d refused below ∙ (looped e).loop-n.invariant.1,
     )
 
 -- the next place, and that it is further on
-module _ (c : tie.After-book invariant-loop decreases-loop) where
-  abbrev stepped : tie.After-step invariant-loop decreases-loop
+module _ (c : tie.After-book-1 invariant-loop decreases-loop) where
+  abbrev stepped : tie.After-step-st invariant-loop decreases-loop
   stepped = c.before.before.before.before
 
   abbrev start : tie.Start invariant-loop decreases-loop
   start = stepped.before.before.before.before.before
 
-  onward : OnWay (format_of start.args.format) start.args.s.now stepped.step.result.book c.before.before.next2.given.0.1.0
-      c.before.before.next2.given.0.0
-      × (stepped.before.loop.at < c.before.before.next2.given.0.0)
+  onward : OnWay (format_of start.args.format) start.args.s.now stepped.step-st.result.book-1 c.next-in-More-1.given.0.1.0
+      c.next-in-More-1.given.0.0
+      × (stepped.loop-n.at < c.next-in-More-1.given.0.0)
   onward =
-      way-more _ _ _ _ _ stepped.before.loop.inv.0 stepped.step.result stepped.step.ensures _ _
-      c.before.before.next2.given.1
+      way-more _ _ _ _ _ stepped.loop-n.invariant.0 stepped.step-st.result stepped.step-st.ensures _ _
+      c.next-in-More-1.given.1
 
-pub read-as-spec : {M : Type 1} → statement M
-read-as-spec =
+pub read_as_spec : {M : Type 1} → statement M
+read_as_spec =
     tie.close
     (tie.spec
     invariant-loop
@@ -103,12 +103,12 @@ read-as-spec =
     step-requires
     (λ c. search rules)
     (λ c κs. search rules)
-    (λ c. ap length c.before.before.before.before.before.loop.invariant.1)
+    (λ c. ap length c.loop-n.invariant.1)
     returns
     (λ c. search rules)
     finish-requires
-    (λ c. c.before.before.finish.auto.1.0 ∙ ap length (looped c.before.before.before.before).loop.inv.1)
+    (λ c. c.finish.auto.1.0 ∙ ap length (looped c.before.before.before.before).loop-n.invariant.1)
     returns-2
     (λ c. search rules)
     (λ c. let w = onward c in let h = w.0.inside in omega arith)
-    (λ c. ((onward c).0, (stepped c).before.loop.invariant.1)))
+    (λ c. ((onward c).0, (stepped c).loop-n.invariant.1)))

@@ -6,10 +6,10 @@ use Rattle.listing.specs.Listed.{table_bytes}
 use Rattle.reader.proofs.reading.read_book.Statement.{statement}
 use Rattle.reader.proofs.reading.read_book.Tie as tie
 
-pub read-book-spec : {M : Type 1} → statement M
-read-book-spec =
+pub read_book_spec : {M : Type 1} → statement M
+read_book_spec =
     tie.close
     (tie.spec
     (λ c. sym (length-replicate {A = ℕ} table_bytes 0))
     (λ c κs. length-replicate {A = ℕ} table_bytes 0)
-    (λ c. c.before.read-runs.ensures.0))
+    (λ c. c.read_runs.ensures.0))

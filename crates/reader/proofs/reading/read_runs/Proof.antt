@@ -6,7 +6,7 @@ use Rattle.reader.proofs.reading.read_runs.Tie as tie
 
 returns : tie.Need-returns
 unfolding read_book
-returns c = c.before.before.read_as.ensures
+returns c = c.read_as.ensures
 
-pub read-runs-spec : {M : Type 1} → statement M
-read-runs-spec = tie.close (tie.spec (λ c κs. search rules) (λ c. search rules) returns)
+pub read_runs_spec : {M : Type 1} → statement M
+read_runs_spec = tie.close (tie.spec (λ c κs. search rules) (λ c. search rules) returns)

@@ -13,71 +13,69 @@ use Rattle.refutation_file.specs.Numbers.{numbers_in}
 use Rattle.refutation_file.proofs.NumberLists.{numbers-length, hints-next, hints-end}
 use Rattle.refutation_file.proofs.numbers.hints_fit.Statement.{statement}
 use Rattle.refutation_file.proofs.numbers.hints_fit.Tie as tie
+use Rattle.refutation_file.proofs.numbers.hints_fit.Lts.{else-h-lt1, then-h-lt1}
 
-abbrev invariant-loop : tie.invariant-loop
+abbrev invariant-loop : tie.invariant-loop-i
 invariant-loop list own n fits₀ i₀ fits i = hints_fit own (numbers_in list) ≡ (fits && hints_fit own (drop i (numbers_in list)))
 
-abbrev decreases-loop : tie.decreases-loop
+abbrev decreases-loop : tie.decreases-loop-i
 decreases-loop list own n fits₀ i₀ fits i = n - i
 
-loop-holds : tie.Need-loop-init invariant-loop decreases-loop
+loop-holds : tie.Need-loop-i-init invariant-loop decreases-loop
 loop-holds c = refl
 
-number-at-requires : tie.Need-number-at-requires invariant-loop decreases-loop
+number-at-requires : tie.Need-number_at-h-requires invariant-loop decreases-loop
 number-at-requires c κs = omega arith
 
-add-i : tie.Need-overflow-add-i invariant-loop decreases-loop
+add-i : tie.Need-overflow_add-i invariant-loop decreases-loop
 add-i c = omega arith
 
-loop-less : tie.Need-loop-smaller invariant-loop decreases-loop
+loop-less : tie.Need-loop-i-smaller invariant-loop decreases-loop
 loop-less c = omega arith
 
-module _ (c : tie.Joined1-2 invariant-loop decreases-loop) where
-  abbrev at-loop : tie.At-loop invariant-loop decreases-loop
+module _ (c : tie.Joined-h-lt1 invariant-loop decreases-loop) where
+  abbrev at-loop : tie.At-loop-i invariant-loop decreases-loop
   at-loop = c.before.before.before
 
   abbrev given : tie.Start invariant-loop decreases-loop
   given = at-loop.before.before
 
   abbrev hint : ℕ
-  hint = c.before.number_at.result
+  hint = c.number_at-h.result
 
   abbrev fits : Bool
   fits = leb 1 hint && ltb hint given.args.own
 
   -- the flag stays where this hint fits
-  flag : c.if1.ranges ≡ (at-loop.loop.fits && fits)
+  flag : c.if-h-lt1.ranges ≡ (at-loop.loop-i.fits && fits)
   flag =
       let own = given.args.own in
-      ⊎_elim
-      (λ w. w.1 ∙ sym (⊎_elim
-      (λ v. simp (lt-leb 1 hint v.taken, and-false))
-      (λ v. simp (le-ltb hint own (leb-true own hint v.1.taken), and-false))
-      w.0.came))
-      (λ w. w.2 ∙ simp (le-leb 1 hint w.0.left, lt-ltb hint own (leb-false own hint w.1.left), and-true))
-      c.if1.branch
+      elim (c.if-h-lt1.branch) [ then-h-lt1 w ↦ w.1 ∙ sym (⊎_elim
+      (λ v. simp (lt-leb 1 hint v.true, and-false))
+      (λ v. simp (le-ltb hint own (leb-true own hint v.1.true), and-false))
+      w.if-h-lt1.came) | else-h-lt1 w ↦ w.2 ∙ simp (le-leb 1 hint w.if-h-lt1.false, lt-ltb hint own (leb-false own hint w.if-own-h.false), and-true) ]
 
-loop-again : tie.Need-loop-preserved invariant-loop decreases-loop
+loop-again : tie.Need-loop-i-preserved invariant-loop decreases-loop
 loop-again c =
-    let k = (at-loop c).loop in
+    let k = (at-loop c).loop-i in
     let list = (given c).args.list.now in
     let own = (given c).args.own in
-    let next = hints-next own k.i (numbers_in list) (hint c) c.before.number_at.ensures.0
-    (omega (arith, numbers-length list, c.before.before.loop-test.true)) in
-    k.inv
+    let next = hints-next own k.i (numbers_in list) (hint c) c.number_at-h.ensures.0
+    (omega (arith, numbers-length list, c.loop-i-test.true)) in
+    k.invariant
     ∙ ap (λ (t : Bool). k.fits && t) next
     ∙ sym (and_assoc k.fits (fits c) (hints_fit own (drop (k.i + 1) (numbers_in list))))
     ∙ simp (← flag c)
 
 returns : tie.Need-returns invariant-loop decreases-loop
 returns c =
-    let k = c.before.loop in
-    let a = c.before.before.before.args in
+    let k = c.loop-i in
+    let a = c.args in
     let list = a.list.now in
-    let end = hints-end a.own k.i (numbers_in list) (omega (arith, numbers-length list, c.loop-test.false)) in
+    let end = hints-end a.own k.i (numbers_in list) (omega (arith, numbers-length list, c.loop-i-test.false)) in
     sym (k.invariant ∙ simp (end, and-true))
 
-pub hints-fit-spec : {M : Type 1} → statement M
-hints-fit-spec =
+pub hints_fit_spec : {M : Type 1} → statement M
+hints_fit_spec =
     tie.close
     (tie.spec invariant-loop decreases-loop loop-holds number-at-requires add-i loop-less loop-again returns)

@@ -7,7 +7,7 @@ use Rattle.refutation_file.proofs.NumberLists.{literal-of}
 use Rattle.refutation_file.proofs.numbers.literal_at.Statement.{statement}
 use Rattle.refutation_file.proofs.numbers.literal_at.Tie as tie
 
-number-at-requires : tie.Need-number-at-requires
+number-at-requires : tie.Need-number_at-requires
 number-at-requires c κs = search rules
 
 literal-requires : tie.Need-literal-requires
@@ -15,11 +15,11 @@ literal-requires c κs = search rules
 
 returns : tie.Need-returns
 returns c =
-    let a = c.before.before.before.args in
+    let a = c.args in
     to_z-of_z (sfits_of c.literal.type-inv)
     ∙ c.literal.ensures
-    ∙ ap (signed 4) c.before.number_at.ensures.0
+    ∙ ap (signed 4) c.number_at.ensures.0
     ∙ sym (literal-of a.list.now a.i)
 
-pub literal-at-spec : {M : Type 1} → statement M
-literal-at-spec = tie.close (tie.spec number-at-requires literal-requires returns)
+pub literal_at_spec : {M : Type 1} → statement M
+literal_at_spec = tie.close (tie.spec number-at-requires literal-requires returns)

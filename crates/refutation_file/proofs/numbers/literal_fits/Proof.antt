@@ -13,38 +13,38 @@ use Rattle.refutation_file.proofs.Signs.{opposite-fits, above-range, below-range
 use Rattle.refutation_file.proofs.numbers.literal_fits.Statement.{statement}
 use Rattle.refutation_file.proofs.numbers.literal_fits.Tie as tie
 
-returns : tie.Need-returns
+returns : tie.Need-returns-then-most-l
 returns c =
     let s = c.before in
-    let e = lt-leb (variable_of s.args.l) s.args.variables (above-range s.args.l s.ranges.l _ s.requires c.if1.true) in
+    let e = lt-leb (variable_of s.args.l) s.args.variables (above-range s.args.l s.ranges.l _ s.requires c.if-most-l.true) in
     simp (e, and-false)
 
-sub-if2 : tie.Need-overflow-sub-if2
-sub-if2 c = opposite-fits _ c.before.requires
+sub-if2 : tie.Need-overflow_sub-most
+sub-if2 c = opposite-fits _ c.requires
 
-returns-2 : tie.Need-returns-2
+returns-2 : tie.Need-returns-then-l-most
 returns-2 c =
     let s = c.before.before in
-    let e = lt-leb (variable_of s.args.l) s.args.variables (below-range s.args.l s.ranges.l _ s.requires c.if2.true) in
+    let e = lt-leb (variable_of s.args.l) s.args.variables (below-range s.args.l s.ranges.l _ s.requires c.if-l-most.true) in
     simp (e, and-false)
 
 -- the variable is one of those that there are
-fits : (c : tie.Else2) → variable_of c.before.before.args.l ≤ c.before.before.args.variables
+fits : (c : tie.Else-l-most) → variable_of c.args.l ≤ c.args.variables
 fits c =
     let s = c.before.before in
-    in-range s.args.l s.ranges.l _ s.requires c.before.if1.false c.if2.false
+    in-range s.args.l s.ranges.l _ s.requires c.if-most-l.false c.if-l-most.false
 
 variable-requires : tie.Need-variable-requires
 variable-requires c κs =
     let s = c.before.before in
     subst (λ (z : ℤ). variable_of z < 2147483648) (sym (to_z-of_z s.ranges.l)) (omega (arith, fits c, s.requires))
 
-returns-3 : tie.Need-returns-3
+returns-3 : tie.Need-returns
 returns-3 c =
     let s = c.before.before.before in
     let e = le-leb (variable_of s.args.l) s.args.variables (fits c.before) in
     let v = c.variable.ensures ∙ ap variable_of (to_z-of_z s.ranges.l) in
     simp (v, e, and-true)
 
-pub literal-fits-spec : {M : Type 1} → statement M
-literal-fits-spec = tie.close (tie.spec (λ c. search rules) returns sub-if2 returns-2 variable-requires returns-3)
+pub literal_fits_spec : {M : Type 1} → statement M
+literal_fits_spec = tie.close (tie.spec (λ c. search rules) returns sub-if2 returns-2 variable-requires returns-3)

@@ -20,18 +20,18 @@ use Rattle.refutation_file.proofs.NumberLists.{literals-length, rises_next, rise
 use Rattle.refutation_file.proofs.numbers.literals_fit.Statement.{statement}
 use Rattle.refutation_file.proofs.numbers.literals_fit.Tie as tie
 
-abbrev invariant-loop : tie.invariant-loop
+abbrev invariant-loop : tie.invariant-loop-i
 invariant-loop list variables n low₀ i₀ low i = literals_fit variables (literals_in list) ≡ rises_from variables low (drop i (literals_in list))
 
-abbrev decreases-loop : tie.decreases-loop
+abbrev decreases-loop : tie.decreases-loop-i
 decreases-loop list variables n low₀ i₀ low i = n - i
 
-loop-holds : tie.Need-loop-init invariant-loop decreases-loop
+loop-holds : tie.Need-loop-i-init invariant-loop decreases-loop
 unfolding literals_fit
 loop-holds c = refl
 
-module _ (c : tie.After-literal-fits invariant-loop decreases-loop) where
-  abbrev at-loop : tie.At-loop invariant-loop decreases-loop
+module _ (c : tie.After-literal_fits invariant-loop decreases-loop) where
+  abbrev at-loop : tie.At-loop-i invariant-loop decreases-loop
   at-loop = c.before.before.before
 
   abbrev given : tie.Start invariant-loop decreases-loop
@@ -42,45 +42,45 @@ module _ (c : tie.After-literal-fits invariant-loop decreases-loop) where
 
   -- the literal, read back from its bits
   abbrev this : ℤ
-  this = to_z w32 (of_z w32 c.before.literal-at.result)
+  this = to_z w32 (of_z w32 c.literal_at-l.result)
 
   -- a turn: this literal, and those behind it
   turn : literals_fit given.args.variables literals
-      ≡ (c.literal-fits.result && rises_from given.args.variables (variable_of this) (drop (at-loop.loop.i + 1) literals))
+      ≡ (c.literal_fits.result && rises_from given.args.variables (variable_of this) (drop (at-loop.loop-i.i + 1) literals))
   turn =
-      at-loop.loop.inv
-      ∙ rises_next given.args.variables at-loop.loop.low at-loop.loop.i literals this
-      (to_z-of_z (sfits_of c.before.literal-at.type-inv) ∙ c.before.literal-at.ensures)
-      (omega (arith, literals-length given.args.list.now, c.before.before.loop-test.true))
-      ∙ simp (← c.literal-fits.ensures)
+      at-loop.loop-i.invariant
+      ∙ rises_next given.args.variables at-loop.loop-i.low at-loop.loop-i.i literals this
+      (to_z-of_z (sfits_of c.literal_at-l.type-inv) ∙ c.literal_at-l.ensures)
+      (omega (arith, literals-length given.args.list.now, c.loop-i-test.true))
+      ∙ simp (← c.literal_fits.ensures)
 
   -- a literal that fits is of one of the variables
-  in-range : c.literal-fits.result ≡ true → variable_of this ≤ given.args.variables
+  in-range : c.literal_fits.result ≡ true → variable_of this ≤ given.args.variables
   in-range e =
       let v = variable_of this in
-      let h = (and-iff (ltb at-loop.loop.low v) (leb v given.args.variables)).0 (from-true (sym c.literal-fits.ensures ∙ e)) in
+      let h = (and-iff (ltb at-loop.loop-i.low v) (leb v given.args.variables)).0 (from-true (sym c.literal_fits.ensures ∙ e)) in
       leb→le v given.args.variables h.1
 
-variable-requires : tie.Need-variable-requires invariant-loop decreases-loop
+variable-requires : tie.Need-variable-low-requires invariant-loop decreases-loop
 variable-requires c κs =
-    let h = in-range c.before (not-false c.before.literal-fits.result c.if1.false) in
-    omega (arith, h, (given c.before).pre)
+    let h = in-range c.before (not-false c.literal_fits.result c.if-not-literal_fits.false) in
+    omega (arith, h, (given c.before).requires)
 
-loop-again : tie.Need-loop-preserved invariant-loop decreases-loop
+loop-again : tie.Need-loop-i-preserved invariant-loop decreases-loop
 loop-again c =
-    let h = not-false c.before.before.literal-fits.result c.before.if1.false in
-    turn c.before.before ∙ simp (h, c.variable.ensures)
+    let h = not-false c.literal_fits.result c.if-not-literal_fits.false in
+    turn c.before.before ∙ simp (h, c.variable-low.ensures)
 
-returns-2 : tie.Need-returns-2 invariant-loop decreases-loop
+returns-2 : tie.Need-returns invariant-loop decreases-loop
 returns-2 c =
     let s = c.before.before.before in
-    let k = c.before.loop in
+    let k = c.loop-i in
     let list = s.args.list.now in
     sym (k.invariant
-    ∙ rises-end s.args.variables k.low k.i (literals_in list) (omega (arith, literals-length list, c.loop-test.false)))
+    ∙ rises-end s.args.variables k.low k.i (literals_in list) (omega (arith, literals-length list, c.loop-i-test.false)))
 
-pub literals-fit-spec : {M : Type 1} → statement M
-literals-fit-spec =
+pub literals_fit_spec : {M : Type 1} → statement M
+literals_fit_spec =
     tie.close
     (tie.spec
     invariant-loop
@@ -88,7 +88,7 @@ literals-fit-spec =
     loop-holds
     (λ c κs. omega arith)
     (λ c κs. omega arith)
-    (λ c. let h = not-true c.before.literal-fits.result c.if1.true in sym (turn c.before ∙ simp h))
+    (λ c. let h = not-true c.literal_fits.result c.if-not-literal_fits.true in sym (turn c.before ∙ simp h))
     variable-requires
     (λ c. omega arith)
     (λ c. omega arith)

@@ -9,22 +9,22 @@ use Rattle.refutation_file.proofs.Places.{step_room, hints-here}
 use Rattle.refutation_file.proofs.steps.hints_at.Statement.{statement}
 use Rattle.refutation_file.proofs.steps.hints_at.Tie as tie
 
-mul-first : tie.Need-overflow-mul-first
+mul-first : tie.Need-overflow_mul-first
 mul-first c =
     let st = c.before.before in
     omega (arith, step_room st.args.s.now st.args.at st.requires.0 st.requires.1)
 
-add-first : tie.Need-overflow-add-first
+add-first : tie.Need-overflow_add-first
 add-first c =
     let st = c.before.before.before in
     omega (arith, step_room st.args.s.now st.args.at st.requires.0 st.requires.1)
 
-mul-result : tie.Need-overflow-mul-result
+mul-result : tie.Need-overflow_mul-result
 mul-result c =
     let st = c.before.before.before in
     omega (arith, step_room st.args.s.now st.args.at st.requires.0 st.requires.1)
 
-add-result : tie.Need-overflow-add-result
+add-result : tie.Need-overflow_add-result
 add-result c =
     let st = c.before.before.before in
     omega (arith, step_room st.args.s.now st.args.at st.requires.0 st.requires.1)
@@ -37,11 +37,11 @@ part-result-end c =
 returns : tie.Need-returns
 returns c =
     let st = c.before.before.before.before in
-    let e : c.before.before.cursor.result.end ≡ st.args.at + frame_head + step_fixed = c.before.before.cursor.ensures.1 in
+    let e : c.cursor.result-1.end ≡ st.args.at + frame_head + step_fixed = c.cursor.ensures.1 in
     rw (e, add-sub_cancel_left) (hints-here st.args.s.now st.args.at st.requires.0 st.requires.1)
 
-pub hints-at-spec : {M : Type 1} → statement M
-hints-at-spec =
+pub hints_at_spec : {M : Type 1} → statement M
+hints_at_spec =
     tie.close
     (tie.spec
     (λ c. search rules)

@@ -9,12 +9,12 @@ use Rattle.refutation_file.proofs.Places.{step_room, literals-here}
 use Rattle.refutation_file.proofs.steps.literals_at.Statement.{statement}
 use Rattle.refutation_file.proofs.steps.literals_at.Tie as tie
 
-mul-result : tie.Need-overflow-mul-result
+mul-result : tie.Need-overflow_mul-result
 mul-result c =
     let st = c.before.before in
     omega (arith, step_room st.args.s.now st.args.at st.requires.0 st.requires.1)
 
-add-result : tie.Need-overflow-add-result
+add-result : tie.Need-overflow_add-result
 add-result c =
     let st = c.before.before in
     omega (arith, step_room st.args.s.now st.args.at st.requires.0 st.requires.1)
@@ -27,11 +27,11 @@ part-result-end c =
 returns : tie.Need-returns
 returns c =
     let st = c.before.before.before in
-    let e : c.before.cursor.result.end ≡ st.args.at + frame_head + step_fixed = c.before.cursor.ensures.1 in
+    let e : c.cursor-first.result-1.end ≡ st.args.at + frame_head + step_fixed = c.cursor-first.ensures.1 in
     rw (e, add-sub_cancel_left) (literals-here st.args.s.now st.args.at st.requires.0 st.requires.1)
 
-pub literals-at-spec : {M : Type 1} → statement M
-literals-at-spec =
+pub literals_at_spec : {M : Type 1} → statement M
+literals_at_spec =
     tie.close
     (tie.spec
     (λ c. search rules)

@@ -1,4 +1,4 @@
--- `one_step_lem::check_step` meets its contract: 17 where no step stands, and else each way out is an answer of the specification's
+-- `one_step::check_step` meets its contract: 17 where no step stands, and else each way out is an answer of the specification's
 -- table, by what the tests before it gave. Assumes nothing.
 use borrow.Author.Rules.{rules, scaled_Fits}
 use borrow.Author.Tests.{not-false}
@@ -17,103 +17,103 @@ use Rattle.refutation_file.proofs.Found.{bad-step}
 use Rattle.propagation.proofs.Trail.{left_alone}
 use Rattle.refutation_steps.proofs.StepFaults.{is-bad}
 use Rattle.refutation_steps.proofs.StepAnswers.{Given, refused-18, refused-19, few_words, no-entry, words-room, entry-room, refused-20, step-proved}
-use Rattle.refutation_steps.proofs.one_step_lem.check_step.Statement.{statement}
-use Rattle.refutation_steps.proofs.one_step_lem.check_step.Tie as tie
+use Rattle.refutation_steps.proofs.one_step.check_step.Statement.{statement}
+use Rattle.refutation_steps.proofs.one_step.check_step.Tie as tie
+use Rattle.refutation_steps.proofs.one_step.check_step.Lts.{else-words-used, then-words-used}
 
 -- 17: no step stands there
-says-17 : tie.Need-returns-5
+says-17 : tie.Need-returns-in-Bad
 says-17 c =
-    let found = c.before.before.step-at.ensures.0 in
-    (is-bad _ _ _ _ _ (bad-step _ (sym found ∙ c.enum_told.given.1)), (refl, refl, refl, left_alone))
+    let found = c.step_at.ensures.0 in
+    (is-bad _ _ _ _ _ (bad-step _ (sym found ∙ c.in-Bad.is)), (refl, refl, refl, left_alone))
 
 -- a whole step of so many literals and hints
-module _ (c : tie.After-literals) where
+module _ (c : tie.In-Whole-2) where
   abbrev start : tie.Start
   start = c.before.before.before.before.before.before.before
 
   abbrev literals : ℕ
-  literals = c.literals.given.0.0
+  literals = c.literals-1.given.0.0
 
   abbrev hints : ℕ
-  hints = c.literals.given.0.1.0
+  hints = c.literals-1.given.0.1.0
 
   whole : step_found (drop start.args.at start.args.r.now) ≡ Whole literals hints
-  whole = sym c.before.before.step-at.ensures.0 ∙ c.literals.given.1
+  whole = sym c.step_at.ensures.0 ∙ c.literals-1.given.1
 
 -- its lists are at hand
-module _ (c : tie.After-hints-at) where
-  abbrev step : tie.After-literals
+module _ (c : tie.After-hints_at-hs) where
+  abbrev step : tie.In-Whole-2
   step = c.before.before.before
 
   given : let a = (start step).args in
-      Given a.filled (literals step) (hints step) a.words.now a.starts.now a.values.now a.trail.now
-      (drop a.at a.r.now) c.before.literals-at.result.now c.hints-at.result.now
+      Given a.filled (literals step) (hints step) a.words-1.now a.starts.now a.values-1.now a.trail-1.now
+      (drop a.at a.r.now) c.literals_at-ls.result.now c.hints_at-hs.result.now
   given = record {
-    ready = (start step).pre.1;
+    ready = (start step).requires.1;
     whole = whole step;
-    literal_list = c.before.literals-at.ensures;
-    hint_list = c.hints-at.ensures;
+    literal_list = c.literals_at-ls.ensures;
+    hint_list = c.hints_at-hs.ensures;
   }
 
-says-18 : tie.Need-returns
-says-18 c = (refused-18 (given c.before.before) c.before.literals-fit.ensures c.if1.true, (refl, refl, refl, left_alone))
+says-18 : tie.Need-returns-then-not-literals_fit
+says-18 c = (refused-18 (given c.before.before) c.literals_fit.ensures c.if-not-literals_fit.true, (refl, refl, refl, left_alone))
 
 -- the literals fit
-module _ (c : tie.Else1) where
-  abbrev lists : tie.After-hints-at
+module _ (c : tie.Else-not-literals_fit) where
+  abbrev lists : tie.After-hints_at-hs
   lists = c.before.before
 
-  fit : literals_fit (length (start (step lists)).args.values.now) (literals_in lists.before.literals-at.result.now) ≡ true
-  fit = sym c.before.literals-fit.ensures ∙ not-false _ c.if1.false
+  fit : literals_fit (length (start (step lists)).args.values.now) (literals_in lists.literals_at-ls.result.now) ≡ true
+  fit = sym c.literals_fit.ensures ∙ not-false _ c.if-not-literals_fit.false
 
-says-19 : tie.Need-returns-2
+says-19 : tie.Need-returns-then-not-hints_fit
 says-19 c =
     let l = c.before.before in
-    (refused-19 (given (lists l)) (fit l) c.before.hints-fit.ensures c.if2.true, (refl, refl, refl, left_alone))
+    (refused-19 (given (lists l)) (fit l) c.hints_fit.ensures c.if-not-hints_fit.true, (refl, refl, refl, left_alone))
 
 -- and so do the hints
-module _ (c : tie.Else2) where
-  abbrev fitting : tie.Else1
+module _ (c : tie.Else-not-hints_fit) where
+  abbrev fitting : tie.Else-not-literals_fit
   fitting = c.before.before
 
-  known : hints_fit ((start (step (lists fitting))).args.filled.clauses + 1) (numbers_in (lists fitting).hints-at.result.now) ≡ true
-  known = sym c.before.hints-fit.ensures ∙ not-false _ c.if2.false
+  known : hints_fit ((start (step (lists fitting))).args.filled.clauses + 1) (numbers_in (lists fitting).hints_at-hs.result.now) ≡ true
+  known = sym c.hints_fit.ensures ∙ not-false _ c.if-not-hints_fit.false
 
-says-12 : tie.Need-returns-3
+says-12 : tie.Need-returns-then-words-used
 says-12 c =
     let k = c.before in
     let l = fitting k in (
-      ⊎_elim (λ w. few_words (given (lists l)) (fit l) (known k) w.taken) (λ w. no-entry (given (lists l)) (fit l) (known k) w.1.taken)
-          c.if3.branch,
+      elim (c.if-words-used.branch) [ then-words-used w ↦ few_words (given (lists l)) (fit l) (known k) w.true | else-words-used w ↦ no-entry (given (lists l)) (fit l) (known k) w.1.true ],
       (refl, refl, refl, left_alone),
     )
 
 -- there is room for the clause
-module _ (c : tie.Else4) where
-  abbrev named : tie.Else2
+module _ (c : tie.Else-starts-count) where
+  abbrev named : tie.Else-not-hints_fit
   named = c.before.before
 
   abbrev first : tie.Start
   first = start (step (lists (fitting named)))
 
   entry : first.args.filled.clauses < length first.args.starts.now
-  entry = entry-room (given (lists (fitting named))) c.if4.false
+  entry = entry-room (given (lists (fitting named))) c.if-starts-count.false
 
-slice-aggregate-follows-rule : tie.Need-slice-aggregate-follows-rule
+slice-aggregate-follows-rule : tie.Need-slice_bounds-follows_rule-end-in-Whole
 slice-aggregate-follows-rule c =
     let s = first c.before in
-    sym (length-take-le s.args.filled.words s.args.words.now s.pre.1.words_room)
+    sym (length-take-le s.args.filled.words-1 s.args.words.now s.requires.1.words_room)
 
-slice-aggregate-follows-rule-2 : tie.Need-slice-aggregate-follows-rule-2
+slice-aggregate-follows-rule-2 : tie.Need-slice_bounds-follows_rule-end-in-Whole-3
 slice-aggregate-follows-rule-2 c =
     let s = first c.before.before in
-    sym (length-take-le s.args.filled.clauses s.args.starts.now s.pre.1.starts_room)
+    sym (length-take-le s.args.filled.clauses s.args.starts.now s.requires.1.starts_room)
 
-follows-rule-requires : tie.Need-follows-rule-requires
+follows-rule-requires : tie.Need-follows_rule-requires
 follows-rule-requires c κs =
     let k = named c.before.before.before.before in
     let s = first c.before.before.before.before in
-    let r = s.pre.1 in (
+    let r = s.requires.1 in (
       r.kept,
       rw (length-take-le s.args.filled.clauses s.args.starts.now r.starts_room) (from-true (known k)),
       from-true (fit (fitting k)),
@@ -123,54 +123,54 @@ follows-rule-requires c κs =
     )
 
 -- the step rule was tried
-module _ (c : tie.After-slice-known5) where
-  abbrev tried : tie.After-follows-rule
+module _ (c : tie.After-slice_known-in-Whole-2-1) where
+  abbrev tried : tie.After-follows_rule
   tried = c.before.before.before.before
 
-  abbrev roomy : tie.Else4
+  abbrev roomy : tie.Else-starts-count
   roomy = tried.before.before.before.before.before
 
-says-20 : tie.Need-returns-4
+says-20 : tie.Need-returns-then-not-follows_rule
 says-20 c =
     let x = roomy c.before in
     let k = named x in
-    let rule = (tried c.before).follows-rule.ensures in (
-      refused-20 (given (lists (fitting k))) (fit (fitting k)) (known k) x.before.if3.left x.if4.left rule.0 c.if5.true,
+    let rule = (tried c.before).follows_rule.ensures in (
+      refused-20 (given (lists (fitting k))) (fit (fitting k)) (known k) x.if-words-used.false x.if-starts-count.false rule.0 c.if-not-follows_rule.true,
       (refl, refl, rule.1, rule.2),
     )
 
-store-clause-requires : tie.Need-store-clause-requires
+store-clause-requires : tie.Need-store_clause-requires
 store-clause-requires c κs =
     let x = roomy c.before.before in
-    words-room (given (lists (fitting (named x)))) x.before.if3.left
+    words-room (given (lists (fitting (named x)))) x.if-words-used.false
 
 -- it holds, and the clause is stored
-module _ (c : tie.After-words) where
-  abbrev ruled : tie.Else5
+module _ (c : tie.After-words-1) where
+  abbrev ruled : tie.Else-not-follows_rule
   ruled = c.before.before.before
 
-mul-starts : tie.Need-overflow-mul-starts
+mul-starts : tie.Need-offset_bounds-starts-count
 mul-starts c =
     let x = roomy (ruled c).before in
     scaled_Fits _ _ 8 (entry x) (first x).good.1.1.1.1.0.1
 
-says-proved : tie.Need-returns-6
+says-proved : tie.Need-returns-else-not-follows_rule
 says-proved c =
     let x = roomy (ruled c).before in
     let k = named x in
-    let rule = (tried (ruled c).before).follows-rule in
-    step-proved (given (lists (fitting k))) (fit (fitting k)) (known k) x.before.if3.left x.if4.left rule.ensures.0
-    (ruled c).if5.false c.before.store-clause.ensures refl rule.ensures.1 rule.kept.1.1.1.1.1.0 rule.ensures.2
+    let rule = (tried (ruled c).before).follows_rule in
+    step-proved (given (lists (fitting k))) (fit (fitting k)) (known k) x.if-words-used.false x.if-starts-count.false rule.ensures.0
+    (ruled c).if-not-follows_rule.false c.store_clause.ensures refl rule.ensures.1 rule.kept.1.1.1.1.1.0 rule.ensures.2
 
-pub check-step-spec : {M : Type 1} → statement M
-check-step-spec =
+pub check_step_spec : {M : Type 1} → statement M
+check_step_spec =
     tie.close
     (tie.spec
     (λ c κs. search rules)
     (λ c. search rules)
     (λ c. search rules)
-    (λ c κs. ((start c.before).pre.0, whole c.before))
-    (λ c κs. ((start c.before.before).pre.0, whole c.before.before))
+    (λ c κs. ((start c.before).requires.0, whole c.before))
+    (λ c κs. ((start c.before.before).requires.0, whole c.before.before))
     (λ c κs. search rules)
     says-18
     (λ c. search rules)

@@ -10,136 +10,136 @@ use lib.ListN.{length, take, drop}
 use Rattle.spec.specs.Refutation.{clauses_of}
 use Rattle.refutation_file.specs.Found.{step_bytes}
 use Rattle.refutation_steps.specs.Checked.{one_more, step_checked, Leaves}
-use Rattle.refutation_steps.specs.declared.one_step_lem.StepAnswer.{StepAnswer}
-use Rattle.refutation_steps.specs.declared.one_step_lem.StepAnswer.TheVariants.{Proved}
+use Rattle.refutation_steps.specs.declared.one_step.StepAnswer.{StepAnswer}
+use Rattle.refutation_steps.specs.declared.one_step.StepAnswer.TheVariants.{Proved}
 use Rattle.refutation_steps.proofs.Along.{Along, sets-out, stopped, next, ended, trailed, went_on, ran_out}
 
-abbrev invariant-loop : tie.invariant-loop
+abbrev invariant-loop : tie.invariant-loop-at
 invariant-loop r words₀ starts₀ values₀ trail₀ filled₀ at₀ step₀ words starts values trail filled at step =
     Along r filled₀ words₀ starts₀ values₀ trail₀ words starts values trail filled at step
 
-abbrev decreases-loop : tie.decreases-loop
+abbrev decreases-loop : tie.decreases-loop-at
 decreases-loop r words₀ starts₀ values₀ trail₀ filled₀ at₀ step₀ words starts values trail filled at step = length r - at
 
 -- behind the check of a step, with the slices at hand again
-module _ (c : tie.After-slice-known6 invariant-loop decreases-loop) where
+module _ (c : tie.After-slice_known-in-loop-at-3-1 invariant-loop decreases-loop) where
   -- the check, the head of the loop, and the function's entry
-  abbrev check : tie.After-check-step invariant-loop decreases-loop
+  abbrev check : tie.After-check_step invariant-loop decreases-loop
   check = c.before.before.before.before.before.before.before
 
-  abbrev head : tie.At-loop invariant-loop decreases-loop
+  abbrev head : tie.At-loop-at invariant-loop decreases-loop
   head = check.before.before.before.before.before.before
 
   abbrev entry : tie.Start invariant-loop decreases-loop
   entry = head.before.before.before.before.before
 
   -- bytes were left
-  some : head.loop.at < length entry.args.r.now
-  some = check.before.before.before.before.before.loop-test.taken
+  some : head.loop-at.at < length entry.args.r.now
+  some = check.loop-at-test.true
 
   -- what the check says where its answer is x: that it is the right one, and what the slices are left with
   abbrev Says : StepAnswer → Type 0
   Says x =
-      let h = head.loop in
-      let l = check.check-step.last.1.1.1 in
+      let h = head.loop-at in
+      let l = check.check_step.last.1.1.1 in
       let s = drop h.at entry.args.r.now in
-      (x ≡ step_checked (length h.words) (length h.starts) (length h.values) (clauses_of (take h.filled.words h.words)) s)
-      × Leaves x s h.filled h.words h.starts h.values h.trail l.0 l.1.0 l.1.1.0 l.1.1.1.0
+      (x ≡ step_checked (length h.words-1) (length h.starts-1) (length h.values-1) (clauses_of (take h.filled.words-1 h.words-1)) s)
+      × Leaves x s h.filled h.words-1 h.starts-1 h.values-1 h.trail-1 l.0 l.1.0 l.1.1.0 l.1.1.1.0
 
-  says : {x : StepAnswer} → check.check-step.result ≡ x → Says x
-  says told = subst Says told check.check-step.ensures
+  says : {x : StepAnswer} → check.check_step.result ≡ x → Says x
+  says told = subst Says told check.check_step.ensures
 
 -- where a step was refused
-returns : tie.Need-returns invariant-loop decreases-loop
+returns : tie.Need-returns-in-Refused invariant-loop decreases-loop
 returns c =
     let n = c.before.before in
     let s = n.before.before in
-    let said = says s n.number.given.1 in
-    stopped (head s).loop.invariant (some s) c.detail-of.ensures said.0 said.1
+    let said = says s n.number-1.given.1 in
+    stopped (head s).loop-at.invariant (some s) c.detail_of.ensures said.0 said.1
 
 -- where it was proved
-module _ (c : tie.After-literals invariant-loop decreases-loop) where
-  abbrev here : tie.After-slice-known6 invariant-loop decreases-loop
+module _ (c : tie.In-Proved-2 invariant-loop decreases-loop) where
+  abbrev here : tie.After-slice_known-in-loop-at-3-1 invariant-loop decreases-loop
   here = c.before.before
 
   abbrev literals : ℕ
-  literals = c.literals.given.0.0
+  literals = c.literals-1.given.0.0
 
   abbrev hints : ℕ
-  hints = c.literals.given.0.1.0
+  hints = c.literals-1.given.0.1.0
 
   said : Says here (Proved literals hints)
-  said = says here c.literals.given.1
+  said = says here c.literals-1.given.1
 
   -- where it ends
-  end : (head here).loop.at + step_bytes literals hints ≤ length (entry here).args.r.now
-  end = next (head here).loop.inv (some here) said.0
+  end : (head here).loop-at.at + step_bytes literals hints ≤ length (entry here).args.r.now
+  end = next (head here).loop-at.invariant (some here) said.0
 
   -- its words and its clause stand in the slices
-  words-room : (one_more (head here).loop.filled literals).words ≤ length (entry here).args.words.now
+  words-room : (one_more (head here).loop-at.filled literals).words-1 ≤ length (entry here).args.words.now
   words-room =
-      let e : length (check here).check-step.last.1.1.1.0 ≡ length (head here).loop.words = search rules in
-      omega (arith, said.1.0.words_room, e, (head here).loop.inv.words_length)
+      let e : length (check here).check_step.last.1.1.1.0 ≡ length (head here).loop-at.words-1 = search rules in
+      omega (arith, said.1.0.words_room, e, (head here).loop-at.invariant.words_length)
 
-  starts-room : (one_more (head here).loop.filled literals).clauses ≤ length (entry here).args.starts.now
+  starts-room : (one_more (head here).loop-at.filled literals).clauses ≤ length (entry here).args.starts.now
   starts-room =
-      let e : length (check here).check-step.last.1.1.1.1.0 ≡ length (head here).loop.starts = search rules in
-      omega (arith, said.1.0.starts_room, e, (head here).loop.inv.starts_length)
+      let e : length (check here).check_step.last.1.1.1.1.0 ≡ length (head here).loop-at.starts-1 = search rules in
+      omega (arith, said.1.0.starts_room, e, (head here).loop-at.invariant.starts_length)
 
 -- the empty step
-returns-2 : tie.Need-returns-2 invariant-loop decreases-loop
+returns-2 : tie.Need-returns-then-at-r invariant-loop decreases-loop
 returns-2 c =
     let e = c.before.before in
     let p = e.before.before in
     let s = here p in
-    ended (head s).loop.inv (some s) (said p).0 (said p).1 c.before.if1.true (sym e.step_end.ensures ∙ c.if2.true)
+    ended (head s).loop-at.invariant (some s) (said p).0 (said p).1 c.if-literals-eq0.true (sym e.step_end-at.ensures ∙ c.if-at-r.true)
 
-returns-3 : tie.Need-returns-3 invariant-loop decreases-loop
+returns-3 : tie.Need-returns-else-at-r invariant-loop decreases-loop
 returns-3 c =
     let e = c.before.before in
     let p = e.before.before in
     let s = here p in
-    trailed (head s).loop.inv (some s) (said p).0 (said p).1 c.before.if1.true (λ k. c.if2.false (e.step_end.ensures ∙ k))
+    trailed (head s).loop-at.invariant (some s) (said p).0 (said p).1 c.if-literals-eq0.true (λ k. c.if-at-r.false (e.step_end-at.ensures ∙ k))
 
 -- a step with literals
-abbrev proved : tie.Else1 invariant-loop decreases-loop → tie.After-literals invariant-loop decreases-loop
+abbrev proved : tie.Else-literals-eq0 invariant-loop decreases-loop → tie.In-Proved-2 invariant-loop decreases-loop
 proved c = c.before.before.before
 
-add-filled-3 : tie.Need-overflow-add-filled-3 invariant-loop decreases-loop
+add-filled-3 : tie.Need-overflow_add-filled-in-Proved-2 invariant-loop decreases-loop
 add-filled-3 c =
     let p = proved c.before.before in
     omega (arith, starts-room p, (entry (here p)).good.1.1.1.0)
 
-add_step : tie.Need-overflow-add-step invariant-loop decreases-loop
+add_step : tie.Need-overflow_add-step invariant-loop decreases-loop
 add_step c =
     let p = proved c.before.before in
-    omega (arith, end p, (head (here p)).loop.inv.steps)
+    omega (arith, end p, (head (here p)).loop-at.invariant.steps)
 
-loop-less : tie.Need-loop-smaller invariant-loop decreases-loop
+loop-less : tie.Need-loop-at-smaller invariant-loop decreases-loop
 loop-less c =
     let x = c.before.before in
-    omega (arith, end (proved x), some (here (proved x)), x.before.step_end.ensures)
+    omega (arith, end (proved x), some (here (proved x)), x.step_end-at.ensures)
 
-loop-again : tie.Need-loop-preserved invariant-loop decreases-loop
+loop-again : tie.Need-loop-at-preserved invariant-loop decreases-loop
 loop-again c =
     let x = c.before.before in
     let p = proved x in
     let s = here p in
-    went_on (head s).loop.inv (some s) (said p).0 (said p).1 x.if1.false x.before.step_end.ensures (search rules) (search rules)
+    went_on (head s).loop-at.invariant (some s) (said p).0 (said p).1 x.if-literals-eq0.false x.step_end-at.ensures (search rules) (search rules)
     (search rules) (search rules)
 
 -- no step is left
-returns-4 : tie.Need-returns-4 invariant-loop decreases-loop
-returns-4 c = ran_out c.before.loop.invariant c.loop-test.false
+returns-4 : tie.Need-returns invariant-loop decreases-loop
+returns-4 c = ran_out c.loop-at.invariant c.loop-at-test.false
 
-pub check-steps-spec : {M : Type 1} → statement M
-check-steps-spec =
+pub check_steps_spec : {M : Type 1} → statement M
+check_steps_spec =
     tie.close
     (tie.spec
     invariant-loop
     decreases-loop
-    (λ c. sets-out _ c.before.before.before.before.requires)
-    (λ c κs. let known = c.before.before.before.before.before.loop.invariant in (known.within, known.ready))
+    (λ c. sets-out _ c.requires)
+    (λ c κs. let known = c.loop-at.invariant in (known.within, known.ready))
     (λ c. search rules)
     (λ c κs. search rules)
     (λ c. search rules)

@@ -6,13 +6,13 @@ use Rattle.spec.specs.Refutation.{step_detail}
 use Rattle.refutation_steps.proofs.step_list.detail_of.Statement.{statement}
 use Rattle.refutation_steps.proofs.step_list.detail_of.Tie as tie
 
-returns : tie.Need-returns
+returns : tie.Need-returns-then-number-eq12
 unfolding step_detail
-returns c = ap (λ (t : Bool). cond t 0 c.before.args.step) (sym (eq-eqb _ _ c.if1.true))
+returns c = ap (λ (t : Bool). cond t 0 c.args.step) (sym (eq-eqb _ _ c.if-number-eq12.true))
 
-returns-2 : tie.Need-returns-2
+returns-2 : tie.Need-returns-else-number-eq12
 unfolding step_detail
-returns-2 c = ap (λ (t : Bool). cond t 0 c.before.args.step) (sym (ne_eqb _ _ c.if1.false))
+returns-2 c = ap (λ (t : Bool). cond t 0 c.args.step) (sym (ne_eqb _ _ c.if-number-eq12.false))
 
-pub detail-of-spec : {M : Type 1} → statement M
-detail-of-spec = tie.close (tie.spec returns returns-2)
+pub detail_of_spec : {M : Type 1} → statement M
+detail_of_spec = tie.close (tie.spec returns returns-2)

@@ -16,25 +16,25 @@ use Rattle.sections.proofs.Labelled.{Labelled, labelled-start, labelled-meets, l
 use Rattle.sections.proofs.labels.label_sections.Statement.{statement}
 use Rattle.sections.proofs.labels.label_sections.Tie as tie
 
-abbrev invariant-loop : tie.invariant-loop
+abbrev invariant-loop : tie.invariant-loop-at
 invariant-loop b meets borders labels₀ end at₀ labels at = (at ≤ end) × Labelled b (borders_of borders) meets at labels₀ labels
 
-abbrev decreases-loop : tie.decreases-loop
+abbrev decreases-loop : tie.decreases-loop-at
 decreases-loop b meets borders labels₀ end at₀ labels at = end - at
 
-number-labels-requires : tie.Need-number-labels-requires invariant-loop decreases-loop
+number-labels-requires : tie.Need-number_labels-requires invariant-loop decreases-loop
 number-labels-requires c κs =
     let g = c.before.before.before.before in
     omega (arith, g.requires.0.packed.counts.segments, g.requires.3)
 
-loop-holds : tie.Need-loop-init invariant-loop decreases-loop
+loop-holds : tie.Need-loop-at-init invariant-loop decreases-loop
 loop-holds c =
     let d = c.before.before in
     let g = d.before.before.before.before.before in
-    (omega arith, labelled-start g.args.b g.requires.0 _ _ g.requires.1 _ _ g.requires.3 d.number-labels.ensures)
+    (omega arith, labelled-start g.args.b g.requires.0 _ _ g.requires.1 _ _ g.requires.3 d.number_labels.ensures)
 
 -- a turn
-module _ (c : tie.In-loop invariant-loop decreases-loop) where
+module _ (c : tie.In-loop-at invariant-loop decreases-loop) where
   abbrev given : tie.Start invariant-loop decreases-loop
   given = c.before.before.before.before.before.before.before.before.before
 
@@ -42,70 +42,70 @@ module _ (c : tie.In-loop invariant-loop decreases-loop) where
   meets = given.args.meets.now
 
   abbrev at : ℕ
-  at = c.before.loop.at
+  at = c.loop-at.at
 
   room : at + 2 < length meets
-  room = omega (arith, c.loop-test.true, c.loop-test.true)
+  room = omega (arith, c.loop-at-test.true, c.loop-at-test.true)
 
   met : (get_or meets at 0 < given.args.b.node_count) × (get_or meets (at + 1) 0 < given.args.b.segment_count)
       × (get_or meets (at + 2) 0 < given.args.b.segment_count)
   met =
-      labelled-meets given.args.b given.pre.0 _ meets given.pre.1 at _ _ c.before.loop.invariant.1
-      c.loop-test.true
+      labelled-meets given.args.b given.requires.0 _ meets given.requires.1 at _ _ c.loop-at.invariant.1
+      c.loop-at-test.true
 
-shared-slice-read-if1 : tie.Need-shared-slice-read-if1 invariant-loop decreases-loop
+shared-slice-read-if1 : tie.Need-bounds-borders-node invariant-loop decreases-loop
 shared-slice-read-if1 c =
     let d = c.before.before.before in
-    omega (arith, (met d).0, (given d).requires.2, c.before.wide.ensures.0)
+    omega (arith, (met d).0, (given d).requires.2, c.wide-node.ensures.0)
 
 join-requires : tie.Need-join-requires invariant-loop decreases-loop
 join-requires c κs =
     let d = c.before.before.before.before.before.before.before.before.before in (
-      omega (arith, (given d).requires.0.packed.counts.segments, d.before.loop.invariant.1.size),
-      omega (arith, (met d).1, c.before.before.wide2.ensures.0),
-      omega (arith, (met d).2, c.wide3.ensures.0),
+      omega (arith, (given d).requires.0.packed.counts.segments, d.loop-at.invariant.1.size),
+      omega (arith, (met d).1, c.wide.ensures.0),
+      omega (arith, (met d).2, c.wide-then-borders-node-ne1.ensures.0),
     )
 
 -- a turn joins two sections where the node is no border
-module _ (c : tie.Joined1 invariant-loop decreases-loop) where
-  abbrev inside : tie.In-loop invariant-loop decreases-loop
+module _ (c : tie.Joined-borders-node-ne1 invariant-loop decreases-loop) where
+  abbrev inside : tie.In-loop-at invariant-loop decreases-loop
   inside = c.before.before.before.before
 
   abbrev start : tie.Start invariant-loop decreases-loop
   start = given inside
 
   -- the node's test is the one of the table's byte
-  node-is : (x : Bool) → eqb (get_or start.args.borders.now c.before.before.wide.result 0) 1 ≡ x
+  node-is : (x : Bool) → eqb (get_or start.args.borders.now c.wide-node.result 0) 1 ≡ x
       → borders_of start.args.borders.now (get_or (meets inside) (at inside) 0) ≡ x
-  node-is x e = rw (← c.before.before.wide.ensures.0) e
+  node-is x e = rw (← c.wide-node.ensures.0) e
 
   turn : Labelled start.args.b (borders_of start.args.borders.now) (meets inside) (at inside + 3)
-      inside.before.before.before.before.number-labels.last.0 c.if1.labels
+      inside.number_labels.last.0 c.if-borders-node-ne1.labels-1
   turn =
-      let i = inside.before.loop.inv.1 in
-      let t = inside.loop-test.taken in
+      let i = inside.loop-at.invariant.1 in
+      let t = inside.loop-at-test.true in
       ⊎_elim
       (λ w.
-      labelled-open start.args.b start.pre.0 _ _ start.pre.1 (at inside) _ _ i t
-      (from-denied (node-is _ (ne_eqb _ _ w.0.taken))) _ _ _ w.3.ensures.0 w.5.ensures.0 (w.9 ∙ w.6.ensures))
+      labelled-open start.args.b start.requires.0 _ _ start.requires.1 (at inside) _ _ i t
+      (from-denied (node-is _ (ne_eqb _ _ w.0.true))) _ _ _ w.3.ensures.0 w.5.ensures.0 (w.9 ∙ w.6.ensures))
       (λ w.
-      labelled-border start.args.b start.pre.0 _ _ start.pre.1 (at inside) _ _ i t
+      labelled-border start.args.b start.requires.0 _ _ start.requires.1 (at inside) _ _ i t
       (from-true (node-is _ (eq-eqb _ _ w.0.left))) _ w.1)
-      c.if1.branch
+      c.if-borders-node-ne1.branch
 
-same_length : tie.Need-same-length invariant-loop decreases-loop
+same_length : tie.Need-shape_of-labels invariant-loop decreases-loop
 same_length c =
-    c.before.loop.invariant.1.size ∙ sym c.before.before.before.before.before.before.before.before.before.requires.3
+    c.loop-at.invariant.1.size ∙ sym c.requires.3
 
 returns : tie.Need-returns invariant-loop decreases-loop
 returns c =
     let d = c.before.before.before.before in
     let g = d.before.before.before.before.before in
-    labelled-end g.args.b g.requires.0 _ _ g.requires.1 _ _ g.requires.3 d.number-labels.ensures
-    _ _ c.before.loop.invariant.1 c.loop-test.false
+    labelled-end g.args.b g.requires.0 _ _ g.requires.1 _ _ g.requires.3 d.number_labels.ensures
+    _ _ c.loop-at.invariant.1 c.loop-at-test.false
 
-pub label-sections-spec : {M : Type 1} → statement M
-label-sections-spec =
+pub label_sections_spec : {M : Type 1} → statement M
+label_sections_spec =
     tie.close
     (tie.spec
     invariant-loop

@@ -13,34 +13,34 @@ use Rattle.sections.proofs.Stored.{stored, stored_next, read_behind}
 use Rattle.sections.proofs.labels.merge.Statement.{statement}
 use Rattle.sections.proofs.labels.merge.Tie as tie
 
-abbrev invariant-loop : tie.invariant-loop
+abbrev invariant-loop : tie.invariant-loop-s
 invariant-loop labels₀ segments from to s₀ labels s =
     (s ≤ segments) × (length labels ≡ length labels₀)
     × (labels ≡ sets labels₀ 0 (map (λ x. merged_label from to (get_or labels₀ x 0)) (up_to s)))
 
-abbrev decreases-loop : tie.decreases-loop
+abbrev decreases-loop : tie.decreases-loop-s
 decreases-loop labels₀ segments from to s₀ labels s = segments - s
 
-loop-holds : tie.Need-loop-init invariant-loop decreases-loop
+loop-holds : tie.Need-loop-s-init invariant-loop decreases-loop
 unfolding up_to count
 loop-holds c = (omega arith, refl, refl)
 
-loop-again : tie.Need-loop-preserved invariant-loop decreases-loop
+loop-again : tie.Need-loop-s-preserved invariant-loop decreases-loop
 loop-again c =
     let k = c.before.before.before in
-    let a = k.before.before.args in
-    let i = k.loop.invariant in
-    let same = read_behind k.loop.s a.labels.now _ (stored _ k.loop.s _ (omega arith) _ i.2).behind in
-    let label = c.merged-label.ensures ∙ ap (merged_label a.from a.to) same in
-    (omega arith, simp length-set i.1, stored_next _ k.loop.s _ _ _ i.2 label)
+    let a = k.args in
+    let i = k.loop-s.invariant in
+    let same = read_behind k.loop-s.s a.labels.now _ (stored _ k.loop-s.s _ (omega arith) _ i.2).behind in
+    let label = c.merged_label.ensures ∙ ap (merged_label a.from a.to) same in
+    (omega arith, simp length-set i.1, stored_next _ k.loop-s.s _ _ _ i.2 label)
 
 returns : tie.Need-returns invariant-loop decreases-loop
 returns c =
-    let e : c.before.loop.s ≡ c.before.before.before.args.segments = omega arith in
-    rw e at c.before.loop.invariant.2
+    let e : c.loop-s.s ≡ c.args.segments = omega arith in
+    rw e at c.loop-s.invariant.2
 
-pub merge-spec : {M : Type 1} → statement M
-merge-spec =
+pub merge_spec : {M : Type 1} → statement M
+merge_spec =
     tie.close
     (tie.spec
     invariant-loop
@@ -54,5 +54,5 @@ merge-spec =
     (λ c. omega arith)
     (λ c. omega arith)
     loop-again
-    (λ c. c.before.loop.invariant.1)
+    (λ c. c.loop-s.invariant.1)
     returns)

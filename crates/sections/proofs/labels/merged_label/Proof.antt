@@ -5,13 +5,13 @@ use Rattle.sections.specs.Labels.{merged_label}
 use Rattle.sections.proofs.labels.merged_label.Statement.{statement}
 use Rattle.sections.proofs.labels.merged_label.Tie as tie
 
-returns : tie.Need-returns
+returns : tie.Need-returns-then-label-from
 unfolding merged_label
-returns c = sym (simp (eq-eqb _ _ c.if1.true))
+returns c = sym (simp (eq-eqb _ _ c.if-label-from.true))
 
-returns-2 : tie.Need-returns-2
+returns-2 : tie.Need-returns-else-label-from
 unfolding merged_label
-returns-2 c = sym (simp (ne_eqb _ _ c.if1.false))
+returns-2 c = sym (simp (ne_eqb _ _ c.if-label-from.false))
 
-pub merged-label-spec : {M : Type 1} → statement M
-merged-label-spec = tie.close (tie.spec returns returns-2)
+pub merged_label_spec : {M : Type 1} → statement M
+merged_label_spec = tie.close (tie.spec returns returns-2)

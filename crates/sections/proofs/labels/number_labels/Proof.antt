@@ -11,29 +11,29 @@ use Rattle.sections.proofs.Stored.{stored_next}
 use Rattle.sections.proofs.labels.number_labels.Statement.{statement}
 use Rattle.sections.proofs.labels.number_labels.Tie as tie
 
-abbrev invariant-loop : tie.invariant-loop
+abbrev invariant-loop : tie.invariant-loop-s
 invariant-loop labels₀ segments s₀ labels s =
     (s ≤ segments) × (length labels ≡ length labels₀) × (labels ≡ sets labels₀ 0 (map (λ x. x) (up_to s)))
 
-abbrev decreases-loop : tie.decreases-loop
+abbrev decreases-loop : tie.decreases-loop-s
 decreases-loop labels₀ segments s₀ labels s = segments - s
 
-loop-holds : tie.Need-loop-init invariant-loop decreases-loop
+loop-holds : tie.Need-loop-s-init invariant-loop decreases-loop
 unfolding up_to count
 loop-holds c = (omega arith, refl, refl)
 
-loop-again : tie.Need-loop-preserved invariant-loop decreases-loop
+loop-again : tie.Need-loop-s-preserved invariant-loop decreases-loop
 loop-again c =
-    let i = c.before.loop.invariant in
+    let i = c.loop-s.invariant in
     (omega arith, simp length-set i.1, stored_next _ _ _ _ _ i.2 refl)
 
 returns : tie.Need-returns invariant-loop decreases-loop
 returns c =
-    let e : c.before.loop.s ≡ c.before.before.args.segments = omega arith in
-    rw e at c.before.loop.invariant.2
+    let e : c.loop-s.s ≡ c.args.segments = omega arith in
+    rw e at c.loop-s.invariant.2
 
-pub number-labels-spec : {M : Type 1} → statement M
-number-labels-spec =
+pub number_labels_spec : {M : Type 1} → statement M
+number_labels_spec =
     tie.close
     (tie.spec
     invariant-loop
@@ -44,5 +44,5 @@ number-labels-spec =
     (λ c. omega arith)
     (λ c. omega arith)
     loop-again
-    (λ c. c.before.loop.invariant.1)
+    (λ c. c.loop-s.invariant.1)
     returns)

@@ -15,16 +15,16 @@ use Rattle.tables.proofs.Links.{links_at}
 use Rattle.tables.proofs.chains.chain_runs.Statement.{statement}
 use Rattle.tables.proofs.chains.chain_runs.Tie as tie
 
-abbrev invariant-loop : tie.invariant-loop
+abbrev invariant-loop : tie.invariant-loop-r
 invariant-loop runs l n chains₀ r₀ chains r =
     (r ≤ n) × (length chains ≡ train_chains) × (chains ≡ sets chains₀ 0 (each (up_to r) (links_at runs l n)))
 
-abbrev decreases-loop : tie.decreases-loop
+abbrev decreases-loop : tie.decreases-loop-r
 decreases-loop runs l n chains₀ r₀ chains r = n - r
 
-loop-holds : tie.Need-loop-init invariant-loop decreases-loop
+loop-holds : tie.Need-loop-r-init invariant-loop decreases-loop
 unfolding up_to count each
-loop-holds c = (omega arith, c.before.before.requires.1, refl)
+loop-holds c = (omega arith, c.requires.1, refl)
 
 -- the two numbers of a run are stored behind those before it
 stored : (f : ℕ → List ℕ) (old table : List ℕ) (r a b : ℕ) → ((i : ℕ) → length (f i) ≡ 2) → a ∷ one b ≡ f r
@@ -41,43 +41,43 @@ stored f old table r a b two e h =
     ∙ ap (sets old 0) (append_assoc xs (one a) (one b) ∙ ap (λ (l : List ℕ). xs ++ l) e ∙ sym (each_next f r))
 
 -- a turn
-module _ (c : tie.In-loop invariant-loop decreases-loop) where
+module _ (c : tie.In-loop-r invariant-loop decreases-loop) where
   abbrev start : tie.Start invariant-loop decreases-loop
   start = c.before.before.before.before
 
   abbrev r : ℕ
-  r = c.before.loop.r
+  r = c.loop-r.r
 
-first-follower-requires : tie.Need-first-follower-requires invariant-loop decreases-loop
+first-follower-requires : tie.Need-first_follower-requires invariant-loop decreases-loop
 first-follower-requires c κs =
     let p = (start c).requires in
-    let t = c.loop-test.true in
+    let t = c.loop-r-test.true in
     (p.0, t, p.2, p.3 _ t, p.4 _ t)
 
-next-alike-requires : tie.Need-next-alike-requires invariant-loop decreases-loop
+next-alike-requires : tie.Need-next_alike-requires invariant-loop decreases-loop
 next-alike-requires c κs =
-    let p = (start c.before).pre in
-    let t = c.before.loop-test.true in
+    let p = (start c.before).requires in
+    let t = c.loop-r-test.true in
     (p.0, t, p.2, omega (arith, p.3 _ t, p.4 _ t))
 
-loop-again : tie.Need-loop-preserved invariant-loop decreases-loop
+loop-again : tie.Need-loop-r-preserved invariant-loop decreases-loop
 loop-again c =
     let t = c.before.before in
     let a = (start t).args in
-    let v = t.before.loop.invariant in (
-      omega (arith, t.loop-test.true),
+    let v = t.loop-r.invariant in (
+      omega (arith, t.loop-r-test.true),
       simp length-set v.1,
       stored (links_at a.runs.now a.l a.n) _ _ (r t) _ _ (λ _. refl)
-          (ap₂ (λ (first next : ℕ). first ∷ one next) c.before.first-follower.ensures c.next-alike.ensures) v.2,
+          (ap₂ (λ (first next : ℕ). first ∷ one next) c.first_follower.ensures c.next_alike.ensures) v.2,
     )
 
 returns : tie.Need-returns invariant-loop decreases-loop
 returns c =
-    let e : c.before.loop.r ≡ c.before.before.before.before.args.n = omega arith in
-    rw e at c.before.loop.invariant.2
+    let e : c.loop-r.r ≡ c.args.n = omega arith in
+    rw e at c.loop-r.invariant.2
 
-pub chain-runs-spec : {M : Type 1} → statement M
-chain-runs-spec =
+pub chain_runs_spec : {M : Type 1} → statement M
+chain_runs_spec =
     tie.close
     (tie.spec
     invariant-loop
@@ -95,5 +95,5 @@ chain-runs-spec =
     (λ c. omega arith)
     (λ c. omega arith)
     loop-again
-    (λ c. c.before.loop.invariant.1 ∙ sym c.before.before.before.before.requires.1)
+    (λ c. c.loop-r.invariant.1 ∙ sym c.requires.1)
     returns)

@@ -12,22 +12,22 @@ use Rattle.tables.proofs.Links.{links-are}
 use Rattle.tables.proofs.chains.chain_train.Statement.{statement}
 use Rattle.tables.proofs.chains.chain_train.Tie as tie
 
-module _ (c : tie.After-length-in-segments) where
+module _ (c : tie.After-length_in_segments-l) where
   abbrev start : tie.Start
   start = c.before.before.before.before
 
-  reached : (c.length-in-segments.result ≡ train_length (held start.args.t1) start.args.train)
-      × (c.length-in-segments.result ≤ 8)
-  reached = length-here start.args.t1 start.pre.0 start.args.train start.pre.1 c.length-in-segments.ensures
+  reached : (c.length_in_segments-l.result ≡ train_length (held start.args.b) start.args.train)
+      × (c.length_in_segments-l.result ≤ 8)
+  reached = length-here start.args.b start.requires.0 start.args.train start.requires.1 c.length_in_segments-l.ensures
 
-length-in-segments-requires : tie.Need-length-in-segments-requires
+length-in-segments-requires : tie.Need-length_in_segments-l-requires
 length-in-segments-requires c κs =
     let s = c.before.before.before in
-    length-asks s.args.t1 s.requires.0 s.args.train s.requires.1
+    length-asks s.args.b s.requires.0 s.args.train s.requires.1
 
-chain-runs-requires : tie.Need-chain-runs-requires
+chain-runs-requires : tie.Need-chain_runs-requires
 chain-runs-requires c κs =
-    let p = (start c.before).pre in
+    let p = (start c.before).requires in
     let h = p.3 in
     (h.long, p.4, few-n h _ p.2, least-n h _ p.2 _ (reached c.before).0, sizes-n h _ p.2)
 
@@ -38,8 +38,8 @@ returns c =
     let p = (start m).requires in
     f.Chain-runs.ensures ∙ ap (sets (start m).args.chains.now 0) (links-are p.3 p.2 (reached m).0)
 
-pub chain-train-spec : {M : Type 1} → statement M
-chain-train-spec =
+pub chain_train_spec : {M : Type 1} → statement M
+chain_train_spec =
     tie.close
     (tie.spec
     (λ c. search rules)

@@ -19,66 +19,66 @@ use Rattle.tables.proofs.chains.chain_trains.Tie as tie
 abbrev turned : BookStruct → ℕ → List ℕ → List ℕ
 turned b i old = sets old 0 (chains_of (held b) i)
 
-abbrev invariant-loop : tie.invariant-loop
+abbrev invariant-loop : tie.invariant-loop-i
 invariant-loop b runs chains₀ counts n i₀ chains i =
     (i ≤ n) × (length chains ≡ all_chains) × (chains ≡ filled (turned b) train_chains i chains₀)
 
-abbrev decreases-loop : tie.decreases-loop
+abbrev decreases-loop : tie.decreases-loop-i
 decreases-loop b runs chains₀ counts n i₀ chains i = n - i
 
-loop-holds : tie.Need-loop-init invariant-loop decreases-loop
+loop-holds : tie.Need-loop-i-init invariant-loop decreases-loop
 unfolding filled
-loop-holds c = (omega arith, c.before.before.requires.1, refl)
+loop-holds c = (omega arith, c.requires.1, refl)
 
 -- a turn
-module _ (c : tie.In-loop invariant-loop decreases-loop) where
+module _ (c : tie.In-loop-i invariant-loop decreases-loop) where
   abbrev start : tie.Start invariant-loop decreases-loop
   start = c.before.before.before.before
 
   abbrev i : ℕ
-  i = c.before.loop.i
+  i = c.loop-i.i
 
   few : i < 8
-  few = omega (arith, c.loop-test.true, start.pre.0.counted.passed.packed.counts.trains)
+  few = omega (arith, c.loop-i-test.true, start.requires.0.counted.passed.packed.counts.trains)
 
   -- its parts are inside the tables
   runs_fit : i * train_bytes + train_bytes ≤ length start.args.runs.now
-  runs_fit = omega (arith, few, start.pre.0.long)
+  runs_fit = omega (arith, few, start.requires.0.long)
 
-  chains-fit : i * train_chains + train_chains ≤ length c.before.loop.chains
-  chains-fit = omega (arith, few, c.before.loop.invariant.1)
+  chains-fit : i * train_chains + train_chains ≤ length c.loop-i.chains-1
+  chains-fit = omega (arith, few, c.loop-i.invariant.1)
 
-chain-train-requires : tie.Need-chain-train-requires invariant-loop decreases-loop
+chain-train-requires : tie.Need-chain_train-requires invariant-loop decreases-loop
 chain-train-requires c κs =
     let t = c.before.before in
     let s = start t in
-    let test = t.loop-test.true in
+    let test = t.loop-i-test.true in
     let at = i t * train_chains in (
-      s.pre.0.counted.passed,
+      s.requires.0.counted.passed,
       test,
-      s.pre.0.counted.runs (i t) test,
-      runs-lent (i t) test s.pre.0,
-      mid_len at (at + train_chains) t.before.loop.chains (chains-fit t) ∙ omega arith,
+      s.requires.0.counted.runs (i t) test,
+      runs-lent (i t) test s.requires.0,
+      mid_len at (at + train_chains) t.loop-i.chains-1 (chains-fit t) ∙ omega arith,
     )
 
-loop-again : tie.Need-loop-preserved invariant-loop decreases-loop
+loop-again : tie.Need-loop-i-preserved invariant-loop decreases-loop
 loop-again c =
     let f = c.before.before in
     let t = f.before.before.before in
-    let v = t.before.loop.invariant in (
-      omega (arith, t.loop-test.true),
-      length-next train_chains (i t) t.before.loop.chains f.chain-train.new.1.1.1.1.0 f.chain-train.auto.1.1.1.1.0
+    let v = t.loop-i.invariant in (
+      omega (arith, t.loop-i-test.true),
+      length-next train_chains (i t) t.loop-i.chains-1 f.chain_train.new.1.1.1.1.0 f.chain_train.auto.1.1.1.1.0
           ∙ v.1,
-      filled_next (turned (start t).args.b) train_chains (i t) _ _ _ (chains-fit t) v.2 f.chain-train.ensures,
+      filled_next (turned (start t).args.b) train_chains (i t) _ _ _ (chains-fit t) v.2 f.chain_train.ensures,
     )
 
 returns : tie.Need-returns invariant-loop decreases-loop
 returns c =
-    let e : c.before.loop.i ≡ c.before.before.before.before.args.b.train_count = omega arith in
-    rw e at c.before.loop.invariant.2
+    let e : c.loop-i.i ≡ c.args.b.train_count = omega arith in
+    rw e at c.loop-i.invariant.2
 
-pub chain-trains-spec : {M : Type 1} → statement M
-chain-trains-spec =
+pub chain_trains_spec : {M : Type 1} → statement M
+chain_trains_spec =
     tie.close
     (tie.spec
     invariant-loop
@@ -99,7 +99,7 @@ chain-trains-spec =
     (λ c. omega (arith, chains-fit c.before))
     chain-train-requires
     (λ c. omega (arith, few c.before.before.before.before.before))
-    (λ c. omega (arith, c.before.before.before.before.before.loop-test.true))
+    (λ c. omega (arith, c.loop-i-test.true))
     loop-again
-    (λ c. c.before.loop.invariant.1 ∙ sym c.before.before.before.before.requires.1)
+    (λ c. c.loop-i.invariant.1 ∙ sym c.requires.1)
     returns)

@@ -17,52 +17,52 @@ use Rattle.tables.proofs.MeetRows.{of_none, firsts-most, meets_at_lem}
 use Rattle.tables.proofs.meets.list_at.Statement.{statement}
 use Rattle.tables.proofs.meets.list_at.Tie as tie
 
-abbrev invariant-loop : tie.invariant-loop
+abbrev invariant-loop : tie.invariant-loop-s
 invariant-loop node table₀ at b n end₀ s₀ table end s =
     (s ≤ n) × (end ≤ at + s * 192) × Listed (meets_of (instance_of (held b)) node) table₀ at s table end
 
-abbrev decreases-loop : tie.decreases-loop
+abbrev decreases-loop : tie.decreases-loop-s
 decreases-loop node table₀ at b n end₀ s₀ table end s = n - s
 
-full : (c : tie.Start invariant-loop decreases-loop) → length c.args.t1.segments ≡ 64
+full : (c : tie.Start invariant-loop decreases-loop) → length c.args.b.segments ≡ 64
 full c = search (rules, length-of-map)
 
 -- a turn lists what meets one segment
-module _ (c : tie.Joined1 invariant-loop decreases-loop) where
+module _ (c : tie.Joined-touches invariant-loop decreases-loop) where
   abbrev given : tie.Start invariant-loop decreases-loop
   given = c.before.before.before.before.before.before
 
   abbrev s : ℕ
-  s = c.before.before.before.before.loop.s
+  s = c.loop-s.s
 
-  turn : Listed (meets_of (instance_of (held given.args.t1)) given.args.node) given.args.table.now given.args.at
-      (s + 1) c.if1.table c.if1.end
+  turn : Listed (meets_of (instance_of (held given.args.b)) given.args.node) given.args.table.now given.args.at
+      (s + 1) c.if-touches.table-1 c.if-touches.end
   turn =
       let a = given.args in
-      let before = c.before.before.before.before.loop in
-      let place = segment-at a.t1 s c.before.before.before.loop-test.true in
+      let before = c.loop-s in
+      let place = segment-at a.t1 s c.loop-s-test.true in
       ⊎_elim
       (λ w. listed_next _ _ _ before.invariant.2 (w.6 ∙ w.2.ensures.0) (w.5 ∙ w.2.ensures.1))
       (λ w.
-      let off = ap (λ (x : Segment). touches x a.node) place ∙ sym c.before.touches.ensures ∙ w.0.left in
+      let off = ap (λ (x : Segment). touches x a.node) place ∙ sym c.touches.ensures ∙ w.0.left in
       listed_same _ _ _ before.invariant.2 (of_none (held a.t1) a.node s off) w.2 w.1)
-      c.if1.branch
+      c.if-touches.branch
 
-loop-again : tie.Need-loop-preserved invariant-loop decreases-loop
+loop-again : tie.Need-loop-s-preserved invariant-loop decreases-loop
 loop-again c =
     let g = given c in
     let l = turn c in
-    (omega arith, omega (arith, l.ends, firsts-most g.args.t1 g.pre.0 (full g) g.args.node (s c + 1)), l)
+    (omega arith, omega (arith, l.ends, firsts-most g.args.b g.requires.0 (full g) g.args.node (s c + 1)), l)
 
 returns : tie.Need-returns invariant-loop decreases-loop
 returns c =
     let k = c.before in
     let g = k.before.before in
-    let done : k.loop.s ≡ g.args.t1.segment_count = omega arith in
-    listed-all _ _ _ k.loop.invariant.2 done (meets_at_lem g.args.t1 g.requires.0 (full g) g.args.node)
+    let done : k.loop-s.s ≡ g.args.b.segment_count = omega arith in
+    listed-all _ _ _ k.loop-s.invariant.2 done (meets_at_lem g.args.b g.requires.0 (full g) g.args.node)
 
-pub list-at-spec : {M : Type 1} → statement M
-list-at-spec =
+pub list_at_spec : {M : Type 1} → statement M
+list_at_spec =
     tie.close
     (tie.spec
     invariant-loop
@@ -75,5 +75,5 @@ list-at-spec =
     (λ c. omega arith)
     (λ c. omega arith)
     loop-again
-    (λ c. listed-length _ _ _ c.before.loop.invariant.2)
+    (λ c. listed-length _ _ _ c.loop-s.invariant.2)
     returns)

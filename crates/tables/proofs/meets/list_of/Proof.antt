@@ -15,42 +15,42 @@ use Rattle.tables.proofs.MeetRows.{pair, pair-listed, pair-none, pairs-most, mee
 use Rattle.tables.proofs.meets.list_of.Statement.{statement}
 use Rattle.tables.proofs.meets.list_of.Tie as tie
 
-abbrev invariant-loop : tie.invariant-loop
+abbrev invariant-loop : tie.invariant-loop-u
 invariant-loop node s table₀ at b n first end₀ u₀ table end u = (u ≤ n) × (end ≤ at + u * 3) × Listed (pair (held b) node s) table₀ at u table end
 
-abbrev decreases-loop : tie.decreases-loop
+abbrev decreases-loop : tie.decreases-loop-u
 decreases-loop node s table₀ at b n first end₀ u₀ table end u = n - u
 
-full : (c : tie.Start invariant-loop decreases-loop) → length c.args.t1.segments ≡ 64
+full : (c : tie.Start invariant-loop decreases-loop) → length c.args.b.segments ≡ 64
 full c = search (rules, length-of-map)
 
 -- a turn lists the pair where it meets
-module _ (c : tie.Joined1 invariant-loop decreases-loop) where
+module _ (c : tie.Joined-meet invariant-loop decreases-loop) where
   abbrev given : tie.Start invariant-loop decreases-loop
   given = c.before.before.before.before.before.before.before
 
   abbrev u : ℕ
-  u = c.before.before.before.before.loop.u
+  u = c.loop-u.u
 
-  turn : Listed (pair (held given.args.t1) given.args.node given.args.s) given.args.table.now given.args.at
-      (u + 1) c.if1.table c.if1.end
+  turn : Listed (pair (held given.args.b) given.args.node given.args.s) given.args.table.now given.args.at
+      (u + 1) c.if-meet.table-1 c.if-meet.end
   turn =
       let a = given.args in
-      let before = c.before.before.before.before.loop in
-      let room = c.before.before.before.loop-test.true in
-      let flag = share-at a.t1 a.node a.s u given.pre.2 room c.before.meet.ensures in
+      let before = c.loop-u in
+      let room = c.loop-u-test.true in
+      let flag = share-at a.t1 a.node a.s u given.requires.2 room c.meet.ensures in
       ⊎_elim
       (λ w.
-      let row = pair-listed (held a.t1) a.node a.s u flag w.0.taken in
+      let row = pair-listed (held a.t1) a.node a.s u flag w.0.true in
       let first = w.2.ensures in
       let second = w.6.ensures ∙ ap (λ (t : Bytes). set t (before.end + 1) a.s) first in
       let third = w.10.ensures ∙ ap (λ (t : Bytes). set t (before.end + 2) u) second in
       listed_next _ _ _ before.invariant.2 (rw row w.14)
-      (rw row (w.13 ∙ third ∙ stored-three before.table before.end a.node a.s u)))
+      (rw row (w.13 ∙ third ∙ stored-three before.table-1 before.end a.node a.s u)))
       (λ w. listed_same _ _ _ before.invariant.2 (pair-none (held a.t1) a.node a.s u flag w.0.left) w.2 w.1)
-      c.if1.branch
+      c.if-meet.branch
 
-loop-again : tie.Need-loop-preserved invariant-loop decreases-loop
+loop-again : tie.Need-loop-u-preserved invariant-loop decreases-loop
 loop-again c =
     let a = (given c).args in
     let l = turn c in
@@ -61,11 +61,11 @@ returns c =
     let k = c.before in
     let g = k.before.before.before in
     let a = g.args in
-    let done : k.loop.u ≡ a.t1.segment_count = omega arith in
-    listed-all _ _ _ k.loop.invariant.2 done (meets-of a.t1 g.requires.0 (full g) a.node a.s)
+    let done : k.loop-u.u ≡ a.t1.segment_count = omega arith in
+    listed-all _ _ _ k.loop-u.invariant.2 done (meets-of a.t1 g.requires.0 (full g) a.node a.s)
 
-pub list-of-spec : {M : Type 1} → statement M
-list-of-spec =
+pub list_of_spec : {M : Type 1} → statement M
+list_of_spec =
     tie.close
     (tie.spec
     invariant-loop
@@ -85,5 +85,5 @@ list-of-spec =
     (λ c. omega arith)
     (λ c. omega arith)
     loop-again
-    (λ c. listed-length _ _ _ c.before.loop.invariant.2)
+    (λ c. listed-length _ _ _ c.loop-u.invariant.2)
     returns)

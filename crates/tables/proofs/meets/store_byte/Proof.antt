@@ -5,5 +5,5 @@ use lib.Seq.{set_out}
 use Rattle.tables.proofs.meets.store_byte.Statement.{statement}
 use Rattle.tables.proofs.meets.store_byte.Tie as tie
 
-pub store-byte-spec : {M : Type 1} → statement M
-store-byte-spec = tie.close (tie.spec (λ c. search rules) (λ c. search rules) (λ c. search rules) (λ c. search rules) (λ c. sym (set_out _ _ _ c.if1.false)))
+pub store_byte_spec : {M : Type 1} → statement M
+store_byte_spec = tie.close (tie.spec (λ c. search rules) (λ c. search rules) (λ c. search rules) (λ c. search rules) (λ c. sym (set_out _ _ _ c.if-at-table.false)))

@@ -17,14 +17,14 @@ use Rattle.listing.specs.Listed.{place_at}
 use Rattle.tables.proofs.places.contains.Statement.{statement}
 use Rattle.tables.proofs.places.contains.Tie as tie
 
-abbrev invariant-loop : tie.invariant-loop
+abbrev invariant-loop : tie.invariant-loop-i
 invariant-loop table at l segment end i₀ i =
     paths.contains (place_at table at l) segment ≡ any (λ d. eqb segment (segment_of d)) (slice i end table)
 
-abbrev decreases-loop : tie.decreases-loop
+abbrev decreases-loop : tie.decreases-loop-i
 decreases-loop table at l segment end i₀ i = end - i
 
-loop-holds : tie.Need-loop-init invariant-loop decreases-loop
+loop-holds : tie.Need-loop-i-init invariant-loop decreases-loop
 unfolding paths.contains has place_at
 loop-holds c = any-map _ _ _
 
@@ -38,15 +38,15 @@ module _ (c : tie.After-wide invariant-loop decreases-loop) where
       any (λ d. eqb given.args.segment (segment_of d)) (slice i (given.args.at + given.args.l) given.args.table.now)
 
   turn : paths.contains (place_at given.args.table.now given.args.at given.args.l) given.args.segment
-      ≡ (eqb given.args.segment (c.wide.result / 2) || behind (c.before.before.before.loop.i + 1))
+      ≡ (eqb given.args.segment (c.wide.result / 2) || behind (c.loop-i.i + 1))
   unfolding segment_of
   turn =
-      c.before.before.before.loop.invariant
-      ∙ any_next _ _ _ 0 c.before.before.loop-test.true (omega arith) _
+      c.loop-i.invariant
+      ∙ any_next _ _ _ 0 c.loop-i-test.true (omega arith) _
       ∙ simp c.wide.ensures.0
 
-pub contains-spec : {M : Type 1} → statement M
-contains-spec =
+pub contains_spec : {M : Type 1} → statement M
+contains_spec =
     tie.close
     (tie.spec
     invariant-loop
@@ -55,8 +55,8 @@ contains-spec =
     loop-holds
     (λ c. omega arith)
     (λ c κs. search rules)
-    (λ c. let h = eq-eqb _ _ c.if1.true in sym (turn c.before ∙ simp h))
+    (λ c. let h = eq-eqb _ _ c.if-segment-wide.true in sym (turn c.before ∙ simp h))
     (λ c. omega arith)
     (λ c. omega arith)
-    (λ c. let h = ne_eqb _ _ c.if1.false in turn c.before ∙ simp h)
-    (λ c. sym (c.before.loop.invariant ∙ any-end _ _ _ c.loop-test.false _)))
+    (λ c. let h = ne_eqb _ _ c.if-segment-wide.false in turn c.before ∙ simp h)
+    (λ c. sym (c.loop-i.invariant ∙ any-end _ _ _ c.loop-i-test.false _)))

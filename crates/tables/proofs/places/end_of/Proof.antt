@@ -7,9 +7,9 @@ use Rattle.tables.proofs.places.end_of.Tie as tie
 
 returns : tie.Need-returns
 unfolding end_at
-returns c = omega (arith, c.before.start_of_lem.ensures, c.type_size.ensures.0)
+returns c = omega (arith, c.start_of_lem.ensures, c.type_size.ensures.0)
 
-pub end-of-spec : {M : Type 1} → statement M
-end-of-spec =
+pub end_of_spec : {M : Type 1} → statement M
+end_of_spec =
     tie.close
     (tie.spec (λ c κs. search rules) (λ c κs. search rules) (λ c. omega arith) (λ c. omega arith) returns)

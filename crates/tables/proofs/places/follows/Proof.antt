@@ -6,12 +6,12 @@ use Rattle.tables.specs.Placed.{end_at}
 use Rattle.tables.proofs.places.follows.Statement.{statement}
 use Rattle.tables.proofs.places.follows.Tie as tie
 
-same-places-requires : tie.Need-same-places-requires
+same-places-requires : tie.Need-same_places-requires
 unfolding end_at
 same-places-requires c κs = (omega arith, omega arith)
 
 returns : tie.Need-returns
-returns c = c.same-places.ensures ∙ simp (c.before.before.end_of.ensures, c.before.start_of_lem.ensures)
+returns c = c.same_places.ensures ∙ simp (c.end_of.ensures, c.start_of_lem.ensures)
 
-pub follows-spec : {M : Type 1} → statement M
-follows-spec = tie.close (tie.spec (λ c κs. search rules) (λ c κs. search rules) same-places-requires returns)
+pub follows_spec : {M : Type 1} → statement M
+follows_spec = tie.close (tie.spec (λ c κs. search rules) (λ c κs. search rules) same-places-requires returns)

@@ -9,17 +9,17 @@ use Rattle.listing.specs.Listed.{place_at}
 use Rattle.tables.proofs.places.given_serves.Statement.{statement}
 use Rattle.tables.proofs.places.given_serves.Tie as tie
 
-slice-aggregate-serves : tie.Need-slice-aggregate-serves
+slice-aggregate-serves : tie.Need-slice_bounds-serves-end
 slice-aggregate-serves c = search rules
 
 serves-requires : tie.Need-serves-requires
 serves-requires c κs =
-    let e : length c.before.before.args.t.place ≡ 8 = search rules in
+    let e : length c.args.t.place-1 ≡ 8 = search rules in
     omega arith
 
 returns : tie.Need-returns
 unfolding place_at held_train
 returns c = c.serves.ensures ∙ simp zero-add
 
-pub given-serves-spec : {M : Type 1} → statement M
-given-serves-spec = tie.close (tie.spec slice-aggregate-serves serves-requires returns)
+pub given_serves_spec : {M : Type 1} → statement M
+given_serves_spec = tie.close (tie.spec slice-aggregate-serves serves-requires returns)

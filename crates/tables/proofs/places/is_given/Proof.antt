@@ -13,29 +13,29 @@ use Rattle.tables.proofs.Rests.{same-lengths}
 use Rattle.tables.proofs.places.is_given.Statement.{statement}
 use Rattle.tables.proofs.places.is_given.Tie as tie
 
-slice-aggregate-same-places : tie.Need-slice-aggregate-same-places
+slice-aggregate-same-places : tie.Need-slice_bounds-same_places-end
 slice-aggregate-same-places c = search rules
 
-same-places-requires : tie.Need-same-places-requires
+same-places-requires : tie.Need-same_places-requires
 same-places-requires c κs =
     let s = c.before.before.before.before.before in
-    let e : length s.args.t.place ≡ 8 = search rules in
+    let e : length s.args.t.place-1 ≡ 8 = search rules in
     (s.requires.0, omega arith)
 
-returns : tie.Need-returns
+returns : tie.Need-returns-then-t-l
 unfolding place_at held_train
-returns c = c.same-places.ensures ∙ simp (zero-add, c.before.before.if1.true)
+returns c = c.same_places.ensures ∙ simp (zero-add, c.if-t-l.true)
 
-returns-2 : tie.Need-returns-2
+returns-2 : tie.Need-returns-else-t-l
 unfolding place_at held_train
 returns-2 c =
-    let a = c.before.before.before.before.args in
+    let a = c.args in
     let table = a.table.now in
-    let e : length a.t.place ≡ 8 = search rules in
+    let e : length a.t.place-1 ≡ 8 = search rules in
     let h : length (slice a.at (a.at + a.l) table) ≡ a.l = length-slice a.at (a.at + a.l) table (omega arith) ∙ omega arith in
-    let k : length (take a.t.size a.t.place) ≡ a.t.size = length-take-le a.t.size a.t.place (omega arith) in
-    ne_eqb _ _ c.if1.false ∙ sym (same-lengths _ _ (λ g. c.if1.false (sym k ∙ sym g ∙ h)))
+    let k : length (take a.t.size a.t.place-1) ≡ a.t.size = length-take-le a.t.size a.t.place-1 (omega arith) in
+    ne_eqb _ _ c.if-t-l.false ∙ sym (same-lengths _ _ (λ g. c.if-t-l.false (sym k ∙ sym g ∙ h)))
 
-pub is-given-spec : {M : Type 1} → statement M
-is-given-spec =
+pub is_given_spec : {M : Type 1} → statement M
+is_given_spec =
     tie.close (tie.spec slice-aggregate-same-places same-places-requires returns returns-2)

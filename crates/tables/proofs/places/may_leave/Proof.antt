@@ -34,17 +34,17 @@ module _ (c : tie.After-wide) where
   start = c.before.before.before.before.before
 
   front-is : c.wide.result ≡ last_or 0 (place_at start.args.table.now start.args.at start.args.l)
-  front-is = c.wide.ensures.0 ∙ sym (front_at _ _ _ start.pre.2 start.pre.3)
+  front-is = c.wide.ensures.0 ∙ sym (front_at _ _ _ start.requires.2 start.requires.3)
 
-ends-at-exit-requires : tie.Need-ends-at-exit-requires
+ends-at-exit-requires : tie.Need-ends_at_exit-requires
 ends-at-exit-requires c κs =
     let s = start c in
-    let p = s.pre.0 in
+    let p = s.requires.0 in
     let node = end_known (held s.args.b) p.formed c.wide.result
-    (omega (arith, front-is c, s.pre.4, segments-counted p.packed)) in
-    (p.packed.counts, omega (arith, front-is c, s.pre.4), omega (arith, node, nodes-counted p.packed))
+    (omega (arith, front-is c, s.requires.4, segments-counted p.packed)) in
+    (p.packed.counts, omega (arith, front-is c, s.requires.4), omega (arith, node, nodes-counted p.packed))
 
-returns : tie.Need-returns
+returns : tie.Need-returns-then-serves
 unfolding may_leave ends_at_exit
 returns c =
     let s = start c.before in
@@ -52,23 +52,23 @@ returns c =
     let b = held s.args.b in
     let place = place_at s.args.table.now s.args.at s.args.l in
     let goal : place_serves b (goal_of b s.args.train) place ≡ true =
-    ap (λ (to : Call). place_serves b to place) (sym s.pre.1) ∙ sym then.before.serves.ensures ∙ then.if1.true in
-    c.ends-at-exit.ensures
+    ap (λ (to : Call). place_serves b to place) (sym s.requires.1) ∙ sym then.serves.ensures ∙ then.if-serves.true in
+    c.ends_at_exit.ensures
     ∙ ap (λ (d : ℕ). is_exit (node_kind_at b (end_node b d))) (front-is c.before)
     ∙ ap (λ (t : Bool). t && ends_at_exit b place) (sym goal)
 
-returns-2 : tie.Need-returns-2
+returns-2 : tie.Need-returns-else-serves
 unfolding may_leave
 returns-2 c =
     let s = c.before.before.before in
     let b = held s.args.b in
     let place = place_at s.args.table.now s.args.at s.args.l in
     let goal : place_serves b (goal_of b s.args.train) place ≡ false =
-    ap (λ (to : Call). place_serves b to place) (sym s.requires.1) ∙ sym c.before.serves.ensures ∙ c.if1.false in
-    c.if1.false ∙ ap (λ (t : Bool). t && ends_at_exit b place) (sym goal)
+    ap (λ (to : Call). place_serves b to place) (sym s.requires.1) ∙ sym c.serves.ensures ∙ c.if-serves.false in
+    c.if-serves.false ∙ ap (λ (t : Bool). t && ends_at_exit b place) (sym goal)
 
-pub may-leave-spec : {M : Type 1} → statement M
-may-leave-spec =
+pub may_leave_spec : {M : Type 1} → statement M
+may_leave_spec =
     tie.close
     (tie.spec
     (λ c κs. search rules)

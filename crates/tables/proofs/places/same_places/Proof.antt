@@ -15,20 +15,20 @@ use Rattle.tables.proofs.Rests.{behind, same_next, same_end}
 use Rattle.tables.proofs.places.same_places.Statement.{statement}
 use Rattle.tables.proofs.places.same_places.Tie as tie
 
-abbrev invariant-loop : tie.invariant-loop
+abbrev invariant-loop : tie.invariant-loop-i
 invariant-loop table at others from l i₀ i =
     (i ≤ l)
     × (same (place_at table at l) (place_at others from l) ≡ same (behind table at l i) (behind others from l i))
 
-abbrev decreases-loop : tie.decreases-loop
+abbrev decreases-loop : tie.decreases-loop-i
 decreases-loop table at others from l i₀ i = l - i
 
-loop-holds : tie.Need-loop-init invariant-loop decreases-loop
+loop-holds : tie.Need-loop-i-init invariant-loop decreases-loop
 unfolding place_at
 loop-holds c = (omega arith, simp add-zero)
 
 -- a turn: this pair of elements, and those behind it
-module _ (c : tie.In-loop invariant-loop decreases-loop) where
+module _ (c : tie.In-loop-i invariant-loop decreases-loop) where
   abbrev given : tie.Start invariant-loop decreases-loop
   given = c.before.before
 
@@ -39,15 +39,15 @@ module _ (c : tie.In-loop invariant-loop decreases-loop) where
   others = given.args.others.now
 
   abbrev i : ℕ
-  i = c.before.loop.i
+  i = c.loop-i.i
 
   turn : same (place_at table given.args.at given.args.l) (place_at others given.args.from given.args.l)
       ≡ (eqb (get_or table (given.args.at + i) 0) (get_or others (given.args.from + i) 0)
       && same (behind table given.args.at given.args.l (i + 1)) (behind others given.args.from given.args.l (i + 1)))
-  turn = c.before.loop.invariant.1 ∙ same_next _ _ _ _ _ _ c.loop-test.true given.pre.0 given.pre.1
+  turn = c.loop-i.invariant.1 ∙ same_next _ _ _ _ _ _ c.loop-i-test.true given.requires.0 given.requires.1
 
-pub same-places-spec : {M : Type 1} → statement M
-same-places-spec =
+pub same_places_spec : {M : Type 1} → statement M
+same_places_spec =
     tie.close
     (tie.spec
     invariant-loop
@@ -57,8 +57,8 @@ same-places-spec =
     (λ c. omega arith)
     (λ c. omega arith)
     (λ c. omega arith)
-    (λ c. let h = ne_eqb _ _ c.if1.true in sym (turn c.before.before.before ∙ simp h))
+    (λ c. let h = ne_eqb _ _ c.if-table-at.true in sym (turn c.before.before.before ∙ simp h))
     (λ c. omega arith)
     (λ c. omega arith)
-    (λ c. let h = eq-eqb _ _ c.if1.false in (omega arith, turn c.before.before.before ∙ simp h))
-    (λ c. sym (c.before.loop.invariant.1 ∙ same_end _ _ _ _ _ _ c.loop-test.false)))
+    (λ c. let h = eq-eqb _ _ c.if-table-at.false in (omega arith, turn c.before.before.before ∙ simp h))
+    (λ c. sym (c.loop-i.invariant.1 ∙ same_end _ _ _ _ _ _ c.loop-i-test.false)))

@@ -13,7 +13,7 @@ contains-requires c κs = search rules
 
 returns : tie.Need-returns
 unfolding place_serves
-returns c = c.contains.ensures ∙ simp c.before.wide.ensures.0
+returns c = c.contains.ensures ∙ simp c.wide.ensures.0
 
-pub serves-spec : {M : Type 1} → statement M
-serves-spec = tie.close (tie.spec wide-requires contains-requires returns)
+pub serves_spec : {M : Type 1} → statement M
+serves_spec = tie.close (tie.spec wide-requires contains-requires returns)

@@ -9,55 +9,55 @@ use Rattle.tables.proofs.preparing.prepare_chains.Statement.{statement}
 use Rattle.tables.proofs.preparing.prepare_chains.Tie as tie
 
 -- an accepted book
-module _ (c : tie.After-enum-told2) where
-  abbrev prepared : tie.After-prepare
+module _ (c : tie.In-Accepted) where
+  abbrev prepared : tie.After-prepare-p
   prepared = c.before.before.before.before.before.before.before.before.before
 
   abbrev start : tie.Start
   start = prepared.before.before.before.before.before.before.before
 
   abbrev p : Prepared
-  p = prepared.prepare.result
+  p = prepared.prepare-p.result
 
-  runs-are : RunsReady p.read.book p.read.counts prepared.prepare.last.1.0
-  runs-are = (prepared.prepare.ensures.1 c.enum-told2.given.1).0
+  runs-are : RunsReady p.read-1.book p.read-1.counts-1 prepared.prepare-p.last.1.0
+  runs-are = (prepared.prepare-p.ensures.1 c.in-Accepted.is).0
 
-returns : tie.Need-returns
+returns : tie.Need-returns-in-Refused
 returns c =
     let p = c.before.before.before.before.before.before.before.before.before in
-    let e = p.prepare.ensures in
-    let refused = c.enum_told.given.1 in
+    let e = p.prepare-p.ensures in
+    let refused = c.in-Refused.is in
     (e.0, e.1, never-accepted refused, e.2, never-accepted refused, e.3, e.4, λ n d _. refl)
 
-returns-2 : tie.Need-returns-2
+returns-2 : tie.Need-returns-in-Accepted
 returns-2 c =
     let f = c.before.before in
     let a = f.before.before.before in
-    let e = (prepared a).prepare.ensures in (
+    let e = (prepared a).prepare-p.ensures in (
       e.0,
       e.1,
       λ _.
-          chains-ready (p a).read.book (runs-are a).counted.passed (start a).args.chains.now (start a).requires.1
-          f.chain-trains.ensures,
+          chains-ready (p a).read-1.book (runs-are a).counted.passed (start a).args.chains.now (start a).requires.1
+          f.chain_trains.ensures,
       e.2,
-      λ _. f.chain-trains.ensures,
+      λ _. f.chain_trains.ensures,
       e.3,
       e.4,
-      λ n d told. never-accepted told a.enum-told2.given.1,
+      λ n d told. never-accepted told a.in-Accepted.is,
     )
 
-pub prepare-chains-spec : {M : Type 1} → statement M
-prepare-chains-spec =
+pub prepare_chains_spec : {M : Type 1} → statement M
+prepare_chains_spec =
     tie.close
     (tie.spec
-    (λ c κs. let q = c.before.before.before.before.before.before.requires in (q.0, q.2))
+    (λ c κs. let q = c.requires in (q.0, q.2))
     (λ c. search rules)
     (λ c. search rules)
     (λ c κs. let a = c.before.before in (runs-are a, (start a).requires.1))
-    (λ c. c.before.before.before.before.before.before.before.before.before.prepare.auto.1.0)
-    (λ c. c.before.before.before.before.before.before.before.before.before.prepare.auto.1.1.0)
+    (λ c. c.prepare-p.auto.1.0)
+    (λ c. c.prepare-p.auto.1.1.0)
     returns
-    (λ c. (prepared c.before.before.before.before.before).prepare.kept.1.0)
-    (λ c. c.before.before.chain-trains.auto.1.1.1.0)
-    (λ c. (prepared c.before.before.before.before.before).prepare.kept.1.1.0)
+    (λ c. (prepared c.before.before.before.before.before).prepare-p.kept.1.0)
+    (λ c. c.chain_trains.auto.1.1.1.0)
+    (λ c. (prepared c.before.before.before.before.before).prepare-p.kept.1.1.0)
     returns-2)

@@ -11,15 +11,15 @@ returns c =
     let d = c.before.before in
     let s = d.before.before.before.before in
     let known = d.before.before.before in
-    let r = d.read-runs.result in
-    let e = d.read-runs.ensures in (
+    let r = d.read_runs.result in
+    let e = d.read_runs.ensures in (
       e.0,
       λ told.
-          let p = passed s.args.book.now r e.0 told (λ i. omega (arith, known.shared-slice-known.given i)) in
+          let p = passed s.args.book.now r e.0 told (λ i. omega (arith, known.shared_slice_known-1.given i)) in
           runs-ready r.book p r.counts s.args.runs.now s.requires (counted _ r e.0 told) (e.1 told),
       e.1,
       e.2,
     )
 
-pub prepare-runs-spec : {M : Type 1} → statement M
-prepare-runs-spec = tie.close (tie.spec (λ c κs. search rules) (λ c. search rules) returns)
+pub prepare_runs_spec : {M : Type 1} → statement M
+prepare_runs_spec = tie.close (tie.spec (λ c κs. search rules) (λ c. search rules) returns)
