@@ -79,7 +79,7 @@ within : (w : tie.After-within_cap)
 within w = let a = asked w.before in ap (within_cap (I a)) (plan-same (cap a) (own a) (plan a)) ∙ sym w.within_cap.ensures
 
 returns : tie.Need-returns-then-not-within_cap
-returns c = let w = c.before in encoded-over _ _ _ (accepts w.before) (within w ∙ not-true _ c.if-not-within_cap.true)
+returns c = let w = c.before in encoded-over _ _ _ (accepts w.before) (within w ∙ c.if-not-within_cap.true)
 
 returns-2 : tie.Need-returns-in-Refused
 returns-2 c =
@@ -98,7 +98,7 @@ returns-3 c =
     let left = k.before.before in
     let w = left.before in
     let a = asked w.before in
-    encoded-accepted _ _ _ (accepts w.before) (within w ∙ not-false _ left.if-not-within_cap.false) (need a ∙ sym (length-assignment _ _))
+    encoded-accepted _ _ _ (accepts w.before) (within w ∙ left.if-not-within_cap.false) (need a ∙ sym (length-assignment _ _))
     (k.write_plan.ensures
     ∙ ap (λ (p : Plan). overwrite (start a).args.out.now (encode (I a) p)) (sym (plan-same (cap a) (own a) (plan a))))
 

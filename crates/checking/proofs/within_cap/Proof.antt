@@ -21,7 +21,7 @@ unfolding allows plan_of
 returns c =
     let a = c.args in
     let I = instance_of (held a.b) in
-    told (set_count I (borders_of a.plan.now)) c.in-No.is ∙ sym (within-is (held_cap a.cap-1) I (plan_of I a.plan.now))
+    told (set_count I (borders_of a.plan.now)) c.in-No.is ∙ sym (within-is (held_cap a.cap) I (plan_of I a.plan.now))
 
 returns-2 : tie.Need-returns-in-AtMost
 unfolding allows plan_of
@@ -31,7 +31,7 @@ returns-2 c =
     let I = instance_of (held a.b) in
     ap (λ (n : ℕ). leb n k.cap-1.given.0.0) c.count_set.ensures
     ∙ told (set_count I (borders_of a.plan.now)) k.cap-1.given.1
-    ∙ sym (within-is (held_cap a.cap-1) I (plan_of I a.plan.now))
+    ∙ sym (within-is (held_cap a.cap) I (plan_of I a.plan.now))
 
 pub within_cap_spec : {M : Type 1} → statement M
 within_cap_spec = tie.close (tie.spec (λ c. search rules) (λ c. search rules) (λ c κs. search rules) returns returns-2)

@@ -11,7 +11,7 @@ returns c =
     let h = c.before in
     let m = h.before.before in
     let b = m.before.before in
-    affirms _ _ _ _ _ _ _ _ b.requires m.more.ensures (c.flag.ensures ∙ ap bit h.«Holds-by».ensures) b.positive.ensures b.store.ensures
+    affirms _ _ _ _ _ _ _ _ b.requires m.more.ensures (c.flag.ensures ∙ ap bit h.holds_by.ensures) b.positive.ensures b.store.ensures
 
 pub affirm_spec : {M : Type 1} → statement M
 affirm_spec =

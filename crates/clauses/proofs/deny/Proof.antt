@@ -11,7 +11,7 @@ returns c =
     let h = c.before in
     let m = h.before.before in
     let b = m.before.before in
-    denies _ _ _ _ _ _ _ _ b.requires m.more.ensures (c.flag.ensures ∙ ap bit h.«holds-without».ensures) b.negative.ensures b.store.ensures
+    denies _ _ _ _ _ _ _ _ b.requires m.more.ensures (c.flag.ensures ∙ ap bit h.holds_without.ensures) b.negative.ensures b.store.ensures
 
 pub deny_spec : {M : Type 1} → statement M
 deny_spec =

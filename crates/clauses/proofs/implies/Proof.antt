@@ -18,7 +18,7 @@ returns c =
     let half = first.before.before in
     let s = half.before.before.before in
     passes-two _ _ _ _ _ _ _ _ _ _ (denying _) (affirming _)
-    (judged.Holds-by.ensures ∙ simp (half.holds_without-first.ensures, affirmed, denied'))
+    (judged.holds_by.ensures ∙ simp (half.holds_without-first.ensures, affirmed, denied'))
     c.closed_by.ensures (not-said _ _ s.requires.0 first.negative.ensures) (is_said _ _ s.requires.1 second.positive.ensures) kept.store_two.ensures
 
 pub implies_spec : {M : Type 1} → statement M

@@ -20,7 +20,7 @@ returns c =
     let half = both.before in
     let s = half.before.before.before in
     passes-three _ _ _ _ _ _ _ _ _ _ _ _ (denying _) (affirming _) (affirming _)
-    (judged.holds_by.ensures ∙ simp (both.Holds-by.ensures, half.holds_without-first.ensures, affirmed, denied'))
+    (judged.holds_by.ensures ∙ simp (both.holds_by-second.ensures, half.holds_without-first.ensures, affirmed, denied'))
     c.closed_by.ensures (not-said _ _ s.requires.0 first.negative.ensures) (is_said _ _ s.requires.1 second.positive.ensures)
     (is_said _ _ s.requires.2 third.positive-2.ensures) kept.store_three.ensures
 

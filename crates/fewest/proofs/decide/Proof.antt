@@ -22,7 +22,7 @@ module _ (c : tie.After-prepare_chains-p) where
   abbrev onward : Instance → Verdict (Unit {0})
   onward I =
       let a = start.args in
-      fewest_for I a.n a.assignment.now a.refutation.now (lengths a.words-1.now a.starts-1.now a.values-1.now a.trail-1.now)
+      fewest_for I a.n a.assignment.now a.refutation.now (lengths a.words.now a.starts.now a.values.now a.trail.now)
 
 -- the book is accepted
 module _ (c : tie.In-Accepted) where

@@ -14,7 +14,7 @@ use Rattle.fewest.proofs.fewest_by.Tie as tie
 returns : tie.Need-returns-then-n-eq0
 returns c =
     let a = c.args in
-    let lent = lengths a.words-1.now a.starts-1.now a.values-1.now a.trail-1.now in
+    let lent = lengths a.words.now a.starts.now a.values.now a.trail.now in
     c.fewest_none.ensures lent
     ∙ ap (λ (k : ℕ). answer_of (fewest_for (instance_of (held a.b)) k a.assignment.now a.refutation.now lent)) (sym c.if-n-eq0.true)
 

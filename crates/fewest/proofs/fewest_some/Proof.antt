@@ -56,11 +56,11 @@ module _ (l : tie.After-load_formula-formula) where
   abbrev lent : Lent
   lent =
       let a = start.args in
-      lengths a.words-1.now a.starts-1.now a.values-1.now a.trail-1.now
+      lengths a.words.now a.starts.now a.values.now a.trail.now
 
   -- slices of other lengths of words and clauses
   abbrev lent_by : ℕ → ℕ → Lent
-  lent_by words clauses = record { words = words; clauses = clauses; values = lent.values-1; trail = lent.trail-1 }
+  lent_by words clauses = record { words = words; clauses = clauses; values = lent.values; trail = lent.trail }
 
 -- and it is known whether there is room
 module _ (h : tie.After-has_room) where
@@ -87,12 +87,12 @@ returns : tie.Need-returns-then-not-has_room
 returns c =
     let h = c.before in
     let l = load h in
-    on-n h (no_room (I l) (s l) (r l) (lent l) (m l) (sym (room-is h) ∙ not-true _ c.if-not-has_room.true))
+    on-n h (no_room (I l) (s l) (r l) (lent l) (m l) (sym (room-is h) ∙ c.if-not-has_room.true))
 
 -- there is room
 module _ (e : tie.Else-not-has_room) where
   fits : formula_fits (lent (load e.before)) (J (load e.before)) ≡ true
-  fits = sym (room-is e.before) ∙ not-false _ e.if-not-has_room.false
+  fits = sym (room-is e.before) ∙ e.if-not-has_room.false
 
 -- the verdict on the assignment and on n
 module _ (k : tie.After-judge_count-counted) where
@@ -107,7 +107,7 @@ check-loaded-requires c κs =
     let l = load c.before.before.before.before.before.before.before.before in
     let a = (start l).args in
     let e = l.load_formula-formula.ensures in
-    ((start l).requires.0.counted-1, e.0, loaded-stands _ a.words-1.now a.starts-1.now e.1 e.2)
+    ((start l).requires.0.counted, e.0, loaded-stands _ a.words.now a.starts.now e.1 e.2)
 
 returns-2 : tie.Need-returns-in-Refused
 returns-2 c =

@@ -29,7 +29,7 @@ rest : (c : tie.After-rank)
     → out_of_order_by c.args.last c.args.kind c.args.left
     ≡ (ltb c.rank.result c.args.last || is_end c.args.kind && not (eqb c.args.left 0))
 rest c =
-    order-rest _ _ _ (elim (c.if-last-eq0.branch) [ then-last-eq0 w ↦ inl (w.if-last-eq0.true, w.if-kind-ne-KIND.false) | else-last-eq0 w ↦ inr (w.if-last-eq0.false, w.if-kind-eq-KIND.false) ]
+    order-rest _ _ _ (elim (c.if-last-eq0.branch) [ then-last-eq0 w ↦ inl (w.if-last-eq0.true, w.if-kind-ne-KIND.false) | else-last-eq0 w ↦ inr (w.if-last-eq0.false, w.if-kind-eq-KIND.false) ])
     ∙ simp (← c.rank.ensures)
 
 returns-3 : tie.Need-returns-then-rank-last

@@ -14,7 +14,7 @@ returns c =
     let a = c.before.before.before.before.before.before.before.before in
     let s = a.args in
     let e = a.check_fewest-answer.ensures in
-    let lent = lengths s.words-1.now s.clauses-1.now s.values-1.now s.trail-1.now in
+    let lent = lengths s.words.now s.clauses.now s.values.now s.trail.now in
     let v = check_fewest s.book.now s.n s.assignment.now s.refutation.now lent in (
       c.verdict_from.ensures ∙ ap verdict_shown {y = answer_of v} e.0 ∙ verdict-shown v,
       e.1,

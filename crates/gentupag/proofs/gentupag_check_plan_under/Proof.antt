@@ -21,13 +21,13 @@ returns c =
     let e = a.check_plan-answer.ensures in
     let h = k.cap_from.ensures in
     let limit = held_cap k.cap_from.result in
-    let v = check_plan limit s.book.now s.plan.now (length s.out-1.now) in (
+    let v = check_plan limit s.book.now s.plan.now (length s.out.now) in (
       c.output_from.ensures
           ∙ ap output_shown {y = output_answer v} e.0
           ∙ output-shown v
-          ∙ ap (λ (o : Option ℕ). output_of (check_plan o s.book.now s.plan.now (length s.out-1.now))) h,
-      ◌∙◌ {b = assignment_output limit s.book.now s.plan.now s.out-1.now} e.1
-          (ap (λ (o : Option ℕ). assignment_output o s.book.now s.plan.now s.out-1.now) h),
+          ∙ ap (λ (o : Option ℕ). output_of (check_plan o s.book.now s.plan.now (length s.out.now))) h,
+      ◌∙◌ {b = assignment_output limit s.book.now s.plan.now s.out.now} e.1
+          (ap (λ (o : Option ℕ). assignment_output o s.book.now s.plan.now s.out.now) h),
     )
 
 pub gentupag_check_plan_under_spec : {M : Type 1} → statement M

@@ -19,7 +19,7 @@ returns c =
     let k = a.before.before.before.before.before in
     let s = k.args in
     let e = a.check_refutation-answer.ensures in
-    let lent = lengths s.words-1.now s.clauses-1.now s.values-1.now s.trail-1.now in
+    let lent = lengths s.words.now s.clauses.now s.values.now s.trail.now in
     let v = check_refutation (held_cap k.cap_from.result) s.book.now s.refutation.now lent in (
       c.verdict_from.ensures
           ∙ ap verdict_shown {y = answer_of v} e.0

@@ -13,7 +13,7 @@ returns c =
     let a = c.before.before.before in
     let s = a.args in
     let e = a.list_carriers-answer.ensures in
-    (c.output_from.ensures ∙ ap output_shown e.0 ∙ output-shown (list_carriers s.book.now s.plan.now (length s.out-1.now)), e.1)
+    (c.output_from.ensures ∙ ap output_shown e.0 ∙ output-shown (list_carriers s.book.now s.plan.now (length s.out.now)), e.1)
 
 pub gentupag_list_carriers_spec : {M : Type 1} → statement M
 gentupag_list_carriers_spec =

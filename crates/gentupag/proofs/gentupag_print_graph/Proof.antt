@@ -13,7 +13,7 @@ returns c =
     let a = c.before.before.before in
     let s = a.args in
     let e = a.print_graph-answer.ensures in
-    (c.output_from.ensures ∙ ap output_shown e.0 ∙ output-shown (print_graph s.book.now s.plan.now (length s.out-1.now)), e.1)
+    (c.output_from.ensures ∙ ap output_shown e.0 ∙ output-shown (print_graph s.book.now s.plan.now (length s.out.now)), e.1)
 
 pub gentupag_print_graph_spec : {M : Type 1} → statement M
 gentupag_print_graph_spec =

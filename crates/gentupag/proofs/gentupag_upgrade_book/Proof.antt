@@ -13,7 +13,7 @@ returns c =
     let a = c.before.before.before in
     let s = a.args in
     let e = a.upgrade_book-answer.ensures in
-    (c.output_from.ensures ∙ ap output_shown e.0 ∙ output-shown (upgrade_book s.old.now (length s.out-1.now)), e.1)
+    (c.output_from.ensures ∙ ap output_shown e.0 ∙ output-shown (upgrade_book s.old.now (length s.out.now)), e.1)
 
 pub gentupag_upgrade_book_spec : {M : Type 1} → statement M
 gentupag_upgrade_book_spec =

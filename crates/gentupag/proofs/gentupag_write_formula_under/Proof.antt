@@ -21,9 +21,9 @@ returns c =
     let h = k.cap_from.ensures in (
       c.totals_from.ensures
           ∙ ap totals_shown e.0
-          ∙ totals-shown (write_formula (held_cap k.cap_from.result) s.book.now (length s.out-1.now))
-          ∙ ap (λ (o : Option ℕ). totals_of (write_formula o s.book.now (length s.out-1.now))) h,
-      e.1 ∙ ap (λ (o : Option ℕ). formula_output o s.book.now s.out-1.now) h,
+          ∙ totals-shown (write_formula (held_cap k.cap_from.result) s.book.now (length s.out.now))
+          ∙ ap (λ (o : Option ℕ). totals_of (write_formula o s.book.now (length s.out.now))) h,
+      e.1 ∙ ap (λ (o : Option ℕ). formula_output o s.book.now s.out.now) h,
     )
 
 pub gentupag_write_formula_under_spec : {M : Type 1} → statement M

@@ -41,7 +41,7 @@ loop-again c =
       simp length-set s.loop-d.invariant.2,
       call.ensures.2
           ∙ ap (λ (table : List ℕ). sets table (d * 128) (successors b d)) s.loop-d.invariant.3
-          ∙ ap (λ (k : ℕ). successor_table b k a.table-1.now) (sym (add-one d)),
+          ∙ ap (λ (k : ℕ). successor_table b k a.table.now) (sym (add-one d)),
       ap₂ (λ (widths : List ℕ) (x : ℕ). set widths d x) s.loop-d.invariant.4 call.ensures.0
           ∙ ap (λ (k : ℕ). set (sets a.widths.now 0 (fan_widths b d)) k (length (successors b d))) (sym (zero-add d))
           ∙ sets-map-next (λ d. length (successors b d)) a.widths.now 0 d,
@@ -52,7 +52,7 @@ returns c =
     let s = c.before in
     let a = s.args in
     let done : s.loop-d.d ≡ 2 * a.b.segment_count = omega arith in (
-      s.loop-d.invariant.3 ∙ ap (λ (k : ℕ). successor_table (held a.b) k a.table-1.now) done,
+      s.loop-d.invariant.3 ∙ ap (λ (k : ℕ). successor_table (held a.b) k a.table.now) done,
       s.loop-d.invariant.4 ∙ ap (λ (k : ℕ). sets a.widths.now 0 (fan_widths (held a.b) k)) done,
     )
 

@@ -39,7 +39,7 @@ module _ (c : tie.In-loop-i invariant-loop decreases-loop) where
   abbrev i : ℕ
   i = c.loop-i.i
 
-  stored : set c.loop-i.runs-1 (first + i) (get_or row i 0) ≡ sets old first (take (i + 1) row)
+  stored : set c.loop-i.runs (first + i) (get_or row i 0) ≡ sets old first (take (i + 1) row)
   stored =
       let size : length row ≡ 16 = search rules in
       let room : i < length row = omega arith in
@@ -59,9 +59,9 @@ returns c =
     let long : a.t3.n ≡ length ds = ap (λ (p : Path). p.n) s.requires.2 in
     let byte : a.t3.n % 256 ≡ a.t3.n = omega arith in
     c.loop-i.invariant.2
-    ∙ ap (λ (k : ℕ). sets (set a.runs-1.now base (a.t3.n % 256)) k (take i a.t3.at)) (add-one base)
-    ∙ ap₂ (λ (n : ℕ) (ds : List ℕ). sets (set a.runs-1.now base n) (suc base) ds) (byte ∙ long) (take_all i a.t3.at done ∙ row)
-    ∙ sym (runs-kept a.count ds a.runs-1.now c.if-count-lt-MAX_RUNS.true)
+    ∙ ap (λ (k : ℕ). sets (set a.runs.now base (a.t3.n % 256)) k (take i a.t3.at)) (add-one base)
+    ∙ ap₂ (λ (n : ℕ) (ds : List ℕ). sets (set a.runs.now base n) (suc base) ds) (byte ∙ long) (take_all i a.t3.at done ∙ row)
+    ∙ sym (runs-kept a.count ds a.runs.now c.if-count-lt-MAX_RUNS.true)
 
 pub keep_spec : {M : Type 1} → statement M
 keep_spec =

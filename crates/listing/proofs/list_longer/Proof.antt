@@ -53,7 +53,7 @@ module _ (c : tie.At-loop-place invariant-loop decreases-loop) where
   -- at the end the tables and the count are what the contract says
   done : (start.args.places ≤ c.loop-place.place) ⊎ (257 ≤ c.loop-place.found)
       → Listed start.args.count runs (longer_by table widths (places_in runs l start.args.places) missing)
-      c.loop-place.found c.loop-place.runs-1
+      c.loop-place.found c.loop-place.runs
   done h =
       rw (longer-from table widths runs l start.args.places missing)
       (listed-end paths c.loop-place.invariant.1 are-short start.args.places c.loop-place.invariant.0 h)
@@ -69,7 +69,7 @@ module _ (c : tie.Then-found-lt-STOP invariant-loop decreases-loop) where
       omega (arith, listed-from looped.loop-place.invariant.1 (start looped).requires.2, (start looped).requires.1)
 
   -- it is as it was
-  stays : place_in looped.loop-place.runs-1 (l looped) looped.loop-place.place ≡ place_in (runs looped) (l looped) looped.loop-place.place
+  stays : place_in looped.loop-place.runs (l looped) looped.loop-place.place ≡ place_in (runs looped) (l looped) looped.loop-place.place
   stays = listed-stays looped.loop-place.invariant.1 (l looped) (omega arith) looped.loop-place.place (omega arith)
 
 path-at-requires : tie.Need-path_at-path-requires invariant-loop decreases-loop
@@ -84,9 +84,9 @@ extend-requires c κs =
     let at = looped t in
     let p = (start at).requires in
     let e = c.path_at-path.ensures in
-    let place = place_in at.loop-place.runs-1 (l at) at.loop-place.place in
+    let place = place_in at.loop-place.runs (l at) at.loop-place.place in
     let long = listed-long at.loop-place.invariant.1 ∙ p.0 in
-    let size = path-size place e ∙ place-long at.loop-place.runs-1 (l at) at.loop-place.place (omega (arith, few t)) in (
+    let size = path-size place e ∙ place-long at.loop-place.runs (l at) at.loop-place.place (omega (arith, few t)) in (
       subst (λ (path : List ℕ). Covered (table at) (widths at) (last_or 0 path)) (sym (path-of place e ∙ stays t))
           (p.5 (few t) at.loop-place.place (omega arith)),
       long,

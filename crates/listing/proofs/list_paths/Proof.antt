@@ -40,7 +40,7 @@ module _ (c : tie.At-loop-d invariant-loop decreases-loop) where
   done : (start.args.directed ≤ c.loop-d.d) ⊎ (257 ≤ c.loop-d.found)
       → Listed 0 start.args.runs.now
       (paths_by start.args.table.now start.args.widths.now start.args.directed start.args.size)
-      c.loop-d.found c.loop-d.runs-1
+      c.loop-d.found c.loop-d.runs
   unfolding paths_by
   done h = listed-end (from start) c.loop-d.invariant.1 (are-short start c.loop-d.d) start.args.directed c.loop-d.invariant.0 h
 

@@ -81,7 +81,7 @@ module _ (c : tie.In-loop-i invariant-loop decreases-loop) where
   few : i < 8
   few = omega (arith, below, start.requires.0.trains)
 
-  fits : i * train_bytes + train_bytes ≤ length c.loop-i.runs-1
+  fits : i * train_bytes + train_bytes ≤ length c.loop-i.runs
   fits = omega (arith, few, c.loop-i.invariant.2)
 
 list-runs-requires : tie.Need-list_runs-requires invariant-loop decreases-loop
@@ -97,7 +97,7 @@ list-runs-requires c κs =
       n.1,
       reach_here (b t) s.requires.2 (i t) (below t) (room s),
       t.loop-i.invariant.1,
-      mid_len at (at + train_bytes) t.loop-i.runs-1 (fits t) ∙ omega arith,
+      mid_len at (at + train_bytes) t.loop-i.runs (fits t) ∙ omega arith,
     )
 
 loop-again : tie.Need-loop-i-preserved invariant-loop decreases-loop
@@ -108,11 +108,11 @@ loop-again c =
     let same = runs-held (b t) (room (start t)) (i t) (below t) in (
       omega (arith, below t),
       v.1,
-      length-next train_bytes (i t) t.loop-i.runs-1 f.list_runs.new.1.1.1.1.0 f.list_runs.auto.1.1.1.1.0 ∙ v.2,
+      length-next train_bytes (i t) t.loop-i.runs f.list_runs.new.1.1.1.1.0 f.list_runs.auto.1.1.1.1.0 ∙ v.2,
       counts-next (counted (b t)) (i t) _ _ (few t) v.3 (f.list_runs.ensures.0 ∙ ap (count_after 0) (sym same)),
       filled_next (turned (b t)) train_bytes (i t) _ _ _ (fits t) v.4
           (f.list_runs.ensures.1
-          ∙ ap (λ (runs : List (List ℕ)). runs_after 0 runs (lent (i t * train_bytes) train_bytes t.loop-i.runs-1)) (sym same)),
+          ∙ ap (λ (runs : List (List ℕ)). runs_after 0 runs (lent (i t * train_bytes) train_bytes t.loop-i.runs)) (sym same)),
     )
 
 returns : tie.Need-returns invariant-loop decreases-loop

@@ -39,8 +39,8 @@ module _ (v : tie.After-variable_count-variables) where
   abbrev filled : Extent
   filled = start.args.formula
 
-  word_count : filled.words-1 ≡ length (words_of (formula I))
-  word_count = ap (λ (f : Extent). f.words-1) start.requires.1
+  word_count : filled.words ≡ length (words_of (formula I))
+  word_count = ap (λ (f : Extent). f.words) start.requires.1
 
   clause-count : filled.clauses ≡ length (formula I)
   clause-count = ap (λ (f : Extent). f.clauses) start.requires.1
@@ -48,7 +48,7 @@ module _ (v : tie.After-variable_count-variables) where
   abbrev lent : Lent
   lent =
       let a = start.args in
-      lengths a.words-1.now a.starts-1.now a.values-1.now a.trail-1.now
+      lengths a.words.now a.starts.now a.values.now a.trail.now
 
   -- the variables: how many, that they are few, and that the formula's literals are of them
   abbrev vars : ℕ
@@ -70,7 +70,7 @@ returns c =
     let v = c.before.before in
     short (I v) _ (lent v) λ r.
     elim c.if-words-formula.branch [
-      | inl x ↦ omega (arith, r.words-1, x.true, word_count v)
+      | inl x ↦ omega (arith, r.words, x.true, word_count v)
       | inr x ↦ omega (arith, r.clauses, ltb-true (lent v).clauses (filled v).clauses x.2.true, clause-count v)
     ]
 
@@ -79,8 +79,8 @@ returns-2 c =
     let v = c.before.before.before.before.before in
     short (I v) _ (lent v) λ r.
     elim c.if-values-variables.branch [
-      | inl x ↦ omega (arith, r.values-1, x.true, variable-count v)
-      | inr x ↦ omega (arith, r.trail-1, ltb-true (lent v).trail-1 (vars v) x.1.true, variable-count v)
+      | inl x ↦ omega (arith, r.values, x.true, variable-count v)
+      | inr x ↦ omega (arith, r.trail, ltb-true (lent v).trail (vars v) x.1.true, variable-count v)
     ]
 
 -- what holds once the bytes of the variables are zeroed
@@ -96,7 +96,7 @@ module _ (k : tie.After-clear_bytes) where
       let second = third.before in
       let first = second.before.before in
       let clauses = ltb-false (lent known).clauses (filled known).clauses second.if-starts-formula.false in
-      let trail = ltb-false (lent known).trail-1 (vars known) fourth.if-trail-variables.false in
+      let trail = ltb-false (lent known).trail (vars known) fourth.if-trail-variables.false in
       record {
         words = omega (arith, first.if-words-formula.false, word_count known);
         clauses = omega (arith, clauses, clause-count known);
@@ -109,9 +109,9 @@ module _ (k : tie.After-clear_bytes) where
   stands = (start known).requires.2
 
   loaded : T (has_room (I known) (start known).args.words.now (start known).args.starts.now)
-  loaded = (room-iff (I known) (start known).args.words.now (start known).args.starts.now).1 (room.words-1, room.clauses)
+  loaded = (room-iff (I known) (start known).args.words.now (start known).args.starts.now).1 (room.words, room.clauses)
 
-  are-said : clauses_of (take (filled known).words-1 (start known).args.words.now) ≡ formula (I known)
+  are-said : clauses_of (take (filled known).words (start known).args.words.now) ≡ formula (I known)
   are-said = said _ _ (ranged known) (ap (λ (n : ℕ). take n (start known).args.words.now) (word_count known) ∙ stands.front loaded)
 
   -- as many bytes are handed on as there are variables
@@ -119,7 +119,7 @@ module _ (k : tie.After-clear_bytes) where
   values = k.clear_bytes.last.0
 
   handed : length (take (vars known) values) ≡ vars known
-  handed = length-take-le _ values (omega (arith, room.values-1, variable-count known, k.clear_bytes.kept.0))
+  handed = length-take-le _ values (omega (arith, room.values, variable-count known, k.clear_bytes.kept.0))
 
 check-steps-requires : tie.Need-check_steps-requires
 check-steps-requires c κs =
@@ -127,8 +127,8 @@ check-steps-requires c κs =
     let v = known k in
     let r = room k in
     ready (vars v) (formula (I v)) (ranged v) (start v).args.words.now (start v).args.starts.now _ (word_count v) (clause-count v)
-    ((stands k).front (loaded k)) ((stands k).begins (loaded k)) r.words-1 r.clauses k.clear_bytes.ensures
-    (omega (arith, r.values-1, variable-count v)) (omega (arith, r.trail-1, variable-count v)) (few v)
+    ((stands k).front (loaded k)) ((stands k).begins (loaded k)) r.words r.clauses k.clear_bytes.ensures
+    (omega (arith, r.values, variable-count v)) (omega (arith, r.trail, variable-count v)) (few v)
 
 returns-3 : tie.Need-returns
 returns-3 c =

@@ -46,13 +46,13 @@ module _ (m : tie.After-walk_formula-measured) where
   unwritten = nothing-ahead m.walk_formula-measured.ensures refl start.args.words.now
 
   -- the totals
-  word_count : m.walk_formula-measured.result.words-1 ≡ length (words_of (formula I))
+  word_count : m.walk_formula-measured.result.words ≡ length (words_of (formula I))
   word_count = walk-words start.args.b passed (held_cap start.args.cap) m.walk_formula-measured.ensures
 
   clause-count : m.walk_formula-measured.result.clauses ≡ length (formula I)
   clause-count = walk-clauses start.args.b passed (held_cap start.args.cap) m.walk_formula-measured.ensures
 
-  extent : extent_by m.walk_formula-measured.result.words-1 m.walk_formula-measured.result.clauses ≡ extent_of I
+  extent : extent_by m.walk_formula-measured.result.words m.walk_formula-measured.result.clauses ≡ extent_of I
   extent = ap₂ extent_by word_count clause-count
 
   -- the formula's literals are of its variables
@@ -101,12 +101,12 @@ module _ (w : tie.After-walk_formula) where
       words-written (formula (I measured)) _ (is-small _ (passed measured) (held_cap (start measured).args.cap)) (walks_from (unwritten measured) w.walk_formula.ensures)
 
   -- they are in front
-  in-front : take measured.walk_formula-measured.result.words-1 words ≡ words_of (formula (I measured))
+  in-front : take measured.walk_formula-measured.result.words words ≡ words_of (formula (I measured))
   in-front =
       ap₂ take (word_count measured) were-written ∙ take-sets (start measured).args.words.now (words_of (formula (I measured))) words-fit
 
   -- and say its clauses
-  are-said : clauses_of (take measured.walk_formula-measured.result.words-1 words) ≡ formula (I measured)
+  are-said : clauses_of (take measured.walk_formula-measured.result.words words) ≡ formula (I measured)
   are-said = said _ _ (ranged measured) in-front
 
 index-clauses-requires : tie.Need-index_clauses-requires

@@ -29,7 +29,7 @@ module _ (c : tie.After-prepare_chains-p) where
   abbrev onward : Instance → Verdict (Unit {0})
   onward I =
       let a = start.args in
-      refuted_for I a.r.now (lengths a.words-1.now a.starts-1.now a.values-1.now a.trail-1.now)
+      refuted_for I a.r.now (lengths a.words.now a.starts.now a.values.now a.trail.now)
 
 -- the book is accepted
 module _ (c : tie.In-Accepted) where
@@ -66,7 +66,7 @@ returns-2 c =
     ∙ ap₂
     (λ (m n : ℕ).
     answer_of
-    (refuted_for (under (cap r) (instance_of (held (prepared (told l)).prepare_chains-p.result.read-1.book))) a.r.now (record { words = m; clauses = n; values = length a.values-1.now; trail = length a.trail-1.now })))
+    (refuted_for (under (cap r) (instance_of (held (prepared (told l)).prepare_chains-p.result.read.book))) a.r.now (record { words = m; clauses = n; values = length a.values.now; trail = length a.trail.now })))
     l.load_formula-formula.auto.1.1.1.1.1.1.0 l.load_formula-formula.auto.1.1.1.1.1.1.1.0
     ∙ ap answer_of (went-under _ _ r.prepare_chains-p.ensures.0 (told l).in-Accepted.is (cap r) (onward r))
 

@@ -63,7 +63,7 @@ module _ (c : tie.After-put_pair) where
   abbrev known : tie.After-times_of-times
   known = c.before.before.before
 
-  first : Stored (given known).args.new.now (given known).args.to (little_endian 2 (length (wide known))) c.put_pair.new-1.0 ((given known).args.to + 2)
+  first : Stored (given known).args.new.now (given known).args.to (little_endian 2 (length (wide known))) c.put_pair.new.0 ((given known).args.to + 2)
   first =
       let e : length (payload known) + known.times_of-times.result.count * 1 ≡ length (wide known) = omega (arith, grown known) in
       stored _ _ _ (ap (λ (k : ℕ). (given known).args.to + k) (sym (length-little_endian 2 _)))
@@ -78,7 +78,7 @@ module _ (c : tie.After-put_pair-2) where
   start = given (known one)
 
   opening : Stored start.args.new.now start.args.to (little_endian 2 (length (wide (known one))) ++ little_endian 2 start.args.kind)
-      c.put_pair-2.new-1.0 (start.args.to + 4)
+      c.put_pair-2.new.0 (start.args.to + 4)
   opening = stored-behind (first one) (stored _ _ _ (omega (arith, length-little_endian 2 start.args.kind)) c.put_pair-2.ensures)
 
 -- the payload behind both
@@ -89,7 +89,7 @@ module _ (c : tie.After-put_payload) where
   abbrev all : tie.After-times_of-times
   all = known (one two)
 
-  whole : Stored (given all).args.new.now (given all).args.to (frame (given all).args.kind (wide all)) c.put_payload.new-1.1.1.0
+  whole : Stored (given all).args.new.now (given all).args.to (frame (given all).args.kind (wide all)) c.put_payload.new.1.1.0
       ((given all).args.to + 4 + (length (payload all) + all.times_of-times.result.count * 1))
   unfolding frame widened widened_found
   whole =

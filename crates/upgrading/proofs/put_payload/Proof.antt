@@ -39,7 +39,7 @@ module _ (c : tie.After-put_bytes-end invariant-loop decreases-loop) where
   abbrev payload : Bytes
   payload = given.args.p.now
 
-  opened : Stored given.args.new.now given.args.to (take given.args.times.at payload) c.put_bytes-end.new-1.0 c.put_bytes-end.result
+  opened : Stored given.args.new.now given.args.to (take given.args.times.at payload) c.put_bytes-end.new.0 c.put_bytes-end.result
   opened = stored _ _ _ c.put_bytes-end.ensures.0 c.put_bytes-end.ensures.1
 
 -- and some of the times behind it
@@ -52,10 +52,10 @@ module _ (l : tie.At-loop-i invariant-loop decreases-loop) where
       let t = (given first).args.times.at in
       omega (arith, l.loop-i.invariant.1.ends, length-times (payload first) t l.loop-i.i, first.put_bytes-end.ensures.0, ahead (given first))
 
-  long : length l.loop-i.new-1 ≡ length (given first).args.new.now
+  long : length l.loop-i.new ≡ length (given first).args.new.now
   long = stored-length l.loop-i.invariant.1 ∙ stored-length (opened first)
 
-  room : (given first).args.to + (length (payload first) + (given first).args.times.count) ≤ length l.loop-i.new-1
+  room : (given first).args.to + (length (payload first) + (given first).args.times.count) ≤ length l.loop-i.new
   room = omega (arith, long, (given first).requires.1)
 
 put-pair-requires : tie.Need-put_pair-requires invariant-loop decreases-loop
@@ -76,7 +76,7 @@ loop-again c =
     let at = (given (first l)).args.times.at in
     let i = l.loop-i.i in
     let e : t.time.result ≡ field p (at + i * 1) 1 = t.time.ensures.0 ∙ ap (λ (k : ℕ). field p k 1) (omega arith) in
-    let next = stored l.loop-i.new-1 l.loop-i.end (little_endian 2 t.time.result) (ap (λ (k : ℕ). l.loop-i.end + k) (sym (length-little_endian 2 _)))
+    let next = stored l.loop-i.new l.loop-i.end (little_endian 2 t.time.result) (ap (λ (k : ℕ). l.loop-i.end + k) (sym (length-little_endian 2 _)))
     c.put_pair.ensures in (
       omega arith,
       stored_same (stored-behind l.loop-i.invariant.1 next)
@@ -114,14 +114,14 @@ module _ (c : tie.After-put_bytes invariant-loop decreases-loop) where
   abbrev n : ℕ
   n = (given (first looped)).args.times.count
 
-  whole : Stored (given (first looped)).args.new.now (given (first looped)).args.to (widened_at (payload (first looped)) at n) c.put_bytes.new-1.0
+  whole : Stored (given (first looped)).args.new.now (given (first looped)).args.to (widened_at (payload (first looped)) at n) c.put_bytes.new.0
       c.put_bytes.result
   unfolding widened_at
   whole =
       let p = payload (first looped) in
       let e : looped.loop-i.i ≡ n = omega arith in
       let times = stored_same looped.loop-i.invariant.1 (ap (times_widened p at) e) in
-      let last = stored looped.loop-i.new-1 looped.loop-i.end (rest c.before) c.put_bytes.ensures.0 c.put_bytes.ensures.1 in
+      let last = stored looped.loop-i.new looped.loop-i.end (rest c.before) c.put_bytes.ensures.0 c.put_bytes.ensures.1 in
       let same : behind c.before ≡ at + n * 1 = omega arith in
       stored_same (stored-behind (stored-behind (opened (first looped)) times) last)
       (append_assoc (take at p) (times_widened p at n) (rest c.before)

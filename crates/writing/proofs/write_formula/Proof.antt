@@ -32,7 +32,7 @@ returns c =
     let r = c.before.before.before.before.before.before.before.before.before in
     let a = r.args in
     let cap = held_cap a.cap in
-    let old = a.out-1.now in
+    let old = a.out.now in
     let k = stopped-under _ _ r.prepare_chains-p.ensures.0 cap (λ I. written_for I (length old)) c.answer-1.given.1 in
     (stopped-answer k, stopped-output old k)
 
@@ -43,7 +43,7 @@ returns-2 c =
     let r = prepared t in
     let a = r.args in
     let cap = held_cap a.cap in
-    let old = a.out-1.now in
+    let old = a.out.now in
     let k = went-under _ _ r.prepare_chains-p.ensures.0 t.in-Accepted.is cap (λ I. written_for I (length old)) in
     let w = c.write_by.ensures in
     (w.0 ∙ ap formula_answer k, w.1 ∙ ap (words_after old) k)

@@ -74,10 +74,10 @@ module _ (c : tie.In-loop-node invariant-loop decreases-loop) where
   known : node < I.nodes
   known = omega (arith, c.loop-node-test.true, nodes-is start.args.b start.requires.0.counted.passed)
 
-  fits : T (plan_fits I c.loop-node.plan-1)
+  fits : T (plan_fits I c.loop-node.plan)
   fits = subst (λ (s : Bytes). T (plan_fits I s)) (sym c.loop-node.invariant.1) start.requires.2
 
-  room : T (is_free I node) → c.loop-node.end + 4 ≤ length c.loop-node.out-1
+  room : T (is_free I node) → c.loop-node.end + 4 ≤ length c.loop-node.out
   room free =
       let list = c.loop-node.invariant.2 in
       omega (arith, list.ends, stored-length list, list-room I p node known free, start.requires.3)

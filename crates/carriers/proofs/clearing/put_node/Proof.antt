@@ -76,7 +76,7 @@ module _ (c : tie.After-is_free) where
 returns : tie.Need-returns-then-not-is_free
 returns c =
     let s = start c.before in
-    rw (not_free (I s) (plan_of (I s) (plan s)) (node s) (free-is c.before ∙ not-true _ c.if-not-is_free.true)) (refl, omega arith, refl)
+    rw (not_free (I s) (plan_of (I s) (plan s)) (node s) (free-is c.before ∙ c.if-not-is_free.true)) (refl, omega arith, refl)
 
 returns-2 : tie.Need-returns-then-plan-node-ne1
 unfolding plan_of
@@ -93,7 +93,7 @@ module _ (c : tie.Else-plan-node-ne1) where
   is_one = c.if-plan-node-ne1.false
 
   free : is_free (I set-start) (node set-start) ≡ true
-  free = free-is c.before.before.before ∙ not-false _ c.if-not-is_free.false
+  free = free-is c.before.before.before ∙ c.if-not-is_free.false
 
 returns-3 : tie.Need-returns
 unfolding plan_of

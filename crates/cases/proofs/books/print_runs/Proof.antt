@@ -12,7 +12,7 @@ module _ (c : tie.In-Accepted) where
   abbrev prepared : tie.After-prepare_runs-read
   prepared = c.before.before.before.before.before
 
-  ready : RunsReady prepared.prepare_runs-read.result.book prepared.prepare_runs-read.result.counts-1 prepared.prepare_runs-read.last.1.0
+  ready : RunsReady prepared.prepare_runs-read.result.book prepared.prepare_runs-read.result.counts prepared.prepare_runs-read.last.1.0
   ready = prepared.prepare_runs-read.ensures.1 c.in-Accepted.is
 
 pub print_runs_spec : {M : Type 1} → statement M

@@ -14,7 +14,7 @@ decreases-loop words buf₀ digest₀ from₀ buf digest from = length words - f
 filled : (c : tie.After-put_words-piece invariant-loop decreases-loop) → length c.put_words-piece.new.0 ≡ 65536
 filled c =
     let k = c.before.before.before in
-    piece-long k.loop-from.buf-1 (drop k.loop-from.from k.args.words.now) c.put_words-piece.ensures.3 k.loop-from.invariant.1
+    piece-long k.loop-from.buf (drop k.loop-from.from k.args.words.now) c.put_words-piece.ensures.3 k.loop-from.invariant.1
 
 put-words-requires : tie.Need-put_words-piece-requires invariant-loop decreases-loop
 put-words-requires c κs =
@@ -26,14 +26,14 @@ loop-less c =
     let piece = c.before.before.before in
     let k = piece.before.before.before in
     let less = piece.loop-from-test.true in
-    let more = piece-some (length k.loop-from.buf-1) k.args.words.now k.loop-from.from (omega (arith, k.loop-from.invariant.1)) less in
+    let more = piece-some (length k.loop-from.buf) k.args.words.now k.loop-from.from (omega (arith, k.loop-from.invariant.1)) less in
     omega (arith, piece.put_words-piece.ensures.0, more, less)
 
 loop-again : tie.Need-loop-from-preserved invariant-loop decreases-loop
 loop-again c =
     let piece = c.before.before.before in
     let k = piece.before.before.before in
-    let within = piece-le (length k.loop-from.buf-1) k.args.words.now k.loop-from.from k.loop-from.invariant.0 in
+    let within = piece-le (length k.loop-from.buf) k.args.words.now k.loop-from.from k.loop-from.invariant.0 in
     (omega (arith, piece.put_words-piece.ensures.0, within), filled piece, c.more-digest.ensures)
 
 pub more_words_spec : {M : Type 1} → statement M

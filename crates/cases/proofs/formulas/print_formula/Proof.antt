@@ -6,7 +6,7 @@ use Rattle.cases.proofs.formulas.print_formula.Tie as tie
 slice-aggregate-print-words : tie.Need-slice_bounds-print_words-end
 slice-aggregate-print-words c =
     let o = c.opened-text in
-    omega (arith, o.ensures, length-take o.result.words-1 o.new.1.1.1.0)
+    omega (arith, o.ensures, length-take o.result.words o.new.1.1.1.0)
 
 pub print_formula_spec : {M : Type 1} → statement M
 print_formula_spec =

@@ -62,8 +62,8 @@ module _ (c : tie.After-size_of invariant-loop decreases-loop) where
   abbrev start : tie.Start invariant-loop decreases-loop
   start = c.before.before.before.before.before
 
-  inside : c.start_of_lem.result + c.type_size.result ≤ train_bytes
-  inside = let p = start.requires in omega (arith, p.1, p.2, p.4, c.type_size.ensures.0, c.start_of_lem.ensures)
+  inside : c.start_of-at.result + c.size_of.result ≤ train_bytes
+  inside = let p = start.requires in omega (arith, p.1, p.2, p.4, c.size_of.ensures.0, c.start_of-at.ensures)
 
 loop-again : tie.Need-loop-k-preserved invariant-loop decreases-loop
 unfolding segment_of
@@ -82,7 +82,7 @@ returns c =
     let z = c.before.before in
     let a = (start z).args in
     let all = behind-all a.t.base a.t.runs (a.t.base + a.r) a.r a.runs.now z.claims_from-claims.ensures
-    z.start_of_lem.ensures z.type_size.ensures.0 in
+    z.start_of-at.ensures z.size_of.ensures.0 in
     walks_same all (ahead-done (ahead-same (behind-end _ _ _ _ _ c.loop-k-test.false) c.loop-k.invariant))
 
 pub claims_of_spec : {M : Type 1} → statement M

@@ -55,7 +55,7 @@ is-given-requires : tie.Need-is_given-given-requires invariant-loop decreases-lo
 is-given-requires c κs =
     let s = c.before.before.before.before.before.before in
     let h = s.requires.0 in (
-      omega (arith, small s, c.loop-k-test.true, c.start_of_lem.ensures, h.short, s.requires.1.long),
+      omega (arith, small s, c.loop-k-test.true, c.start_of.ensures, h.short, s.requires.1.long),
       size_small s.args.b h.passed s.args.t.train h.known,
     )
 
@@ -65,7 +65,7 @@ loop-again c =
     let i = g.before.before in
     let a = i.args in
     let given = (held_train (get_or a.t1.trains a.t.train no_train)).place in
-    let place = ap (λ (k : ℕ). same (place_at a.runs.now k a.t.length) given) g.start_of_lem.ensures in
+    let place = ap (λ (k : ℕ). same (place_at a.runs.now k a.t.length) given) g.start_of.ensures in
     let same-words = ap (λ (x : Bool). words_of (clause a.t.base i.loop-k.k x)) (g.is_given-given.ensures ∙ place) in
     turn _ _ _ i.loop-k.invariant i.loop-k-test.true (walks_same same-words c.unit_not_if-next.ensures)
 

@@ -25,7 +25,7 @@ module _ (c : tie.After-walk_formula-w) where
   I = under (held_cap start.args.cap) (instance_of (held start.args.b))
 
   fits : assignment_fits I start.args.values.now ≡ true
-  fits = sym c.assignment_fits.ensures ∙ not-false _ c.if-not-assignment_fits.false
+  fits = sym c.assignment_fits.ensures ∙ c.if-not-assignment_fits.false
 
   found : c.walk_formula-w.result.wrong ≡ or_zero (first_false (assigned start.args.values.now) 1 (formula I))
   unfolding totals
@@ -38,7 +38,7 @@ judge_assignment_spec =
     tie.close
     (tie.spec
     (λ c κs. search rules)
-    (λ c. answer-unfit _ _ (sym c.assignment_fits.ensures ∙ not-true _ c.if-not-assignment_fits.true))
+    (λ c. answer-unfit _ _ (sym c.assignment_fits.ensures ∙ c.if-not-assignment_fits.true))
     (λ c. search rules)
     (λ c. search rules)
     (λ c. search rules)

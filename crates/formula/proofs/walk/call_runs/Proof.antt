@@ -82,7 +82,7 @@ module _ (c : tie.Joined-in_window invariant-loop decreases-loop) where
   given = start inner
 
   passed : Walks given.args.values.now (words given.args.b given.args.first.train given.args.number (t inner))
-      inner.loop-interval.next inner.loop-interval.out-1 c.if-in_window.next c.if-in_window.out-1
+      inner.loop-interval.next inner.loop-interval.out c.if-in_window.next c.if-in_window.out
   passed =
       let a = given.args in
       let I = instance_of (held a.t1) in

@@ -33,7 +33,7 @@ module _ (c : tie.Else-out-n) where
 returns-2 : tie.Need-returns-then-not-borders_fit
 returns-2 c =
     let f = c.before.before in
-    labelled-unfit _ _ _ (room f.before) (sym f.borders_fit.ensures ∙ not-true _ c.if-not-borders_fit.true) c.refuse-then-not-borders_fit.ensures
+    labelled-unfit _ _ _ (room f.before) (sym f.borders_fit.ensures ∙ c.if-not-borders_fit.true) c.refuse-then-not-borders_fit.ensures
 
 -- the borders fit
 module _ (c : tie.Else-not-borders_fit) where
@@ -41,7 +41,7 @@ module _ (c : tie.Else-not-borders_fit) where
   begun = start c.before.before
 
   fits : borders_fit (instance_of (held begun.args.b)) begun.args.borders.now ≡ true
-  fits = sym c.borders_fit.ensures ∙ not-false _ c.if-not-borders_fit.false
+  fits = sym c.borders_fit.ensures ∙ c.if-not-borders_fit.false
 
 label-sections-requires : tie.Need-label_sections-requires
 label-sections-requires c κs =

@@ -18,13 +18,13 @@ decreases-loop runs run size base path₀ i₀ path i = size - i
 
 loop-holds : tie.Need-loop-i-init invariant-loop decreases-loop
 unfolding padded
-loop-holds c = (omega arith, copied_none 16 0 c.args.runs.now c.start_of_lem.result refl)
+loop-holds c = (omega arith, copied_none 16 0 c.args.runs.now c.start_of-base.result refl)
 
 loop-again : tie.Need-loop-i-preserved invariant-loop decreases-loop
 loop-again c =
     let l = c.before.before in
     let runs = l.args.runs.now in
-    (omega arith, copied_next 16 0 runs l.start_of_lem.result l.loop-i.i (omega arith) (omega arith) l.loop-i.invariant.1)
+    (omega arith, copied_next 16 0 runs l.start_of-base.result l.loop-i.i (omega arith) (omega arith) l.loop-i.invariant.1)
 
 returns : tie.Need-returns invariant-loop decreases-loop
 unfolding place_at
@@ -33,7 +33,7 @@ returns c =
     let a = l.args in
     let done : l.loop-i.i ≡ a.size = omega arith in
     l.loop-i.invariant.1
-    ∙ ap₂ (λ (base k : ℕ). padded 16 0 (slice base (base + k) a.runs.now)) l.start_of_lem.ensures done
+    ∙ ap₂ (λ (base k : ℕ). padded 16 0 (slice base (base + k) a.runs.now)) l.start_of-base.ensures done
 
 pub path_of_spec : {M : Type 1} → statement M
 path_of_spec =

@@ -31,7 +31,7 @@ path-of-requires c κs =
     let s = start e in
     let k = s.requires.3 in
     let l : s.args.run < s.args.n = e.if-n-run.false in
-    (k.long, omega (arith, k.few, s.requires.2), omega (arith, c.type_size.ensures.0, k.most s.args.run (omega (arith, s.requires.2))))
+    (k.long, omega (arith, k.few, s.requires.2), omega (arith, c.size_of-size.ensures.0, k.most s.args.run (omega (arith, s.requires.2))))
 
 returns-2 : tie.Need-returns
 returns-2 c =
@@ -40,7 +40,7 @@ returns-2 c =
     let s = start e in
     let p = s.requires in
     let l = length-here s.args.b p.0 s.args.train p.1 w.length_in_segments-place.ensures in
-    asked-found s.args.b p.0 _ _ p.1 p.2 p.3 e.if-n-run.false l.0 w.type_size.ensures.0 c.path_of-path.ensures
+    asked-found s.args.b p.0 _ _ p.1 p.2 p.3 e.if-n-run.false l.0 w.size_of-size.ensures.0 c.path_of-path.ensures
 
 size-of-requires : tie.Need-size_of-size-requires
 size-of-requires c κs =

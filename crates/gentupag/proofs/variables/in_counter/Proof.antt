@@ -26,9 +26,9 @@ use Rattle.gentupag.proofs.variables.in_counter.Statement.{statement}
 use Rattle.gentupag.proofs.variables.in_counter.Tie as tie
 
 -- a book has no more nodes of kind 1 than nodes
-free-few : (I : Instance) → length (free_nodes_of I) ≤ I.nodes-1
+free-few : (I : Instance) → length (free_nodes_of I) ≤ I.nodes
 unfolding free_nodes_of
-free-few I = omega (arith, pick-most (is_free I) (up_to I.nodes-1), length-up_to I.nodes-1)
+free-few I = omega (arith, pick-most (is_free I) (up_to I.nodes), length-up_to I.nodes)
 
 -- the counter, and the variables before it
 module _ (o : tie.After-own_variables) where
@@ -117,7 +117,7 @@ module _ (e : tie.Else-c-spare) where
   listed nodes filled =
       let g = given known in
       let free = free_nodes_of (I known) in
-      let fits = (passed-few g.args.b g.requires.0.passed).nodes-1 in
+      let fits = (passed-few g.args.b g.requires.0.passed).nodes in
       ap (λ (ns : List ℕ). get_or ns (j + k) 0) filled
       ∙ ap (λ (i : ℕ). get_or (sets (replicate 96 0) 0 free) i 0) (sym (zero-add (j + k)))
       ∙ get_or-sets-in (replicate 96 0) 0 free (j + k) 0 (omega (arith, row, rest, whole))

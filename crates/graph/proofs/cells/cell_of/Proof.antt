@@ -51,18 +51,18 @@ module _ (c : tie.After-size_of-size) where
   abbrev run-told : tie.In-Run
   run-told = c.before.before
 
-  inside : c.start_of_lem.result + c.type_size.result ≤ length (runs run-told)
-  inside = omega (arith, asks run-told, short run-told, c.start_of_lem.ensures, c.type_size.ensures)
+  inside : c.start_of-first.result + c.size_of-size.result ≤ length (runs run-told)
+  inside = omega (arith, asks run-told, short run-told, c.start_of-first.ensures, c.size_of-size.ensures)
 
-  held_by : (1 ≤ c.type_size.result) × ((start run-told).args.l ≤ c.type_size.result) × (c.type_size.result ≤ 16)
+  held_by : (1 ≤ c.size_of-size.result) × ((start run-told).args.l ≤ c.size_of-size.result) × (c.size_of-size.result ≤ 16)
   held_by =
-      let e = c.type_size.ensures.0 in
+      let e = c.size_of-size.ensures.0 in
       (omega (arith, some run-told, e), omega (arith, asks run-told, e), omega (arith, short run-told, e))
 
 returns : tie.Need-returns-in-Run
 returns c =
-    let size = c.type_size in
-    let first = c.start_of_lem in
+    let size = c.size_of-size in
+    let first = c.start_of-first in
     let k = c.before.before.before.before.before.before.before in
     c.run_cell.ensures
     ∙ ap cell (shown_read k first.ensures size.ensures.0 c.wide-rear.ensures.0 c.wide-front.ensures.0)
@@ -85,7 +85,7 @@ cell_of_spec =
     (λ c κs. let k = c.before in ((asks k).0, (asks k).1))
     (λ c. let n = c.before in omega (arith, inside n, held_by n))
     (λ c κs. search rules)
-    (λ c. let n = c.before.before in omega (arith, asks (run-told n), n.start_of_lem.ensures, held_by n))
+    (λ c. let n = c.before.before in omega (arith, asks (run-told n), n.start_of-first.ensures, held_by n))
     (λ c. let n = c.before.before in omega (arith, held_by n))
     (λ c. let n = c.before.before.before in omega (arith, inside n, held_by n))
     (λ c κs. search rules)

@@ -70,7 +70,7 @@ loop-again c =
     let l = turn a in
     let s = given l in
     let b = s.args.b in
-    let next = stored l.loop-train.page-1 l.loop-train.end a.cell_at-cell.result p.put_bytes-end.ensures.0 p.put_bytes-end.ensures.1 in (
+    let next = stored l.loop-train.page l.loop-train.end a.cell_at-cell.result p.put_bytes-end.ensures.0 p.put_bytes-end.ensures.1 in (
       omega (arith, a.loop-train-test.true),
       stored_same (stored-behind l.loop-train.invariant.1 next)
           (ap (λ (x : Bytes). firsts b s.args.plan.now s.args.interval l.loop-train.train ++ x) a.cell_at-cell.ensures

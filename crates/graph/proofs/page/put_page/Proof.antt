@@ -53,7 +53,7 @@ module _ (l : tie.At-loop-interval invariant-loop decreases-loop) where
   few = omega (arith, as_many, few-intervals (held book) given.requires.0.counted.passed.formed)
 
   -- a line more has room
-  room : l.loop-interval.interval < book.intervals → l.loop-interval.interval * 81 + 81 ≤ length l.loop-interval.page-1
+  room : l.loop-interval.interval < book.intervals → l.loop-interval.interval * 81 + 81 ≤ length l.loop-interval.page
   unfolding page_bytes
   room h = omega (arith, given.requires.2, as_many, stored-length l.loop-interval.invariant.1)
 
@@ -72,8 +72,8 @@ loop-again c =
     each_next (own b s.args.plan.now) n in
     let long : 81 * (n + 1) ≡ 81 * n + length (own b s.args.plan.now n) =
     omega (arith, sym (rows (n + 1) h) ∙ ap length more ∙ length-append (firsts b s.args.plan.now n) _, rows n (omega arith)) in
-    let next = stored l.loop-interval.page-1 (81 * n) (own b s.args.plan.now n) long
-    (w.put_line.ensures ∙ ap (λ (k : ℕ). sets l.loop-interval.page-1 k (own b s.args.plan.now n)) (mul_comm n 81)) in
+    let next = stored l.loop-interval.page (81 * n) (own b s.args.plan.now n) long
+    (w.put_line.ensures ∙ ap (λ (k : ℕ). sets l.loop-interval.page k (own b s.args.plan.now n)) (mul_comm n 81)) in
     (omega (arith, taken), stored_same (stored-behind l.loop-interval.invariant.1 next) (sym more))
 
 returns : tie.Need-returns invariant-loop decreases-loop

@@ -42,12 +42,12 @@ train-fits-requires c κs =
 returns : tie.Need-returns-then-not-train_fits invariant-loop decreases-loop
 returns c =
     all-broken _ c.loop-i.invariant c.loop-i-test.true
-    (sym c.train_fits.ensures ∙ not-true _ c.if-not-train_fits.true)
+    (sym c.train_fits.ensures ∙ c.if-not-train_fits.true)
 
 loop-again : tie.Need-loop-i-preserved invariant-loop decreases-loop
 loop-again c =
     all-turn _ c.loop-i.invariant c.loop-i-test.true
-    (sym c.train_fits.ensures ∙ not-false _ c.if-not-train_fits.false)
+    (sym c.train_fits.ensures ∙ c.if-not-train_fits.false)
 
 pub moves_fit_spec : {M : Type 1} → statement M
 moves_fit_spec =

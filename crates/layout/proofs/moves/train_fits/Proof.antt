@@ -57,7 +57,7 @@ here c =
     ∙ move-iff _ _ _ s.requires.3
 
 returns : tie.Need-returns-then-not-is_move invariant-loop decreases-loop
-returns c = all-broken _ c.loop-interval.invariant c.loop-interval-test.true (sym (here c.before) ∙ not-true _ c.if-not-is_move.true)
+returns c = all-broken _ c.loop-interval.invariant c.loop-interval-test.true (sym (here c.before) ∙ c.if-not-is_move.true)
 
 add-interval : tie.Need-overflow_add-interval invariant-loop decreases-loop
 add-interval c = omega arith
@@ -66,7 +66,7 @@ loop-less : tie.Need-loop-interval-smaller invariant-loop decreases-loop
 loop-less c = omega arith
 
 loop-again : tie.Need-loop-interval-preserved invariant-loop decreases-loop
-loop-again c = all-turn _ c.loop-interval.invariant c.loop-interval-test.true (sym (here c.before) ∙ not-false _ c.if-not-is_move.false)
+loop-again c = all-turn _ c.loop-interval.invariant c.loop-interval-test.true (sym (here c.before) ∙ c.if-not-is_move.false)
 
 returns-2 : tie.Need-returns invariant-loop decreases-loop
 returns-2 c = all_done _ c.loop-interval.invariant c.loop-interval-test.false

@@ -55,7 +55,7 @@ turn c =
 
 loop-again : tie.Need-loop-i-preserved invariant-loop decreases-loop
 loop-again c =
-    let h = not-false c.leads_to.result c.if-not-leads_to.false in
+    let h = c.if-not-leads_to.false in
     let i = c.loop-i.i in
     let e : i + 1 - 1 ≡ i = omega arith in
     (omega arith, turn c.before ∙ simp (h, e))
@@ -79,7 +79,7 @@ all_linked_spec =
     (λ c. omega arith)
     (λ c κs. search rules)
     leads-to-requires
-    (λ c. let h = not-true c.leads_to.result c.if-not-leads_to.true in sym (turn c.before ∙ simp h))
+    (λ c. let h = c.if-not-leads_to.true in sym (turn c.before ∙ simp h))
     (λ c. omega arith)
     (λ c. omega arith)
     loop-again

@@ -10,12 +10,12 @@ use Rattle.network.proofs.track.is_free.Tie as tie
 returns : tie.Need-returns-then-not-denies_border
 returns c =
     let d = c.before.before in
-    simp (sym d.denies_border.ensures ∙ not-true _ c.if-not-denies_border.true, c.forces_border.ensures)
+    simp (sym d.denies_border.ensures ∙ c.if-not-denies_border.true, c.forces_border.ensures)
 
 returns-2 : tie.Need-returns-else-not-denies_border
 returns-2 c =
     let d = c.before in
-    c.if-not-denies_border.false ∙ sym (ap (λ (t : Bool). not t && not (forces_border d.args.kind)) (sym d.denies_border.ensures ∙ not-false _ c.if-not-denies_border.false))
+    c.if-not-denies_border.false ∙ sym (ap (λ (t : Bool). not t && not (forces_border d.args.kind)) (sym d.denies_border.ensures ∙ c.if-not-denies_border.false))
 
 pub is_free_spec : {M : Type 1} → statement M
 is_free_spec =

@@ -23,9 +23,9 @@ use Rattle.plan_coding.proofs.counting.write_counter.Statement.{statement}
 use Rattle.plan_coding.proofs.counting.write_counter.Tie as tie
 
 -- a book has no more nodes of kind 1 than nodes
-free-few : (I : Instance) → length (free_nodes_of I) ≤ I.nodes-1
+free-few : (I : Instance) → length (free_nodes_of I) ≤ I.nodes
 unfolding free_nodes_of
-free-few I = omega (arith, pick-most (is_free I) (up_to I.nodes-1), length-up_to I.nodes-1)
+free-few I = omega (arith, pick-most (is_free I) (up_to I.nodes), length-up_to I.nodes)
 
 -- the list, the counter and its first variable
 module _ (o : tie.After-own_variables-first) where
@@ -44,13 +44,13 @@ module _ (o : tie.After-own_variables-first) where
   abbrev c : CounterStruct
   c = o.counter_of-c.result
 
-  counted : I.nodes-1 ≡ given.args.b.node_count
+  counted : I.nodes ≡ given.args.b.node_count
   counted = nodes-is given.args.b given.requires.0.passed
 
   listed : (n : ℕ) → n < length (free_nodes_of I) → get_or nodes n 0 ≡ get_or (free_nodes_of I) n 0
   listed =
       stored-listed (replicate 96 0) (free_nodes_of I) o.list_free.ensures.1
-      (omega (arith, free-few I, counted, length-replicate {A = ℕ} 96 0, given.requires.0.passed.packed.counts.nodes-1))
+      (omega (arith, free-few I, counted, length-replicate {A = ℕ} 96 0, given.requires.0.passed.packed.counts.nodes))
 
   whole : c.most + c.spare ≤ length (free_nodes_of I)
   whole =

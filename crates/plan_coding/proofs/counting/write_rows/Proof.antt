@@ -27,7 +27,7 @@ write-row-requires c κs =
     let s = t.before.before.before.before in
     let a = s.args in
     let fits = row_fits a.first l.j a.c.spare l.invariant.1 a.c.most t.loop-j-test.true s.requires.2 in
-    let room : l.at + a.c.spare ≤ length l.out-1 = omega (arith, fits, rows-kept l.invariant.3) in (
+    let room : l.at + a.c.spare ≤ length l.out = omega (arith, fits, rows-kept l.invariant.3) in (
       omega (arith, t.loop-j-test.true, s.requires.0),
       (λ n h. s.requires.1 n (omega (arith, t.loop-j-test.true, h))),
       l.invariant.2,

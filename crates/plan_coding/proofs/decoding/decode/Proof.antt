@@ -34,7 +34,7 @@ module _ (k : tie.At-loop-train invariant-loop decreases-loop) where
   abbrev train : ℕ
   train = k.loop-train.train
 
-  kept : length k.loop-train.out-1 ≡ length given.args.out.now
+  kept : length k.loop-train.out ≡ length given.args.out.now
   kept = rows-kept k.loop-train.invariant.1 ∙ ap length k.decode_borders.ensures ∙ simp length-sets
 
 decode-train-requires : tie.Need-decode_train-requires invariant-loop decreases-loop
@@ -67,7 +67,7 @@ returns c =
     let I = instance_of (held a.b) in
     let done : k.loop-train.train ≡ I.trains = omega (arith, c.loop-train-test.false, k.loop-train.invariant.0, trains-is a.b p) in
     let first = k.decode_borders.ensures in
-    plan-stored I a.values.now a.out-1.now s.requires.1 first k.loop-train.invariant.1 done
+    plan-stored I a.values.now a.out.now s.requires.1 first k.loop-train.invariant.1 done
 
 pub decode_spec : {M : Type 1} → statement M
 decode_spec =

@@ -44,7 +44,7 @@ module _ (t : tie.In-loop-interval invariant-loop decreases-loop) where
   short : interval < 65536
   short = omega (arith, t.loop-interval-test.true, given.requires.0.passed.packed.numbers.intervals)
 
-  room : move_at (instance_of (held given.args.b)) given.args.train interval + 2 ≤ length t.loop-interval.out-1
+  room : move_at (instance_of (held given.args.b)) given.args.train interval + 2 ≤ length t.loop-interval.out
   room =
       let a = given.args in
       let counted = given.requires.0 in
@@ -71,18 +71,18 @@ move-place-requires c κs =
 put-pair-requires : tie.Need-put_pair-requires invariant-loop decreases-loop
 put-pair-requires c κs =
     let p = c.before in
-    (omega (arith, room p.before.before.before, p.move_place-at.ensures), p.code_of_lem.ensures.1)
+    (omega (arith, room p.before.before.before, p.move_place-at.ensures), p.code_of-code.ensures.1)
 
 loop-again : tie.Need-loop-interval-preserved invariant-loop decreases-loop
 loop-again c =
     let p = c.before.before.before.before in
     let v = p.before in
     let t = v.before.before in
-    let number = v.code_of_lem.ensures.0 ∙ code_is (block v.before) _ in (
+    let number = v.code_of-code.ensures.0 ∙ code_is (block v.before) _ in (
       omega (arith, t.loop-interval-test.true),
       rows_next _ 2 (λ i. length-little_endian 2 _) t.loop-interval.invariant.1 (p.move_place-at.ensures ∙ place-from _ _ _)
           (c.put_pair.ensures
-          ∙ ap (λ (x : ℕ). sets t.loop-interval.out-1 p.move_place-at.result (little_endian 2 x)) number),
+          ∙ ap (λ (x : ℕ). sets t.loop-interval.out p.move_place-at.result (little_endian 2 x)) number),
     )
 
 returns : tie.Need-returns invariant-loop decreases-loop

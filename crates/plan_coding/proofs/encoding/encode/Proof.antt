@@ -68,7 +68,7 @@ module _ (k : tie.At-loop-i invariant-loop decreases-loop) where
       (sym (nodes-are given))
       ∙ ap (sets given.args.out.now 0) (borders-of (I given) given.args.plan.now)
 
-  kept : length k.loop-i.out-1 ≡ length given.args.out.now
+  kept : length k.loop-i.out ≡ length given.args.out.now
   kept = rows-kept k.loop-i.invariant.1 ∙ ap length bordered ∙ simp length-sets
 
 write-train-requires : tie.Need-write_train-requires invariant-loop decreases-loop
@@ -89,7 +89,7 @@ write-counter-requires : tie.Need-write_counter-requires invariant-loop decrease
 write-counter-requires c κs =
     let k = c.before.before in
     let s = given k in
-    let room : variables (under (held_cap s.args.cap) (I s)) ≤ length k.loop-i.out-1 = omega (arith, kept k, s.requires.1) in (
+    let room : variables (under (held_cap s.args.cap) (I s)) ≤ length k.loop-i.out = omega (arith, kept k, s.requires.1) in (
       s.requires.0.0.counted,
       omega (arith, plan-long _ _ s.requires.0.1, nodes-fit s.args.b s.requires.0.0.counted.passed),
       room,

@@ -113,8 +113,8 @@ module _ (c : tie.After-write_marked) where
       ∙ ap₂ (λ (out claims : Bytes). sets out (a.block.base + (a.block.runs + 1)) claims)
       (wrote r).write_move.ensures
       (claims-marked _ s.requires.0 a.interval s.requires.2 (train s) (known s) (stretch-is r))
-      ∙ interval-written (I s) (p s) (train s) a.interval a.block.base _ _ a.out-1.now s.requires.1.block.runs (asked r).move_at-m.ensures
-      ∙ ap (λ (at : ℕ). sets a.out-1.now at (interval_bytes (I s) (p s) (train s) a.interval)) s.requires.1.base
+      ∙ interval-written (I s) (p s) (train s) a.interval a.block.base _ _ a.out.now s.requires.1.block.runs (asked r).move_at-m.ensures
+      ∙ ap (λ (at : ℕ). sets a.out.now at (interval_bytes (I s) (p s) (train s) a.interval)) s.requires.1.base
 
 pub write_interval_spec : {M : Type 1} → statement M
 write_interval_spec =

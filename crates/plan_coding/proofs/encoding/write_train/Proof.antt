@@ -35,7 +35,7 @@ module _ (t : tie.In-loop-interval invariant-loop decreases-loop) where
   abbrev given : tie.Start invariant-loop decreases-loop
   given = t.before.before.before.before.before.before.before
 
-  room : base (instance_of (held given.args.b)) given.args.train (t.loop-interval.interval + 1) ≤ length t.loop-interval.out-1
+  room : base (instance_of (held given.args.b)) given.args.train (t.loop-interval.interval + 1) ≤ length t.loop-interval.out
   room =
       let b = given.args.b in
       let inside : t.loop-interval.interval < (instance_of (held b)).intervals
@@ -56,7 +56,7 @@ write-interval-requires c κs =
       p.0,
       block_of (sym e.train) e,
       t.loop-interval-test.true,
-      subst (λ (i : ℕ). base I i (t.loop-interval.interval + 1) ≤ length t.loop-interval.out-1) (sym (own k)) (room t),
+      subst (λ (i : ℕ). base I i (t.loop-interval.interval + 1) ≤ length t.loop-interval.out) (sym (own k)) (room t),
     )
 
 loop-again : tie.Need-loop-interval-preserved invariant-loop decreases-loop
@@ -69,7 +69,7 @@ loop-again c =
       omega (arith, t.loop-interval-test.true),
       rows_next _ (width I a.train) (length-interval I _ a.train) t.loop-interval.invariant.1 (interval-place I a.train n)
           (c.write_interval.ensures
-          ∙ ap (λ (i : ℕ). sets t.loop-interval.out-1 (base I i n) (part a.b a.plan.now i n)) (own k)),
+          ∙ ap (λ (i : ℕ). sets t.loop-interval.out (base I i n) (part a.b a.plan.now i n)) (own k)),
     )
 
 returns : tie.Need-returns invariant-loop decreases-loop

@@ -98,9 +98,9 @@ shares c =
     let r = c.before.before in
     let k = (loop r).loop-i in
     c.touches.ensures
-    ∙ ap (any (is_marked k.marks-1)) (labels r)
+    ∙ ap (any (is_marked k.marks)) (labels r)
     ∙ touch_is _ (given r).requires.0 (given r).args.interval (given r).requires.1 (up_to (train (loop r)))
-    (λ i m. omega (arith, (up_to-mem (train (loop r)) i).0 m, (loop r).loop-i-test.true)) (train (loop r)) (loop r).loop-i-test.true k.marks-1 k.invariant.1
+    (λ i m. omega (arith, (up_to-mem (train (loop r)) i).0 m, (loop r).loop-i-test.true)) (train (loop r)) (loop r).loop-i-test.true k.marks k.invariant.1
 
 returns : tie.Need-returns-then-touches invariant-loop decreases-loop
 returns c =
@@ -116,7 +116,7 @@ loop-again c =
     let k = t.loop-i in (
       all-turn _ k.invariant.0 t.loop-i-test.true (ap not (sym (shares e.before) ∙ e.if-touches.false)),
       rw (c.mark.ensures, labels r, add-one, up_to-suc)
-          (marked_next _ s.requires.0 s.args.interval s.requires.1 (up_to (train t)) (train t) t.loop-i-test.true k.marks-1 k.invariant.1),
+          (marked_next _ s.requires.0 s.args.interval s.requires.1 (up_to (train t)) (train t) t.loop-i-test.true k.marks k.invariant.1),
     )
 
 pub interval_apart_spec : {M : Type 1} → statement M

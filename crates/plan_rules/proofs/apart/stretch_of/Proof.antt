@@ -32,7 +32,7 @@ unfolding stretch_of
 returns c =
     let k = c.before.before.before in
     let a = k.args in
-    ap₂ (λ (at size : ℕ). record { at = a.train * train_bytes + at; size = size }) c.start_of_lem.ensures c.wide-size.ensures.0
+    ap₂ (λ (at size : ℕ). record { at = a.train * train_bytes + at; size = size }) c.start_of.ensures c.wide-size.ensures.0
     ∙ told a.runs.now a.train k.m-1.given.1
 
 returns-2 : tie.Need-returns-in-Absent
@@ -50,7 +50,7 @@ stretch_of_spec =
     (λ c. search rules)
     (λ c. search rules)
     (λ c κs. below c)
-    (λ c. omega (arith, below c.before, c.start_of_lem.ensures))
+    (λ c. omega (arith, below c.before, c.start_of.ensures))
     (λ c. omega (arith, below c.before))
     (λ c. omega (arith, below c.before))
     (λ c. omega (arith, below c.before.before))

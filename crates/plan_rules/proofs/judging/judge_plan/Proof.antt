@@ -21,7 +21,7 @@ module _ (c : tie.Else-not-plan_fits) where
   start = c.before.before.before.before.before
 
   fits : plan_fits (instance_of (held start.args.b)) start.args.plan.now ≡ true
-  fits = sym c.plan_fits.ensures ∙ not-false _ c.if-not-plan_fits.false
+  fits = sym c.plan_fits.ensures ∙ c.if-not-plan_fits.false
 
 label-sections-requires : tie.Need-label_sections-requires
 label-sections-requires c κs =
@@ -41,20 +41,20 @@ returns-3 : tie.Need-returns-then-not-rule_6
 returns-3 c =
     let f = c.before.before.before.before.before.before in
     answer-sixth _ _ (fits f.before.before) _ f.first_broken-broken.ensures f.if-broken-ne0.false
-    (sym c.rule_6.ensures ∙ not-true _ c.if-not-rule_6.true)
+    (sym c.rule_6.ensures ∙ c.if-not-rule_6.true)
 
 returns-4 : tie.Need-returns
 returns-4 c =
     let f = c.before.before.before.before.before.before in
     answer-kept _ _ (fits f.before.before) _ f.first_broken-broken.ensures f.if-broken-ne0.false
-    (sym c.rule_6.ensures ∙ not-false _ c.if-not-rule_6.false)
+    (sym c.rule_6.ensures ∙ c.if-not-rule_6.false)
 
 pub judge_plan_spec : {M : Type 1} → statement M
 judge_plan_spec =
     tie.close
     (tie.spec
     (λ c κs. search rules)
-    (λ c. answer-unfit _ _ (sym c.plan_fits.ensures ∙ not-true _ c.if-not-plan_fits.true))
+    (λ c. answer-unfit _ _ (sym c.plan_fits.ensures ∙ c.if-not-plan_fits.true))
     (λ c κs. ((start c).requires.0, from-true (fits c)))
     (λ c. let e = c.before.before in answer-early _ _ (fits e) _ c.first_broken-broken.ensures c.if-broken-ne0.true)
     (λ c. search rules)

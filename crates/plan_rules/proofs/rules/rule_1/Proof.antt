@@ -65,12 +65,12 @@ module _ (c : tie.After-border_fits invariant-loop decreases-loop) where
 returns : tie.Need-returns-then-not-border_fits invariant-loop decreases-loop
 returns c =
     let t = c.before.before.before.before in
-    all-broken _ t.loop-node.invariant t.loop-node-test.true (sym (here c.before) ∙ not-true _ c.if-not-border_fits.true)
+    all-broken _ t.loop-node.invariant t.loop-node-test.true (sym (here c.before) ∙ c.if-not-border_fits.true)
 
 loop-again : tie.Need-loop-node-preserved invariant-loop decreases-loop
 loop-again c =
     let t = c.before.before.before.before in
-    all-turn _ t.loop-node.invariant t.loop-node-test.true (sym (here c.before) ∙ not-false _ c.if-not-border_fits.false)
+    all-turn _ t.loop-node.invariant t.loop-node-test.true (sym (here c.before) ∙ c.if-not-border_fits.false)
 
 pub rule_1_spec : {M : Type 1} → statement M
 rule_1_spec =

@@ -114,7 +114,7 @@ loop-again c =
     any-turn _ t.loop-t.invariant t.loop-t-test.true
     (elim (c.if-in_window.branch) [ then-in_window w ↦ within v w.if-in_window.true
     (sym w.if-run_serves.false ∙ w.run_serves.ensures
-    ∙ ap (λ (m : Move). runs m (λ x. (I t).serves (start t).args.train (start t).args.number x)) w.move_at-m.ensures) | else-in_window w ↦ outside v w.if-in_window.false ]
+    ∙ ap (λ (m : Move). runs m (λ x. (I t).serves (start t).args.train (start t).args.number x)) w.move_at-m.ensures) | else-in_window w ↦ outside v w.if-in_window.false ])
 
 pub served_after_spec : {M : Type 1} → statement M
 served_after_spec =

@@ -27,7 +27,7 @@ is-given-requires c κs =
     let k = c.before.before in
     let s = start k in
     let p = s.requires.0 in
-    (start-inside p _ (run-known k) c.start_of_lem.ensures, size_small s.args.b p.passed s.args.train p.known)
+    (start-inside p _ (run-known k) c.start_of.ensures, size_small s.args.b p.passed s.args.train p.known)
 
 returns : tie.Need-returns-in-Run
 returns c =
@@ -35,7 +35,7 @@ returns c =
     let s = start k in
     let p = s.requires.0 in
     given-answer s.args.b s.args.train _ p.reached (same-train s.args.b p.passed s.args.train p.known)
-    (starting p _ (run-known k) c.start_of_lem.ensures) c.is_given.ensures
+    (starting p _ (run-known k) c.start_of.ensures) c.is_given.ensures
     ∙ runs-run _ k.m-1.given.1
 
 pub starts_given_spec : {M : Type 1} → statement M

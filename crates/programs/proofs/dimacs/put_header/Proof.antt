@@ -34,7 +34,7 @@ module _ (c : tie.After-slice_known-6-1) where
       let front = opened.put_bytes-opened.ensures in
       let m = first.put_number-first.ensures in
       let n = second.put_number-second.ensures in
-      let o = stored a.buf-1.now 0 dimacs_opening front.0 front.1 in
+      let o = stored a.buf.now 0 dimacs_opening front.0 front.1 in
       let p = stored-byte (stored-behind o (stored _ _ (decimal a.variables) m.0 m.2)) 32 first.put.ensures in
       let q = stored-byte (stored-behind p (stored _ _ (decimal a.clauses) n.0 n.2)) 10 c.put-2.ensures in
       stored_same q (in-line dimacs_opening (decimal a.variables) (decimal a.clauses))

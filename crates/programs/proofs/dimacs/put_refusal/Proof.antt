@@ -30,7 +30,7 @@ module _ (c : tie.After-slice_known-5-1) where
       let a = given.args in
       let m = first.put_number-first.ensures in
       let n = second.put_number-second.ensures in
-      let o = stored a.buf-1.now 0 (decimal a.number) m.0 m.2 in
+      let o = stored a.buf.now 0 (decimal a.number) m.0 m.2 in
       let p = stored-byte o 32 first.put.ensures in
       let q = stored-byte (stored-behind p (stored _ _ (decimal a.detail) n.0 n.2)) 10 c.put-2.ensures in
       stored_same q (in-line [] (decimal a.number) (decimal a.detail))

@@ -27,7 +27,7 @@ module _ (c : tie.After-slice_known-then-l-eq0-2-1) where
   closing =
       let a = given.args in
       let z = bits-zero a.l given.fits.l c.if-l-eq0.true in
-      let s = stored-byte (stored-none a.buf-1.now a.at) 48 c.put.ensures in
+      let s = stored-byte (stored-none a.buf.now a.at) 48 c.put.ensures in
       stored_same (stored-byte s 10 c.put-then-l-eq0.ensures) (word-closing a.l z)
 
 -- a literal: its sign
@@ -35,10 +35,10 @@ module _ (c : tie.Joined-l-lt0) where
   abbrev start : tie.Start
   start = c.before.before.before
 
-  signed : Stored start.args.buf.now start.args.at (sign start.args.l) c.if-l-lt0.buf-1 c.if-l-lt0.from
+  signed : Stored start.args.buf.now start.args.at (sign start.args.l) c.if-l-lt0.buf c.if-l-lt0.from
   signed =
       let a = start.args in
-      let none = stored-none a.buf-1.now a.at in
+      let none = stored-none a.buf.now a.at in
       ⊎_elim
       (λ w.
       let minus = stored-byte none 45 w.2.ensures in

@@ -8,7 +8,7 @@ use Rattle.programs.proofs.printing.print_formula_text.Tie as tie
 slice-aggregate-print-words : tie.Need-slice_bounds-print_words-end
 slice-aggregate-print-words c =
     let o = c.open_text-opened in
-    omega (arith, o.ensures.4, length-take o.result.words-1 o.new.1.1.1.0)
+    omega (arith, o.ensures.4, length-take o.result.words o.new.1.1.1.0)
 
 pub print_formula_text_spec : {M : Type 1} → statement M
 print_formula_text_spec =

@@ -23,7 +23,7 @@ put-words-requires c κs =
 filled : (c : tie.After-put_words-piece invariant-loop decreases-loop) → length c.put_words-piece.new.0 ≡ 65536
 filled c =
     let k = c.before.before.before in
-    piece-long k.loop-from.buf-1 (drop k.loop-from.from k.args.words.now) c.put_words-piece.ensures.3 k.loop-from.invariant.1
+    piece-long k.loop-from.buf (drop k.loop-from.from k.args.words.now) c.put_words-piece.ensures.3 k.loop-from.invariant.1
 
 loop-less : tie.Need-loop-from-smaller invariant-loop decreases-loop
 loop-less c =
@@ -31,7 +31,7 @@ loop-less c =
     let w = k.args.words.now in
     let e = c.put_words-piece.ensures.0 in
     let less = c.loop-from-test.true in
-    let more = piece-some (length k.loop-from.buf-1) w k.loop-from.from (omega (arith, k.loop-from.invariant.1)) less in
+    let more = piece-some (length k.loop-from.buf) w k.loop-from.from (omega (arith, k.loop-from.invariant.1)) less in
     omega (arith, e, more, less)
 
 loop-again : tie.Need-loop-from-preserved invariant-loop decreases-loop
@@ -39,7 +39,7 @@ loop-again c =
     let k = c.before.before.before.before.before.before.before in
     let w = k.args.words.now in
     let e = c.put_words-piece.ensures.0 in
-    (omega (arith, e, piece-le (length k.loop-from.buf-1) w k.loop-from.from k.loop-from.invariant.0), filled c.before.before.before.before)
+    (omega (arith, e, piece-le (length k.loop-from.buf) w k.loop-from.from k.loop-from.invariant.0), filled c.before.before.before.before)
 
 pub print_words_spec : {M : Type 1} → statement M
 print_words_spec =

@@ -33,7 +33,7 @@ loop-again c =
     let l : t.loop-i.i < length (literals_in list) = omega (arith, literals-length list) in (
       omega arith,
       stored_next (pos 0) t.loop-i.invariant.1 (omega (arith, length-closed list))
-          (to_z-of_z {w = w32} (sfits_of c.literal_at.type-inv)
+          (to_z-of_z {w = w32} (sfits_of c.literal_at.type_inv)
           ∙ c.literal_at.ensures
           ∙ sym (get_or-append (literals_in list) (one (pos 0)) (pos 0) t.loop-i.i l)),
     )

@@ -47,7 +47,7 @@ abbrev entry : tie.At-hints invariant-loop decreases-loop invariant-hints decrea
 entry c = c.before.before.before.before.before
 
 -- the variables are few
-few : (c : tie.At-hints invariant-loop decreases-loop invariant-hints decreases-hints) → length c.hints.values-1 < 2147483648
+few : (c : tie.At-hints invariant-loop decreases-loop invariant-hints decreases-hints) → length c.hints.values < 2147483648
 few c = omega (arith, c.hints.invariant.same_values, (entry c).requires.3)
 
 -- the hint names a clause
@@ -72,7 +72,7 @@ outer c = c.before.before.before.before
 
 -- what is known
 abbrev known : tie.At-loop-at invariant-loop decreases-loop invariant-hints decreases-hints → Values
-known c = values_in (outer c).hints.values-1
+known c = values_in (outer c).hints.values
 
 -- the clause that the hint names
 abbrev named : tie.At-loop-at invariant-loop decreases-loop invariant-hints decreases-hints → Clause
@@ -112,7 +112,7 @@ false-told values (negsuc v) h e =
 abbrev Stands : tie.At-loop-at invariant-loop decreases-loop invariant-hints decreases-hints → Type 0
 Stands c =
     let words = (entry (outer c)).args.words.now in
-    Ahead words (known c) (length (outer c).hints.values-1) (named c) c.loop-at.at c.loop-at.unit (word c)
+    Ahead words (known c) (length (outer c).hints.values) (named c) c.loop-at.at c.loop-at.unit (word c)
 
 stands : (c : tie.In-loop-at invariant-loop decreases-loop invariant-hints decreases-hints) → Stands c.before.before
 stands c = ahead c.loop-at.invariant c.loop-at-test.true
@@ -120,7 +120,7 @@ stands c = ahead c.loop-at.invariant c.loop-at-test.true
 -- it is in range
 in-range : (c : tie.In-loop-at invariant-loop decreases-loop invariant-hints decreases-hints)
     → let l = to_z w32 (of_z w32 (word c.before.before)) in
-    (1 ≤ variable_of l) × (variable_of l ≤ length (outer c.before.before).hints.values-1) × (variable_of l < 2147483648)
+    (1 ≤ variable_of l) × (variable_of l ≤ length (outer c.before.before).hints.values) × (variable_of l < 2147483648)
 in-range c =
     let a = stands c in
     let f = few (outer c.before.before) in
@@ -138,7 +138,7 @@ module _ (c : tie.After-has_false_byte invariant-loop decreases-loop invariant-h
   is-no e =
       let a = stands looked in
       let b = read_back a (few (outer inner)) in
-      false-told (outer inner).hints.values-1 (word inner) a.low (sym (rw b at c.has_false_byte.ensures) ∙ e)
+      false-told (outer inner).hints.values (word inner) a.low (sym (rw b at c.has_false_byte.ensures) ∙ e)
 
 -- where its truth was
 module _ (c : tie.After-truth invariant-loop decreases-loop invariant-hints decreases-hints) where
@@ -166,7 +166,7 @@ loop-again c =
 
 -- an open literal was found
 abbrev Found : tie.At-loop-at invariant-loop decreases-loop invariant-hints decreases-hints → Type 0
-Found c = OpenOne (known c) (length (outer c).hints.values-1) c.loop-at.unit
+Found c = OpenOne (known c) (length (outer c).hints.values) c.loop-at.unit
 
 finds : (c : tie.Else-unit-eq0 invariant-loop decreases-loop invariant-hints decreases-hints) → Found c.before.before.before
 finds c = open-one c.loop-at.invariant.found c.if-unit-eq0.false

@@ -73,7 +73,7 @@ returns-2 c =
     let f = c.before.before in
     let g = second-test f in
     refuses _ call_kind (start (first-test g)).requires.0 _
-    (call-wrong _ _ _ (rw (few-is g) at f.if-calls_of-ge-MAX_CALLS.false) (fits-is f false (not-true _ c.if-not-call_fits.true))) c.refused-then-not-call_fits.ensures
+    (call-wrong _ _ _ (rw (few-is g) at f.if-calls_of-ge-MAX_CALLS.false) (fits-is f false (c.if-not-call_fits.true))) c.refused-then-not-call_fits.ensures
 
 -- the array has room
 room : (c : tie.Else-not-call_fits) → (start (first-test (second-test c.before))).args.b.call_count < 32
@@ -82,7 +82,7 @@ room c =
     let f = c.before in
     let g = second-test f in
     let s = start (first-test g) in
-    let q = simp and-iff at (from-true (fits-is f true (not-false _ c.if-not-call_fits.false))) in
+    let q = simp and-iff at (from-true (fits-is f true (c.if-not-call_fits.false))) in
     let n = calls-counted s.requires.0 in
     let r = call-room _ _ s.requires.1 ((ltb_iff _ _).0 q.0.0.0) (rw (few-is g) at f.if-calls_of-ge-MAX_CALLS.false) in
     rw (← n) r
@@ -93,7 +93,7 @@ returns-3 c =
     let g = second-test f in
     let s = start (first-test g) in
     accepts _ call_kind s.requires.0 _
-    (call-fine _ _ _ (rw (few-is g) at f.if-calls_of-ge-MAX_CALLS.false) (fits-is f true (not-false _ c.if-not-call_fits.false)))
+    (call-fine _ _ _ (rw (few-is g) at f.if-calls_of-ge-MAX_CALLS.false) (fits-is f true (c.if-not-call_fits.false)))
     (put-call _ s.requires.0 _ _ _ (made-is (first-test g)) (room c.before)) c.fine.ensures
 
 pub add_call_spec : {M : Type 1} → statement M

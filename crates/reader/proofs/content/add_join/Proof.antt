@@ -41,7 +41,7 @@ returns-2 c =
     let s = start a in
     let n = joins-counted s.requires.0 in
     λ f. refuses f join_kind s.requires.0 _
-    (join-wrong _ _ _ (omega (arith, (roomy a).if-at-ge-MAX_JOINS.false)) (fits-is a false (not-true _ c.if-not-join_fits.true))) c.refused-then-not-join_fits.ensures
+    (join-wrong _ _ _ (omega (arith, (roomy a).if-at-ge-MAX_JOINS.false)) (fits-is a false (c.if-not-join_fits.true))) c.refused-then-not-join_fits.ensures
 
 -- the test that the join fits, behind which `joined` is asked
 abbrev tested : tie.After-joined → tie.Else-not-join_fits
@@ -69,7 +69,7 @@ returns-3 c =
     let s = start a in
     let n = joins-counted s.requires.0 in
     λ f. refuses f join_kind s.requires.0 _
-    (join-again _ _ _ (omega (arith, (roomy a).if-at-ge-MAX_JOINS.false)) (fits-is a true (not-false _ i.if-not-join_fits.false)) (again-is g true c.if-joined.true))
+    (join-again _ _ _ (omega (arith, (roomy a).if-at-ge-MAX_JOINS.false)) (fits-is a true (i.if-not-join_fits.false)) (again-is g true c.if-joined.true))
     c.refused-then-joined.ensures
 
 returns-4 : tie.Need-returns
@@ -81,7 +81,7 @@ returns-4 c =
     let n = joins-counted s.requires.0 in
     let room = (roomy a).if-at-ge-MAX_JOINS.false in
     λ f. accepts f join_kind s.requires.0 _
-    (join-fine _ _ _ (omega (arith, room)) (fits-is a true (not-false _ i.if-not-join_fits.false)) (again-is g false c.if-joined.false))
+    (join-fine _ _ _ (omega (arith, room)) (fits-is a true (i.if-not-join_fits.false)) (again-is g false c.if-joined.false))
     (put-join _ s.requires.0 _ _ _ (join-read _ s.requires.1) room) c.fine.ensures
 
 pub add_join_spec : {M : Type 1} → statement M

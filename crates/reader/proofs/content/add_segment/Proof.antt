@@ -39,7 +39,7 @@ returns-2 c =
     let s = start a in
     let n = segments-counted s.requires.0 in
     λ f. refuses f segment_kind s.requires.0 _
-    (segment-wrong _ _ _ (omega (arith, (roomy a).if-at-ge-MAX_SEGMENTS.false)) (fits-is a false (not-true _ c.if-not-segment_fits.true))) c.refused-then-not-segment_fits.ensures
+    (segment-wrong _ _ _ (omega (arith, (roomy a).if-at-ge-MAX_SEGMENTS.false)) (fits-is a false (c.if-not-segment_fits.true))) c.refused-then-not-segment_fits.ensures
 
 returns-3 : tie.Need-returns
 returns-3 c =
@@ -48,7 +48,7 @@ returns-3 c =
     let n = segments-counted s.requires.0 in
     let room = (roomy a).if-at-ge-MAX_SEGMENTS.false in
     λ f. accepts f segment_kind s.requires.0 _
-    (segment-fine _ _ _ (omega (arith, room)) (fits-is a true (not-false _ c.if-not-segment_fits.false)))
+    (segment-fine _ _ _ (omega (arith, room)) (fits-is a true (c.if-not-segment_fits.false)))
     (put-segment _ s.requires.0 _ _ _ (segment-read _ s.requires.1) room) c.fine.ensures
 
 pub add_segment_spec : {M : Type 1} → statement M

@@ -47,11 +47,11 @@ returns-2 c =
     let a = c.before.before in
     let n = trains-counted (start a).requires.0 in
     refuses _ train_kind (start a).requires.0 _
-    (train-wrong _ _ _ (rw n a.if-at-ge-MAX_TRAINS.false) (sym a.train_fits.ensures ∙ not-true _ c.if-not-train_fits.true)) c.refused-then-not-train_fits.ensures
+    (train-wrong _ _ _ (rw n a.if-at-ge-MAX_TRAINS.false) (sym a.train_fits.ensures ∙ c.if-not-train_fits.true)) c.refused-then-not-train_fits.ensures
 
 -- past the test that it fits
 fits : (c : tie.Else-not-train_fits) → let s = start c.before in train_fits (held s.args.b) (train_in (format s) s.args.p.now) ≡ true
-fits c = sym c.train_fits.ensures ∙ not-false _ c.if-not-train_fits.false
+fits c = sym c.train_fits.ensures ∙ c.if-not-train_fits.false
 
 -- whether length and speed fit is what `reach_fits` answers
 reach-is : (c : tie.After-reach_fits) (t : Bool) → c.reach_fits.result ≡ t
@@ -68,12 +68,12 @@ returns-3 c =
     let a = fitted r in
     let n = trains-counted (start a).requires.0 in
     refuses _ train_kind (start a).requires.0 _
-    (train-far _ _ _ (rw n a.if-at-ge-MAX_TRAINS.false) (fits r.before.before) (reach-is r false (not-true _ c.if-not-reach_fits.true)))
+    (train-far _ _ _ (rw n a.if-at-ge-MAX_TRAINS.false) (fits r.before.before) (reach-is r false (c.if-not-reach_fits.true)))
     c.refused-then-not-reach_fits.ensures
 
 -- past the test of its reach
 reaches : (c : tie.Else-not-reach_fits) → let s = start (fitted c.before) in reach_fits (held s.args.b) (train_in (format s) s.args.p.now) ≡ true
-reaches c = reach-is c.before true (not-false _ c.if-not-reach_fits.false)
+reaches c = reach-is c.before true (c.if-not-reach_fits.false)
 
 -- l is the train's length in segments, and at most 8
 length-is : (c : tie.After-length_in_segments-l)
@@ -118,7 +118,7 @@ returns-4 c =
     let n = trains-counted (start a).requires.0 in
     refuses _ train_kind (start a).requires.0 _
     (train-off _ _ _ (rw n a.if-at-ge-MAX_TRAINS.false) (fits r.before.before) (reaches g.before.before.before)
-    (place_is g false (not-true _ c.if-not-place_fits.true)))
+    (place_is g false (c.if-not-place_fits.true)))
     c.refused-then-not-place_fits.ensures
 
 -- past the last test: the row has l directed segments
@@ -128,7 +128,7 @@ row-length : (c : tie.Else-not-place_fits)
 row-length c =
     let s = start (fitted (reached c.before.before.before)) in
     place-length (held s.args.b) (format s) s.args.p.now _ (rw (fixed-is c.before.before) at c.place_fits.ensures)
-    (not-false _ c.if-not-place_fits.false)
+    (c.if-not-place_fits.false)
 
 place-of-requires : tie.Need-place_of-place-requires
 place-of-requires c κs =
@@ -151,7 +151,7 @@ returns-5 c =
     let n = trains-counted s.requires.0 in
     accepts _ train_kind s.requires.0 _
     (train-fine _ _ _ (rw n a.if-at-ge-MAX_TRAINS.false) (fits r.before.before) (reaches g.before.before.before)
-    (place_is g true (not-false _ o.if-not-place_fits.false)))
+    (place_is g true (o.if-not-place_fits.false)))
     (put-train _ s.requires.0 _ _ _
     (train-packed (format s) s.args.p.now _ _ _ _ _ m.metres m.speed m.departure
     (sym (row-length o.before)) (rw (fixed-is g.before) at o.place_of-place.ensures))

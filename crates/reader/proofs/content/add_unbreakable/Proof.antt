@@ -38,7 +38,7 @@ divide_is c t e =
 returns : tie.Need-returns-then-not-some_has
 returns c =
     let a = c.before.before in
-    λ f. refuses f unbreakable_kind (start a.before).requires.0 _ (unbreakable-wrong _ _ _ (has-is a false (not-true _ c.if-not-some_has.true)))
+    λ f. refuses f unbreakable_kind (start a.before).requires.0 _ (unbreakable-wrong _ _ _ (has-is a false (c.if-not-some_has.true)))
     c.refused.ensures
 
 returns-2 : tie.Need-returns-then-may_divide
@@ -46,7 +46,7 @@ returns-2 c =
     let d = c.before.before in
     let a = d.before.before in
     λ f. refuses f unbreakable_kind (start a.before).requires.0 _
-    (unbreakable-divided _ _ _ (has-is a true (not-false _ d.if-not-some_has.false)) (divide_is d true c.if-may_divide.true))
+    (unbreakable-divided _ _ _ (has-is a true (d.if-not-some_has.false)) (divide_is d true c.if-may_divide.true))
     c.refused-then-may_divide.ensures
 
 returns-3 : tie.Need-returns
@@ -55,7 +55,7 @@ returns-3 c =
     let a = d.before.before in
     let s = start a.before in
     λ f. accepts f unbreakable_kind s.requires.0 _
-    (unbreakable-fine _ _ _ (has-is a true (not-false _ d.if-not-some_has.false)) (divide_is d false c.if-may_divide.false))
+    (unbreakable-fine _ _ _ (has-is a true (d.if-not-some_has.false)) (divide_is d false c.if-may_divide.false))
     (put-nothing _ s.requires.0 _ _) c.fine.ensures
 
 pub add_unbreakable_spec : {M : Type 1} → statement M

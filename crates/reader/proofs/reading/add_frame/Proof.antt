@@ -112,7 +112,7 @@ returns-5 c =
     by_kind (format st) _ st.requires.0 _ _ _ st.requires.2 (is5 k)
     (wrong-length (format st) _ st.requires.0 _ _ _ st.requires.2 train_kind
     (elim (c.if-end-fixed.branch) [ then-end-fixed w ↦ train-short (format st) _ st.requires.0 _ _ _ st.requires.2 _ 0 k.train_end-fixed.ensures st.requires.1 w.true | else-end-fixed w ↦ train-wrong (format st) _ st.requires.0 _ _ _ st.requires.2 _ _ k.train_end-fixed.ensures st.requires.1 w.0.left
-    (count_at k w.2.ensures.0) (eqb-false _ _ (not-true _ w.3.true)) ]
+    (count_at k w.2.ensures.0) (eqb-false _ _ (not-true _ w.3.true)) ])
     c.wrong_length-then-end-fixed.ensures)
 
 add-train-requires : tie.Need-add_train-requires
@@ -131,7 +131,7 @@ returns-13 c =
     by_kind (format st) _ st.requires.0 _ _ _ st.requires.2 (is5 k)
     (right-length (format st) _ st.requires.0 _ _ _ st.requires.2 train_kind
     (train-right (format st) _ st.requires.0 _ _ _ st.requires.2 _ _ k.train_end-fixed.ensures st.requires.1 e.if-end-fixed.false
-    (count_at k e.wide.ensures.0) (eqb-true _ _ (not-false _ e.if-end-fixed-2.false)))
+    (count_at k e.wide.ensures.0) (eqb-true _ _ (e.if-end-fixed-2.false)))
     c.add_train.ensures)
 
 -- End

@@ -73,7 +73,7 @@ returns-2 c =
     let st = (at-step e).step-st in (
       f.finish.ensures.0
           ∙ ap book_read_of (sym (way_end _ _ _ _ _ (looped e).loop-n.invariant.0 st.result st.ensures e.in-End.is)),
-      λ told. f.finish.ensures.1 told ∙ ap (run_table (held f.finish.result.book-1)) (looped e).loop-n.invariant.1,
+      λ told. f.finish.ensures.1 told ∙ ap (run_table (held f.finish.result.book)) (looped e).loop-n.invariant.1,
       λ n d refused below. f.finish.ensures.2 n d refused below ∙ (looped e).loop-n.invariant.1,
     )
 
@@ -85,7 +85,7 @@ module _ (c : tie.After-book-1 invariant-loop decreases-loop) where
   abbrev start : tie.Start invariant-loop decreases-loop
   start = stepped.before.before.before.before.before
 
-  onward : OnWay (format_of start.args.format) start.args.s.now stepped.step-st.result.book-1 c.next-in-More-1.given.0.1.0
+  onward : OnWay (format_of start.args.format) start.args.s.now stepped.step-st.result.book c.next-in-More-1.given.0.1.0
       c.next-in-More-1.given.0.0
       × (stepped.loop-n.at < c.next-in-More-1.given.0.0)
   onward =

@@ -16,7 +16,7 @@ literal-requires c κs = search rules
 returns : tie.Need-returns
 returns c =
     let a = c.args in
-    to_z-of_z (sfits_of c.literal.type-inv)
+    to_z-of_z (sfits_of c.literal.type_inv)
     ∙ c.literal.ensures
     ∙ ap (signed 4) c.number_at.ensures.0
     ∙ sym (literal-of a.list.now a.i)

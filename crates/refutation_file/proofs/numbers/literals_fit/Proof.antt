@@ -50,7 +50,7 @@ module _ (c : tie.After-literal_fits invariant-loop decreases-loop) where
   turn =
       at-loop.loop-i.invariant
       ∙ rises_next given.args.variables at-loop.loop-i.low at-loop.loop-i.i literals this
-      (to_z-of_z (sfits_of c.literal_at-l.type-inv) ∙ c.literal_at-l.ensures)
+      (to_z-of_z (sfits_of c.literal_at-l.type_inv) ∙ c.literal_at-l.ensures)
       (omega (arith, literals-length given.args.list.now, c.loop-i-test.true))
       ∙ simp (← c.literal_fits.ensures)
 
@@ -63,12 +63,12 @@ module _ (c : tie.After-literal_fits invariant-loop decreases-loop) where
 
 variable-requires : tie.Need-variable-low-requires invariant-loop decreases-loop
 variable-requires c κs =
-    let h = in-range c.before (not-false c.literal_fits.result c.if-not-literal_fits.false) in
+    let h = in-range c.before (c.if-not-literal_fits.false) in
     omega (arith, h, (given c.before).requires)
 
 loop-again : tie.Need-loop-i-preserved invariant-loop decreases-loop
 loop-again c =
-    let h = not-false c.literal_fits.result c.if-not-literal_fits.false in
+    let h = c.if-not-literal_fits.false in
     turn c.before.before ∙ simp (h, c.variable-low.ensures)
 
 returns-2 : tie.Need-returns invariant-loop decreases-loop
@@ -88,7 +88,7 @@ literals_fit_spec =
     loop-holds
     (λ c κs. omega arith)
     (λ c κs. omega arith)
-    (λ c. let h = not-true c.literal_fits.result c.if-not-literal_fits.true in sym (turn c.before ∙ simp h))
+    (λ c. let h = c.if-not-literal_fits.true in sym (turn c.before ∙ simp h))
     variable-requires
     (λ c. omega arith)
     (λ c. omega arith)

@@ -37,7 +37,7 @@ part-result-end c =
 returns : tie.Need-returns
 returns c =
     let st = c.before.before.before.before in
-    let e : c.cursor.result-1.end ≡ st.args.at + frame_head + step_fixed = c.cursor.ensures.1 in
+    let e : c.cursor.result.end ≡ st.args.at + frame_head + step_fixed = c.cursor.ensures.1 in
     rw (e, add-sub_cancel_left) (hints-here st.args.s.now st.args.at st.requires.0 st.requires.1)
 
 pub hints_at_spec : {M : Type 1} → statement M

@@ -27,7 +27,7 @@ part-result-end c =
 returns : tie.Need-returns
 returns c =
     let st = c.before.before.before in
-    let e : c.cursor-first.result-1.end ≡ st.args.at + frame_head + step_fixed = c.cursor-first.ensures.1 in
+    let e : c.cursor-first.result.end ≡ st.args.at + frame_head + step_fixed = c.cursor-first.ensures.1 in
     rw (e, add-sub_cancel_left) (literals-here st.args.s.now st.args.at st.requires.0 st.requires.1)
 
 pub literals_at_spec : {M : Type 1} → statement M

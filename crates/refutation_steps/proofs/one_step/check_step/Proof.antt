@@ -47,7 +47,7 @@ module _ (c : tie.After-hints_at-hs) where
   step = c.before.before.before
 
   given : let a = (start step).args in
-      Given a.filled (literals step) (hints step) a.words-1.now a.starts.now a.values-1.now a.trail-1.now
+      Given a.filled (literals step) (hints step) a.words.now a.starts.now a.values.now a.trail.now
       (drop a.at a.r.now) c.literals_at-ls.result.now c.hints_at-hs.result.now
   given = record {
     ready = (start step).requires.1;
@@ -65,7 +65,7 @@ module _ (c : tie.Else-not-literals_fit) where
   lists = c.before.before
 
   fit : literals_fit (length (start (step lists)).args.values.now) (literals_in lists.literals_at-ls.result.now) ≡ true
-  fit = sym c.literals_fit.ensures ∙ not-false _ c.if-not-literals_fit.false
+  fit = sym c.literals_fit.ensures ∙ c.if-not-literals_fit.false
 
 says-19 : tie.Need-returns-then-not-hints_fit
 says-19 c =
@@ -78,7 +78,7 @@ module _ (c : tie.Else-not-hints_fit) where
   fitting = c.before.before
 
   known : hints_fit ((start (step (lists fitting))).args.filled.clauses + 1) (numbers_in (lists fitting).hints_at-hs.result.now) ≡ true
-  known = sym c.hints_fit.ensures ∙ not-false _ c.if-not-hints_fit.false
+  known = sym c.hints_fit.ensures ∙ c.if-not-hints_fit.false
 
 says-12 : tie.Need-returns-then-words-used
 says-12 c =
@@ -102,7 +102,7 @@ module _ (c : tie.Else-starts-count) where
 slice-aggregate-follows-rule : tie.Need-slice_bounds-follows_rule-end-in-Whole
 slice-aggregate-follows-rule c =
     let s = first c.before in
-    sym (length-take-le s.args.filled.words-1 s.args.words.now s.requires.1.words_room)
+    sym (length-take-le s.args.filled.words s.args.words.now s.requires.1.words_room)
 
 slice-aggregate-follows-rule-2 : tie.Need-slice_bounds-follows_rule-end-in-Whole-3
 slice-aggregate-follows-rule-2 c =

@@ -43,8 +43,8 @@ module _ (c : tie.After-slice_known-in-loop-at-3-1 invariant-loop decreases-loop
       let h = head.loop-at in
       let l = check.check_step.last.1.1.1 in
       let s = drop h.at entry.args.r.now in
-      (x ≡ step_checked (length h.words-1) (length h.starts-1) (length h.values-1) (clauses_of (take h.filled.words-1 h.words-1)) s)
-      × Leaves x s h.filled h.words-1 h.starts-1 h.values-1 h.trail-1 l.0 l.1.0 l.1.1.0 l.1.1.1.0
+      (x ≡ step_checked (length h.words) (length h.starts) (length h.values) (clauses_of (take h.filled.words h.words)) s)
+      × Leaves x s h.filled h.words h.starts h.values h.trail l.0 l.1.0 l.1.1.0 l.1.1.1.0
 
   says : {x : StepAnswer} → check.check_step.result ≡ x → Says x
   says told = subst Says told check.check_step.ensures
@@ -76,14 +76,14 @@ module _ (c : tie.In-Proved-2 invariant-loop decreases-loop) where
   end = next (head here).loop-at.invariant (some here) said.0
 
   -- its words and its clause stand in the slices
-  words-room : (one_more (head here).loop-at.filled literals).words-1 ≤ length (entry here).args.words.now
+  words-room : (one_more (head here).loop-at.filled literals).words ≤ length (entry here).args.words.now
   words-room =
-      let e : length (check here).check_step.last.1.1.1.0 ≡ length (head here).loop-at.words-1 = search rules in
+      let e : length (check here).check_step.last.1.1.1.0 ≡ length (head here).loop-at.words = search rules in
       omega (arith, said.1.0.words_room, e, (head here).loop-at.invariant.words_length)
 
   starts-room : (one_more (head here).loop-at.filled literals).clauses ≤ length (entry here).args.starts.now
   starts-room =
-      let e : length (check here).check_step.last.1.1.1.1.0 ≡ length (head here).loop-at.starts-1 = search rules in
+      let e : length (check here).check_step.last.1.1.1.1.0 ≡ length (head here).loop-at.starts = search rules in
       omega (arith, said.1.0.starts_room, e, (head here).loop-at.invariant.starts_length)
 
 -- the empty step

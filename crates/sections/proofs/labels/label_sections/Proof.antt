@@ -80,7 +80,7 @@ module _ (c : tie.Joined-borders-node-ne1 invariant-loop decreases-loop) where
   node-is x e = rw (← c.wide-node.ensures.0) e
 
   turn : Labelled start.args.b (borders_of start.args.borders.now) (meets inside) (at inside + 3)
-      inside.number_labels.last.0 c.if-borders-node-ne1.labels-1
+      inside.number_labels.last.0 c.if-borders-node-ne1.labels
   turn =
       let i = inside.loop-at.invariant.1 in
       let t = inside.loop-at-test.true in

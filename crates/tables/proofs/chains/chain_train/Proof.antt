@@ -36,7 +36,7 @@ returns c =
     let f = c.before.before in
     let m = f.before.before in
     let p = (start m).requires in
-    f.Chain-runs.ensures ∙ ap (sets (start m).args.chains.now 0) (links-are p.3 p.2 (reached m).0)
+    f.chain_runs.ensures ∙ ap (sets (start m).args.chains.now 0) (links-are p.3 p.2 (reached m).0)
 
 pub chain_train_spec : {M : Type 1} → statement M
 chain_train_spec =

@@ -45,7 +45,7 @@ module _ (c : tie.In-loop-i invariant-loop decreases-loop) where
   runs_fit : i * train_bytes + train_bytes ≤ length start.args.runs.now
   runs_fit = omega (arith, few, start.requires.0.long)
 
-  chains-fit : i * train_chains + train_chains ≤ length c.loop-i.chains-1
+  chains-fit : i * train_chains + train_chains ≤ length c.loop-i.chains
   chains-fit = omega (arith, few, c.loop-i.invariant.1)
 
 chain-train-requires : tie.Need-chain_train-requires invariant-loop decreases-loop
@@ -58,7 +58,7 @@ chain-train-requires c κs =
       test,
       s.requires.0.counted.runs (i t) test,
       runs-lent (i t) test s.requires.0,
-      mid_len at (at + train_chains) t.loop-i.chains-1 (chains-fit t) ∙ omega arith,
+      mid_len at (at + train_chains) t.loop-i.chains (chains-fit t) ∙ omega arith,
     )
 
 loop-again : tie.Need-loop-i-preserved invariant-loop decreases-loop
@@ -67,7 +67,7 @@ loop-again c =
     let t = f.before.before.before in
     let v = t.loop-i.invariant in (
       omega (arith, t.loop-i-test.true),
-      length-next train_chains (i t) t.loop-i.chains-1 f.chain_train.new.1.1.1.1.0 f.chain_train.auto.1.1.1.1.0
+      length-next train_chains (i t) t.loop-i.chains f.chain_train.new.1.1.1.1.0 f.chain_train.auto.1.1.1.1.0
           ∙ v.1,
       filled_next (turned (start t).args.b) train_chains (i t) _ _ _ (chains-fit t) v.2 f.chain_train.ensures,
     )

@@ -27,7 +27,7 @@ module _ (c : tie.After-same_places invariant-loop decreases-loop) where
   p = inside.loop-p.p
 
   tested : c.same_places.result ≡ alike_at given.args.runs.now given.args.l given.args.q p
-  tested = c.same_places.ensures ∙ simp (c.start_of_lem.ensures, c.start_of-in-loop-p.ensures)
+  tested = c.same_places.ensures ∙ simp (c.start_of.ensures, c.start_of-in-loop-p.ensures)
 
 returns : tie.Need-returns-then-same_places invariant-loop decreases-loop
 returns c =

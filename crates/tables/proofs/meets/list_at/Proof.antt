@@ -36,7 +36,7 @@ module _ (c : tie.Joined-touches invariant-loop decreases-loop) where
   s = c.loop-s.s
 
   turn : Listed (meets_of (instance_of (held given.args.b)) given.args.node) given.args.table.now given.args.at
-      (s + 1) c.if-touches.table-1 c.if-touches.end
+      (s + 1) c.if-touches.table c.if-touches.end
   turn =
       let a = given.args in
       let before = c.loop-s in

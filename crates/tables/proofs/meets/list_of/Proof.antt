@@ -33,7 +33,7 @@ module _ (c : tie.Joined-meet invariant-loop decreases-loop) where
   u = c.loop-u.u
 
   turn : Listed (pair (held given.args.b) given.args.node given.args.s) given.args.table.now given.args.at
-      (u + 1) c.if-meet.table-1 c.if-meet.end
+      (u + 1) c.if-meet.table c.if-meet.end
   turn =
       let a = given.args in
       let before = c.loop-u in
@@ -46,7 +46,7 @@ module _ (c : tie.Joined-meet invariant-loop decreases-loop) where
       let second = w.6.ensures ∙ ap (λ (t : Bytes). set t (before.end + 1) a.s) first in
       let third = w.10.ensures ∙ ap (λ (t : Bytes). set t (before.end + 2) u) second in
       listed_next _ _ _ before.invariant.2 (rw row w.14)
-      (rw row (w.13 ∙ third ∙ stored-three before.table-1 before.end a.node a.s u)))
+      (rw row (w.13 ∙ third ∙ stored-three before.table before.end a.node a.s u)))
       (λ w. listed_same _ _ _ before.invariant.2 (pair-none (held a.t1) a.node a.s u flag w.0.left) w.2 w.1)
       c.if-meet.branch
 

@@ -7,7 +7,7 @@ use Rattle.tables.proofs.places.end_of.Tie as tie
 
 returns : tie.Need-returns
 unfolding end_at
-returns c = omega (arith, c.start_of_lem.ensures, c.type_size.ensures.0)
+returns c = omega (arith, c.start_of.ensures, c.size_of.ensures.0)
 
 pub end_of_spec : {M : Type 1} → statement M
 end_of_spec =

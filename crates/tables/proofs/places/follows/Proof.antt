@@ -11,7 +11,7 @@ unfolding end_at
 same-places-requires c κs = (omega arith, omega arith)
 
 returns : tie.Need-returns
-returns c = c.same_places.ensures ∙ simp (c.end_of.ensures, c.start_of_lem.ensures)
+returns c = c.same_places.ensures ∙ simp (c.end_of.ensures, c.start_of.ensures)
 
 pub follows_spec : {M : Type 1} → statement M
 follows_spec = tie.close (tie.spec (λ c κs. search rules) (λ c κs. search rules) same-places-requires returns)

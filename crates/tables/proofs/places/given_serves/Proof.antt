@@ -14,7 +14,7 @@ slice-aggregate-serves c = search rules
 
 serves-requires : tie.Need-serves-requires
 serves-requires c κs =
-    let e : length c.args.t.place-1 ≡ 8 = search rules in
+    let e : length c.args.t.place ≡ 8 = search rules in
     omega arith
 
 returns : tie.Need-returns

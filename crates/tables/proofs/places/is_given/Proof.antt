@@ -19,7 +19,7 @@ slice-aggregate-same-places c = search rules
 same-places-requires : tie.Need-same_places-requires
 same-places-requires c κs =
     let s = c.before.before.before.before.before in
-    let e : length s.args.t.place-1 ≡ 8 = search rules in
+    let e : length s.args.t.place ≡ 8 = search rules in
     (s.requires.0, omega arith)
 
 returns : tie.Need-returns-then-t-l
@@ -31,9 +31,9 @@ unfolding place_at held_train
 returns-2 c =
     let a = c.args in
     let table = a.table.now in
-    let e : length a.t.place-1 ≡ 8 = search rules in
+    let e : length a.t.place ≡ 8 = search rules in
     let h : length (slice a.at (a.at + a.l) table) ≡ a.l = length-slice a.at (a.at + a.l) table (omega arith) ∙ omega arith in
-    let k : length (take a.t.size a.t.place-1) ≡ a.t.size = length-take-le a.t.size a.t.place-1 (omega arith) in
+    let k : length (take a.t.size a.t.place) ≡ a.t.size = length-take-le a.t.size a.t.place (omega arith) in
     ne_eqb _ _ c.if-t-l.false ∙ sym (same-lengths _ _ (λ g. c.if-t-l.false (sym k ∙ sym g ∙ h)))
 
 pub is_given_spec : {M : Type 1} → statement M

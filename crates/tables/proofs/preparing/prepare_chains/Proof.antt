@@ -19,7 +19,7 @@ module _ (c : tie.In-Accepted) where
   abbrev p : Prepared
   p = prepared.prepare-p.result
 
-  runs-are : RunsReady p.read-1.book p.read-1.counts-1 prepared.prepare-p.last.1.0
+  runs-are : RunsReady p.read.book p.read.counts prepared.prepare-p.last.1.0
   runs-are = (prepared.prepare-p.ensures.1 c.in-Accepted.is).0
 
 returns : tie.Need-returns-in-Refused
@@ -37,7 +37,7 @@ returns-2 c =
       e.0,
       e.1,
       λ _.
-          chains-ready (p a).read-1.book (runs-are a).counted.passed (start a).args.chains.now (start a).requires.1
+          chains-ready (p a).read.book (runs-are a).counted.passed (start a).args.chains.now (start a).requires.1
           f.chain_trains.ensures,
       e.2,
       λ _. f.chain_trains.ensures,
