@@ -29,67 +29,67 @@ below t = and 1 put-number-kinds.ps (falls 1 put-number-kinds.ps ◌<◌ μ-put-
 abbrev calls : ℕ → lts.Claims
 calls t = (put_reads.Asked, put_reads.Learnt, below t, put-number.Post)
 
-cast-last : (t : ℕ) → lts.Need-overflow-cast-last (calls t) (given t) put-number.Post
+cast-last : (t : ℕ) → lts.Need-overflow_cast-last (calls t) (given t) put-number.Post
 cast-last t c = omega arith
 
-add-last : (t : ℕ) → lts.Need-overflow-add-last (calls t) (given t) put-number.Post
+add-last : (t : ℕ) → lts.Need-overflow_add-last (calls t) (given t) put-number.Post
 add-last t c = omega arith
 
 put-requires : (t : ℕ) → lts.Need-put-requires (calls t) (given t) put-number.Post
 put-requires t c κs = tt
 
-add-result : (t : ℕ) → lts.Need-overflow-add-result (calls t) (given t) put-number.Post
+add-result : (t : ℕ) → lts.Need-overflow_add-result (calls t) (given t) put-number.Post
 add-result t c = omega arith
 
 -- a number below ten
-module _ (t : ℕ) (c : lts.After-slice-known2 (calls t) (given t) put-number.Post) where
-  abbrev a : lts.Args (calls t) (given t) put-number.Post c.before.before.before.before.before.before.lifetimes
-  a = c.before.before.before.before.before.before.args
+module _ (t : ℕ) (c : lts.After-slice_known-then-n-lt10-1 (calls t) (given t) put-number.Post) where
+  abbrev a : lts.Args (calls t) (given t) put-number.Post c.lifetimes
+  a = c.args
 
-  single : Stored a.buf.now a.at (decimal a.n) c.before.before.put.new.0 (a.at + 1)
+  single : Stored a.buf.now a.at (decimal a.n) c.put.new.0 (a.at + 1)
   single =
       let small : a.n < 10 = omega arith in
       let e : a.n % 10 + 48 ≡ 48 + a.n = omega arith in
-      stored_same (stored-byte (stored-none a.buf.now a.at) _ c.before.before.put.ensures)
+      stored_same (stored-byte (stored-none a.buf.now a.at) _ c.put.ensures)
       (ap one e ∙ sym (decimal-one a.n small))
 
-same_length : (t : ℕ) → lts.Need-same-length (calls t) (given t) put-number.Post
+same_length : (t : ℕ) → lts.Need-shape_of-buf-then-n-lt10 (calls t) (given t) put-number.Post
 same_length t c = stored-length (single t c)
 
-returns : (t : ℕ) → lts.Need-returns (calls t) (given t) put-number.Post
+returns : (t : ℕ) → lts.Need-returns-then-n-lt10 (calls t) (given t) put-number.Post
 returns t c = ((single t c).ends, omega arith, (single t c).bytes)
 
-put-number-requires : (t : ℕ) → lts.Need-put-number-requires (calls t) (given t) put-number.Post
+put-number-requires : (t : ℕ) → lts.Need-put_number-end-requires (calls t) (given t) put-number.Post
 put-number-requires t c κs = (omega arith, omega arith)
 
 put-requires-2 : (t : ℕ) → lts.Need-put-requires-2 (calls t) (given t) put-number.Post
 put-requires-2 t c κs = tt
 
-add-result-2 : (t : ℕ) → lts.Need-overflow-add-result-2 (calls t) (given t) put-number.Post
+add-result-2 : (t : ℕ) → lts.Need-overflow_add-result-2 (calls t) (given t) put-number.Post
 add-result-2 t c = omega arith
 
 -- a longer one: its last figure behind those of the tenth
-module _ (t : ℕ) (c : lts.After-slice-known4 (calls t) (given t) put-number.Post) where
-  abbrev tenth : lts.After-put-number (calls t) (given t) put-number.Post
+module _ (t : ℕ) (c : lts.After-slice_known-3-1 (calls t) (given t) put-number.Post) where
+  abbrev tenth : lts.After-put_number-end (calls t) (given t) put-number.Post
   tenth = c.before.before.before.before.before.before
 
-  abbrev args : lts.Args (calls t) (given t) put-number.Post tenth.before.before.before.before.lifetimes
-  args = tenth.before.before.before.before.args
+  abbrev args : lts.Args (calls t) (given t) put-number.Post tenth.lifetimes
+  args = tenth.args
 
-  whole : Stored args.buf.now args.at (decimal args.n) c.before.before.put2.new.0
-      (tenth.put-number.result + 1)
+  whole : Stored args.buf.now args.at (decimal args.n) c.put-2.new.0
+      (tenth.put_number-end.result + 1)
   whole =
-      let k = tenth.put-number.ensures in
+      let k = tenth.put_number-end.ensures in
       let front = stored args.buf.now args.at (decimal (args.n / 10)) k.0 k.2 in
       let large : 10 ≤ args.n = omega arith in
       let e : args.n % 10 + 48 ≡ 48 + args.n % 10 = omega arith in
-      stored_same (stored-byte front _ c.before.before.put2.ensures)
+      stored_same (stored-byte front _ c.put-2.ensures)
       (ap (λ (x : ℕ). decimal (args.n / 10) ++ one x) e ∙ sym (decimal-more args.n large))
 
-same-length-2 : (t : ℕ) → lts.Need-same-length-2 (calls t) (given t) put-number.Post
+same-length-2 : (t : ℕ) → lts.Need-shape_of-buf (calls t) (given t) put-number.Post
 same-length-2 t c = stored-length (whole t c)
 
-returns-2 : (t : ℕ) → lts.Need-returns-2 (calls t) (given t) put-number.Post
+returns-2 : (t : ℕ) → lts.Need-returns (calls t) (given t) put-number.Post
 returns-2 t c =
     ((whole t c).ends, omega (arith, (whole t c).ends, decimal-twenty (args t c).n (omega arith)), (whole t c).bytes)
 
