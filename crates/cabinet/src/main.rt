@@ -21,20 +21,18 @@ ghost use Rattle.std.specs.Prelude.{◌≤◌};
 
 use check::same;
 use commands::{Command, named};
-use libc::{STDERR_FILENO, STDIN_FILENO};
 use model::Cap;
 use programs::arguments::{Argument, number_in};
 use programs::printing::print_formula_from;
+use programs::system::{arg, arg_count, complain};
 use programs::verdicts::{Check, fewest_files, graph_files, judge_files, upgrade_file};
-
-fn complain(message: &[u8]) {
-    io::write_all(STDERR_FILENO, message);
-}
+use std::io::Input;
+use std::rt::HostRuntime;
 
 // The number that the argument in this place is, if it is one.
-fn number_at(place: usize) -> Argument {
-    let mut word = io::buffer();
-    let n = os::arg(place, &mut word);
+fn number_at(rt: &HostRuntime, place: usize) -> Argument {
+    let mut word = [0u8; 4096];
+    let n = arg(rt, place, &mut word);
     number_in(&word[..n])
 }
 
@@ -47,24 +45,24 @@ struct Ahead {
 }
 
 // Whether a cap stands behind the command.
-fn has_option() -> bool {
-    let mut word = io::buffer();
-    let n = os::arg(2, &mut word);
+fn has_option(rt: &HostRuntime) -> bool {
+    let mut word = [0u8; 4096];
+    let n = arg(rt, 2, &mut word);
     same(&word[..n], b"--cap")
 }
 
 // Reads the option behind the command, if it is there.
-fn read_option() -> Ahead
+fn read_option(rt: &HostRuntime) -> Ahead
     ensures { result.names ≤ 4 }
 {
-    if !has_option() {
+    if !has_option(rt) {
         return Ahead {
             cap: Cap::No,
             names: 2,
             good: true,
         };
     }
-    let number = number_at(3);
+    let number = number_at(rt, 3);
     match number {
         Argument::Number(most) => Ahead {
             cap: Cap::AtMost(most),
@@ -79,139 +77,163 @@ fn read_option() -> Ahead
     }
 }
 
-fn print_formula() {
-    let ahead = read_option();
+fn print_formula(rt: &HostRuntime) {
+    let ahead = read_option(rt);
     let cap = ahead.cap;
-    if !ahead.good || os::arg_count() != ahead.names {
-        complain(b"usage: print_formula [--cap N] < BOOK\n");
+    if !ahead.good || arg_count(rt) != ahead.names {
+        complain(rt, b"usage: print_formula [--cap N] < BOOK\n");
         return;
     }
-    if !print_formula_from(cap, STDIN_FILENO) {
-        complain(b"print_formula: standard input can't be read\n");
+    if !print_formula_from(rt, cap, &mut rt.reader()) {
+        complain(rt, b"print_formula: standard input can't be read\n");
     }
 }
 
 // Judges the files of the names from a place on: the book's, the second input's and, if there is a third, the
 // result's.
-fn judge_names(check: Check, cap: Cap, place: usize, named: bool)
+fn judge_names(rt: &HostRuntime, check: Check, cap: Cap, place: usize, named: bool)
     requires { place ≤ 4 }
 {
-    let mut book = io::buffer();
-    let mut second = io::buffer();
-    let mut result = io::buffer();
-    let n = os::arg(place, &mut book);
-    let m = os::arg(place + 1, &mut second);
-    let k = os::arg(place + 2, &mut result);
-    judge_files(check, cap, &book[..n], &second[..m], &result[..k], named);
+    let mut book = [0u8; 4096];
+    let mut second = [0u8; 4096];
+    let mut result = [0u8; 4096];
+    let n = arg(rt, place, &mut book);
+    let m = arg(rt, place + 1, &mut second);
+    let k = arg(rt, place + 2, &mut result);
+    judge_files(
+        rt,
+        check,
+        cap,
+        &book[..n],
+        &second[..m],
+        &result[..k],
+        named,
+    );
 }
 
 // Judges the files that the arguments behind the command name, of which there are so many, under the cap, if one
 // is given.
-fn judge(check: Check, least: usize, most: usize, usage: &[u8])
+fn judge(rt: &HostRuntime, check: Check, least: usize, most: usize, usage: &[u8])
     requires { (least ≤ 3) × (most ≤ 3) }
 {
-    let ahead = read_option();
+    let ahead = read_option(rt);
     let cap = ahead.cap;
-    let words = os::arg_count();
+    let words = arg_count(rt);
     let names = ahead.names;
     if !ahead.good || words < names + least || names + most < words {
-        complain(usage);
+        complain(rt, usage);
         return;
     }
-    judge_names(check, cap, names, words == names + 3);
+    judge_names(rt, check, cap, names, words == names + 3);
 }
 
-fn carriers() {
-    if os::arg_count() != 5 || has_option() {
-        complain(b"usage: list_carriers BOOK PLAN OUT\n");
+fn carriers(rt: &HostRuntime) {
+    if arg_count(rt) != 5 || has_option(rt) {
+        complain(rt, b"usage: list_carriers BOOK PLAN OUT\n");
         return;
     }
-    judge_names(Check::Carriers, Cap::No, 2, true);
+    judge_names(rt, Check::Carriers, Cap::No, 2, true);
 }
 
 // Judges the files of an assignment and of a refutation together.
-fn judge_both(n: usize) {
-    let mut book = io::buffer();
-    let mut assignment = io::buffer();
-    let mut refutation = io::buffer();
-    let i = os::arg(2, &mut book);
-    let j = os::arg(4, &mut assignment);
-    let k = os::arg(5, &mut refutation);
-    fewest_files(&book[..i], n, &assignment[..j], &refutation[..k]);
+fn judge_both(rt: &HostRuntime, n: usize) {
+    let mut book = [0u8; 4096];
+    let mut assignment = [0u8; 4096];
+    let mut refutation = [0u8; 4096];
+    let i = arg(rt, 2, &mut book);
+    let j = arg(rt, 4, &mut assignment);
+    let k = arg(rt, 5, &mut refutation);
+    fewest_files(rt, &book[..i], n, &assignment[..j], &refutation[..k]);
 }
 
-fn fewest() {
-    let number = number_at(3);
-    if os::arg_count() == 6 && !has_option() {
+fn fewest(rt: &HostRuntime) {
+    let number = number_at(rt, 3);
+    if arg_count(rt) == 6 && !has_option(rt) {
         if let Argument::Number(n) = number {
-            judge_both(n);
+            judge_both(rt, n);
             return;
         }
     }
-    complain(b"usage: check_fewest BOOK N ASSIGNMENT REFUTATION\n");
+    complain(rt, b"usage: check_fewest BOOK N ASSIGNMENT REFUTATION\n");
 }
 
-fn upgrade() {
-    if os::arg_count() != 4 || has_option() {
-        complain(b"usage: upgrade_book OLD NEW\n");
+fn upgrade(rt: &HostRuntime) {
+    if arg_count(rt) != 4 || has_option(rt) {
+        complain(rt, b"usage: upgrade_book OLD NEW\n");
         return;
     }
-    let mut old = io::buffer();
-    let mut new = io::buffer();
-    let n = os::arg(2, &mut old);
-    let m = os::arg(3, &mut new);
-    upgrade_file(&old[..n], &new[..m]);
+    let mut old = [0u8; 4096];
+    let mut new = [0u8; 4096];
+    let n = arg(rt, 2, &mut old);
+    let m = arg(rt, 3, &mut new);
+    upgrade_file(rt, &old[..n], &new[..m]);
 }
 
-fn graph() {
-    if os::arg_count() != 4 || has_option() {
-        complain(b"usage: print_graph BOOK PLAN\n");
+fn graph(rt: &HostRuntime) {
+    if arg_count(rt) != 4 || has_option(rt) {
+        complain(rt, b"usage: print_graph BOOK PLAN\n");
         return;
     }
-    let mut book = io::buffer();
-    let mut plan = io::buffer();
-    let n = os::arg(2, &mut book);
-    let m = os::arg(3, &mut plan);
-    graph_files(&book[..n], &plan[..m]);
+    let mut book = [0u8; 4096];
+    let mut plan = [0u8; 4096];
+    let n = arg(rt, 2, &mut book);
+    let m = arg(rt, 3, &mut plan);
+    graph_files(rt, &book[..n], &plan[..m]);
 }
 
-fn main() {
-    let mut word = io::buffer();
-    let n = os::arg(1, &mut word);
+fn main(rt: HostRuntime) {
+    let rt = &rt;
+    let mut word = [0u8; 4096];
+    let n = arg(rt, 1, &mut word);
     let command = named(&word[..n]);
     match command {
-        Command::PrintFormula => print_formula(),
+        Command::PrintFormula => print_formula(rt),
         Command::CheckAssignment => judge(
+            rt,
             Check::Assignment,
             2,
             3,
             b"usage: check_assignment [--cap N] BOOK ASSIGNMENT [PLAN]\n",
         ),
         Command::CheckPlan => judge(
+            rt,
             Check::Plan,
             2,
             3,
             b"usage: check_plan [--cap N] BOOK PLAN [ASSIGNMENT]\n",
         ),
         Command::CheckRefutation => judge(
+            rt,
             Check::Refutation,
             2,
             2,
             b"usage: check_refutation [--cap N] BOOK REFUTATION\n",
         ),
-        Command::CheckFewest => fewest(),
-        Command::UpgradeBook => upgrade(),
-        Command::PrintGraph => graph(),
-        Command::ListCarriers => carriers(),
+        Command::CheckFewest => fewest(rt),
+        Command::UpgradeBook => upgrade(rt),
+        Command::PrintGraph => graph(rt),
+        Command::ListCarriers => carriers(rt),
         Command::Unknown => {
-            complain(b"usage: cabinet print_formula [--cap N] < BOOK\n");
-            complain(b"       cabinet check_assignment [--cap N] BOOK ASSIGNMENT [PLAN]\n");
-            complain(b"       cabinet check_plan [--cap N] BOOK PLAN [ASSIGNMENT]\n");
-            complain(b"       cabinet check_refutation [--cap N] BOOK REFUTATION\n");
-            complain(b"       cabinet check_fewest BOOK N ASSIGNMENT REFUTATION\n");
-            complain(b"       cabinet upgrade_book OLD NEW\n");
-            complain(b"       cabinet print_graph BOOK PLAN\n");
-            complain(b"       cabinet list_carriers BOOK PLAN OUT\n");
+            complain(rt, b"usage: cabinet print_formula [--cap N] < BOOK\n");
+            complain(
+                rt,
+                b"       cabinet check_assignment [--cap N] BOOK ASSIGNMENT [PLAN]\n",
+            );
+            complain(
+                rt,
+                b"       cabinet check_plan [--cap N] BOOK PLAN [ASSIGNMENT]\n",
+            );
+            complain(
+                rt,
+                b"       cabinet check_refutation [--cap N] BOOK REFUTATION\n",
+            );
+            complain(
+                rt,
+                b"       cabinet check_fewest BOOK N ASSIGNMENT REFUTATION\n",
+            );
+            complain(rt, b"       cabinet upgrade_book OLD NEW\n");
+            complain(rt, b"       cabinet print_graph BOOK PLAN\n");
+            complain(rt, b"       cabinet list_carriers BOOK PLAN OUT\n");
         }
     }
 }

@@ -3,10 +3,10 @@ ghost use Rattle.std.specs.Prelude.{◌≡◌, ◌<◌, ◌≤◌, length};
 
 use crate::lent::lent;
 use frames::bytes::wide;
-use libc::STDOUT_FILENO;
 use model::Cap;
 use programs::dimacs::put_words;
-use programs::printing::{Opened, open_text, print, print_words};
+use programs::printing::{Opened, open_text, print, print_decimal, print_text, print_words};
+use std::rt::HostRuntime;
 
 // The first line in `line`, and the words behind it, with as many words lent as the numbers say.
 fn opened(cap: Cap, book: &[u8], numbers: &[u8], words: &mut [i32], line: &mut [u8]) -> Opened
@@ -18,13 +18,13 @@ fn opened(cap: Cap, book: &[u8], numbers: &[u8], words: &mut [i32], line: &mut [
 }
 
 // What print_formula prints.
-pub fn print_formula(cap: Cap, book: &[u8], numbers: &[u8]) {
+pub fn print_formula(rt: &HostRuntime, cap: Cap, book: &[u8], numbers: &[u8]) {
     let mut words = [0i32; 16384];
     let mut line = [0u8; 64];
     let text = opened(cap, book, numbers, &mut words, &mut line);
     let n = text.words;
-    print(&line, text.len);
-    print_words(&words[..n]);
+    print(rt, &line, text.len);
+    print_words(rt, &words[..n]);
 }
 
 // How many bytes were passed, and their checksum.
@@ -46,7 +46,7 @@ fn more(d: Digest, bytes: &[u8], n: usize) -> Digest
         i += 1;
     }
     Digest {
-        len: std::num::wrapping_add_u64(d.len, i as u64),
+        len: d.len.wrapping_add(i as u64),
         sum: sum,
     }
 }
@@ -55,7 +55,7 @@ fn more(d: Digest, bytes: &[u8], n: usize) -> Digest
 fn more_words(d: Digest, words: &[i32]) -> Digest
     requires { d.sum < 1000000007 }
 {
-    let mut buf = io::large_buffer();
+    let mut buf = [0u8; 65536];
     let mut digest = d;
     let mut from = 0;
     while from < words.len() {
@@ -67,7 +67,7 @@ fn more_words(d: Digest, words: &[i32]) -> Digest
 }
 
 // The length and the checksum of what print_formula prints.
-pub fn print_digest(cap: Cap, book: &[u8], numbers: &[u8]) {
+pub fn print_digest(rt: &HostRuntime, cap: Cap, book: &[u8], numbers: &[u8]) {
     let mut words = [0i32; 16384];
     let mut line = [0u8; 64];
     let text = opened(cap, book, numbers, &mut words, &mut line);
@@ -75,8 +75,8 @@ pub fn print_digest(cap: Cap, book: &[u8], numbers: &[u8]) {
     let none = Digest { len: 0, sum: 0 };
     let first = more(none, &line, text.len);
     let whole = more_words(first, &words[..n]);
-    io::print_decimal(STDOUT_FILENO, whole.len);
-    io::write_all(STDOUT_FILENO, b" ");
-    io::print_decimal(STDOUT_FILENO, whole.sum as u64);
-    io::write_all(STDOUT_FILENO, b"\n");
+    print_decimal(rt, whole.len);
+    print_text(rt, b" ");
+    print_decimal(rt, whole.sum as u64);
+    print_text(rt, b"\n");
 }

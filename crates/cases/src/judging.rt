@@ -4,13 +4,13 @@ ghost use Rattle.std.specs.Prelude.{◌≡◌, length};
 use crate::lent::lent;
 use fewest::check_fewest;
 use graph::print_graph;
-use libc::STDOUT_FILENO;
 use model::Cap;
-use programs::printing::print;
+use programs::printing::{print, print_text};
 use programs::verdicts::{
     Check, Said, refutation_text, say, say_plain, upgrade_text, verdict_text,
 };
 use reader::reading::OutputAnswer;
+use std::rt::HostRuntime;
 
 // The verdict of a check, with as much of the output lent as the numbers say.
 fn verdict(
@@ -29,25 +29,25 @@ fn verdict(
 }
 
 // A verdict's line and, where it is accepted, its result on a line.
-fn print_said(said: Said, line: &[u8], out: &[u8]) {
-    print(line, said.len);
+fn print_said(rt: &HostRuntime, said: Said, line: &[u8], out: &[u8]) {
+    print(rt, line, said.len);
     if 0 < said.result {
-        print(out, said.result);
-        io::write_all(STDOUT_FILENO, b"\n");
+        print(rt, out, said.result);
+        print_text(rt, b"\n");
     }
 }
 
-pub fn judge(check: Check, cap: Cap, book: &[u8], second: &[u8], numbers: &[u8]) {
+pub fn judge(rt: &HostRuntime, check: Check, cap: Cap, book: &[u8], second: &[u8], numbers: &[u8]) {
     let mut out = [7u8; 65536];
     let mut line = [0u8; 64];
     let said = verdict(check, cap, book, second, numbers, &mut out, &mut line);
-    print_said(said, &line, &out);
+    print_said(rt, said, &line, &out);
 }
 
 // The verdict on an assignment that is unpacked, then on the same one judged alone.
-pub fn judge_assignment(cap: Cap, book: &[u8], second: &[u8], numbers: &[u8]) {
-    judge(Check::Unpacking, cap, book, second, numbers);
-    judge(Check::Assignment, cap, book, second, numbers);
+pub fn judge_assignment(rt: &HostRuntime, cap: Cap, book: &[u8], second: &[u8], numbers: &[u8]) {
+    judge(rt, Check::Unpacking, cap, book, second, numbers);
+    judge(rt, Check::Assignment, cap, book, second, numbers);
 }
 
 // The answer to a plan whose train graph is asked for, with as much of the output lent as the numbers say.
@@ -57,11 +57,11 @@ fn drawn(book: &[u8], plan: &[u8], numbers: &[u8], out: &mut [u8]) -> OutputAnsw
 }
 
 // Its line and, where it is accepted, the page on a line.
-pub fn draw(book: &[u8], plan: &[u8], numbers: &[u8]) {
+pub fn draw(rt: &HostRuntime, book: &[u8], plan: &[u8], numbers: &[u8]) {
     let mut out = [7u8; 65536];
     let mut line = [0u8; 64];
     let said = say(drawn(book, plan, numbers, &mut out), &mut line);
-    print_said(said, &line, &out);
+    print_said(rt, said, &line, &out);
 }
 
 // The verdict on an old book, with as much of the output lent as the numbers say.
@@ -73,15 +73,16 @@ fn upgraded(old: &[u8], numbers: &[u8], out: &mut [u8], line: &mut [u8]) -> Said
 }
 
 // Its line and, where it is accepted, the new book on a line.
-pub fn upgrade(old: &[u8], numbers: &[u8]) {
+pub fn upgrade(rt: &HostRuntime, old: &[u8], numbers: &[u8]) {
     let mut out = [7u8; 65536];
     let mut line = [0u8; 64];
     let said = upgraded(old, numbers, &mut out, &mut line);
-    print_said(said, &line, &out);
+    print_said(rt, said, &line, &out);
 }
 
 // The verdict on a refutation, with as much of the slices lent as the numbers say.
 fn refutation(
+    rt: &HostRuntime,
     cap: Cap,
     book: &[u8],
     r: &[u8],
@@ -106,16 +107,17 @@ fn refutation(
         &mut trail[..t],
         &mut line,
     );
-    print(&line, said.len);
+    print(rt, &line, said.len);
 }
 
 // The verdict's line.
-pub fn refute(cap: Cap, book: &[u8], r: &[u8], numbers: &[u8]) {
+pub fn refute(rt: &HostRuntime, cap: Cap, book: &[u8], r: &[u8], numbers: &[u8]) {
     let mut words = [-7i32; 16384];
     let mut starts = [9usize; 8192];
     let mut values = [2u8; 65536];
     let mut trail = [5usize; 8192];
     refutation(
+        rt,
         cap,
         book,
         r,
@@ -129,6 +131,7 @@ pub fn refute(cap: Cap, book: &[u8], r: &[u8], numbers: &[u8]) {
 
 // The combined verdict on n, with as much of the slices lent as the numbers say.
 fn counted(
+    rt: &HostRuntime,
     book: &[u8],
     n: usize,
     assignment: &[u8],
@@ -155,11 +158,11 @@ fn counted(
         &mut trail[..t],
     );
     let said = say_plain(answer, &mut line);
-    print(&line, said.len);
+    print(rt, &line, said.len);
 }
 
 // The verdict's line. The refutation stands behind the four numbers.
-pub fn fewest(book: &[u8], n: usize, assignment: &[u8], third: &[u8]) {
+pub fn fewest(rt: &HostRuntime, book: &[u8], n: usize, assignment: &[u8], third: &[u8]) {
     if third.len() < 16 {
         return;
     }
@@ -168,6 +171,7 @@ pub fn fewest(book: &[u8], n: usize, assignment: &[u8], third: &[u8]) {
     let mut values = [2u8; 65536];
     let mut trail = [5usize; 8192];
     counted(
+        rt,
         book,
         n,
         assignment,

@@ -21,10 +21,13 @@ mod lent;
 
 ghost use Rattle.std.specs.Prelude.{◌<◌};
 
-use libc::STDOUT_FILENO;
 use model::Cap;
+use programs::printing::{print_text, read_full};
+use programs::system::{arg, arg_count, open};
 use programs::verdicts::{Check, fewest_files, graph_files};
 use refutation_file::numbers::number_at;
+use std::io::Read;
+use std::rt::HostRuntime;
 
 // What a record asks: its letter, and its cap, or n.
 #[derive(Clone, Copy)]
@@ -34,38 +37,39 @@ struct Question {
     n: usize,
 }
 
-fn answer(q: Question, first: &[u8], second: &[u8], third: &[u8]) {
+fn answer(rt: &HostRuntime, q: Question, first: &[u8], second: &[u8], third: &[u8]) {
     let question = q.letter;
     let cap = q.cap;
     let n = q.n;
     match question {
-        b'B' => books::print_counts(first),
-        b'R' => books::print_runs(first),
-        b'F' => formulas::print_formula(cap, first, third),
-        b'D' => formulas::print_digest(cap, first, third),
-        b'A' => judging::judge_assignment(cap, first, second, third),
-        b'P' => judging::judge(Check::Plan, cap, first, second, third),
-        b'N' => judging::refute(cap, first, second, third),
-        b'W' => judging::fewest(first, n, second, third),
-        b'U' => judging::upgrade(first, third),
-        b'G' => judging::draw(first, second, third),
-        b'C' => judging::judge(Check::Carriers, cap, first, second, third),
-        b'f' => files::print_formula(cap, first, third),
-        b'a' => files::judge(Check::Assignment, cap, first, second, third),
-        b'p' => files::judge(Check::Plan, cap, first, second, third),
-        b'n' => files::judge(Check::Refutation, cap, first, second, third),
-        b'w' => fewest_files(first, n, second, third),
-        b'u' => files::upgrade(first, third),
-        b'g' => graph_files(first, second),
-        b'c' => files::judge(Check::Carriers, cap, first, second, third),
+        b'B' => books::print_counts(rt, first),
+        b'R' => books::print_runs(rt, first),
+        b'F' => formulas::print_formula(rt, cap, first, third),
+        b'D' => formulas::print_digest(rt, cap, first, third),
+        b'A' => judging::judge_assignment(rt, cap, first, second, third),
+        b'P' => judging::judge(rt, Check::Plan, cap, first, second, third),
+        b'N' => judging::refute(rt, cap, first, second, third),
+        b'W' => judging::fewest(rt, first, n, second, third),
+        b'U' => judging::upgrade(rt, first, third),
+        b'G' => judging::draw(rt, first, second, third),
+        b'C' => judging::judge(rt, Check::Carriers, cap, first, second, third),
+        b'f' => files::print_formula(rt, cap, first, third),
+        b'a' => files::judge(rt, Check::Assignment, cap, first, second, third),
+        b'p' => files::judge(rt, Check::Plan, cap, first, second, third),
+        b'n' => files::judge(rt, Check::Refutation, cap, first, second, third),
+        b'w' => fewest_files(rt, first, n, second, third),
+        b'u' => files::upgrade(rt, first, third),
+        b'g' => graph_files(rt, first, second),
+        b'c' => files::judge(rt, Check::Carriers, cap, first, second, third),
         _ => {
-            io::write_all(STDOUT_FILENO, b"no such question\n");
+            print_text(rt, b"no such question\n");
         }
     }
 }
 
 // The answer to the first n, m and k bytes of three buffers.
 fn answer_parts(
+    rt: &HostRuntime,
     question: Question,
     first: &[u8],
     n: usize,
@@ -75,13 +79,13 @@ fn answer_parts(
     k: usize,
 ) {
     if n <= first.len() && m <= second.len() && k <= third.len() {
-        answer(question, &first[..n], &second[..m], &third[..k]);
+        answer(rt, question, &first[..n], &second[..m], &third[..k]);
     }
 }
 
-fn read_part(fd: i32, buf: &mut [u8], n: usize) {
+fn read_part<R: Read>(input: &mut R, buf: &mut [u8], n: usize) {
     if n <= buf.len() {
-        io::read_full(fd, &mut buf[..n]);
+        read_full(input, &mut buf[..n]);
     }
 }
 
@@ -99,51 +103,53 @@ fn question_of(letter: u8, capped: u8, low: usize, high: usize) -> Question
 }
 
 // One case; answers whether there was one.
-fn one_case(fd: i32) -> bool {
+fn one_case<R: Read>(rt: &HostRuntime, input: &mut R) -> bool {
     let mut head = [0u8; 2];
     let mut numbers = [0u8; 20];
-    if io::read_full(fd, &mut head) != 2 || io::read_full(fd, &mut numbers) != 20 {
+    if read_full(input, &mut head) != 2 || read_full(input, &mut numbers) != 20 {
         return false;
     }
     let low = number_at(&numbers, 0);
     let high = number_at(&numbers, 1);
     let question = question_of(head[0], head[1], low, high);
-    let mut first = io::large_buffer();
-    let mut second = io::large_buffer();
-    let mut third = io::large_buffer();
+    let mut first = [0u8; 65536];
+    let mut second = [0u8; 65536];
+    let mut third = [0u8; 65536];
     let n = number_at(&numbers, 2);
     let m = number_at(&numbers, 3);
     let k = number_at(&numbers, 4);
-    read_part(fd, &mut first, n);
-    read_part(fd, &mut second, m);
-    read_part(fd, &mut third, k);
-    answer_parts(question, &first, n, &second, m, &third, k);
+    read_part(input, &mut first, n);
+    read_part(input, &mut second, m);
+    read_part(input, &mut third, k);
+    answer_parts(rt, question, &first, n, &second, m, &third, k);
     true
 }
 
 // The cases of a file, a million at most.
-fn all_cases(fd: i32) {
+fn all_cases<R: Read>(rt: &HostRuntime, input: &mut R) {
     let mut left = 1000000usize;
-    while 0 < left && one_case(fd) {
+    while 0 < left && one_case(rt, input) {
         left -= 1;
     }
 }
 
 // The file that an argument names.
-fn answer_file(argument: usize) {
-    let mut name = io::buffer();
-    let n = os::arg(argument, &mut name);
-    io::write_all(STDOUT_FILENO, &name[..n]);
-    io::write_all(STDOUT_FILENO, b"\n");
-    let fd = os::open_read(&name[..n]);
-    all_cases(fd);
-    libc::close(fd);
+fn answer_file(rt: &HostRuntime, argument: usize) {
+    let mut name = [0u8; 4096];
+    let n = arg(rt, argument, &mut name);
+    print_text(rt, &name[..n]);
+    print_text(rt, b"\n");
+    if let Ok(file) = open(rt, &name[..n]) {
+        let mut input = file;
+        all_cases(rt, &mut input);
+    }
 }
 
-fn main() {
+fn main(rt: HostRuntime) {
+    let rt = &rt;
     let mut i = 1;
-    while i < 1000 && i < os::arg_count() {
-        answer_file(i);
+    while i < 1000 && i < arg_count(rt) {
+        answer_file(rt, i);
         i += 1;
     }
 }

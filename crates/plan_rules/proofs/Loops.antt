@@ -1,6 +1,5 @@
 -- The rules of one train in the form of the loops that check them: one test an interval, of its move and the one before. Assumes
 -- nothing.
-use borrow.Author.Tests.{not-true, not-false}
 use mathlib.Core.Path.{◌≡◌, sym, ap, ◌∙◌}
 use mathlib.Core.Bool.{Bool, true, false, not, ◌&&◌, ◌||◌, cond}
 use mathlib.Core.Logic.{inl, inr}
@@ -17,11 +16,11 @@ use Rattle.laws.proofs.Loops.{all_start, all-turn, all-broken}
 
 -- a turn of a loop that leaves with the first number that fails, by what a function answered of it
 module _ (f : ℕ → Bool) {n k : ℕ} {whole answer : Bool} (h : whole ≡ all f (range k n)) (l : k < n) (e : answer ≡ f k) where
-  pub all-fails : not answer ≡ true → false ≡ whole
-  all-fails t = all-broken f h l (sym e ∙ not-true answer t)
+  pub all-fails : answer ≡ false → false ≡ whole
+  all-fails t = all-broken f h l (sym e ∙ t)
 
-  pub all-goes : not answer ≡ false → whole ≡ all f (range (k + 1) n)
-  all-goes t = all-turn f h l (sym e ∙ not-false answer t)
+  pub all-goes : answer ≡ true → whole ≡ all f (range (k + 1) n)
+  all-goes t = all-turn f h l (sym e ∙ t)
 
 not-below : (t d : ℕ) → T (not (ltb t d)) → d ≤ t
 not-below t d b = elim (le-or-lt d t) [ inl x ↦ x | inr x ↦ absurd ((not_iff (ltb t d)).0 b ((ltb_iff t d).1 x)) ]
@@ -71,7 +70,7 @@ module _ (m : ℕ → Move) where
 
   -- a turn of a loop that holds the move before
   pub next-move : (f : ℕ → Bool) {n k : ℕ} {whole answer : Bool} → whole ≡ all f (range k n) → k < n → answer ≡ f k
-      → {x : Move} → x ≡ m k → not answer ≡ false → (whole ≡ all f (range (k + 1) n)) × (x ≡ prior (k + 1))
+      → {x : Move} → x ≡ m k → answer ≡ true → (whole ≡ all f (range (k + 1) n)) × (x ≡ prior (k + 1))
   next-move f {k = k} h l e moved t = (all-goes f h l e t, moved ∙ sym (prior-next k))
 
   -- what holds of absent and of every move holds of it

@@ -2,4 +2,5 @@
 pub mod arguments;
 pub mod dimacs;
 pub mod printing;
+pub mod system;
 pub mod verdicts;

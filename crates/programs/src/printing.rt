@@ -4,7 +4,6 @@
 // pieces where the text is long.
 ghost use Rattle.std.specs.Prelude.{◌≡◌, true, ◌++◌, ◌≤◌, length, take};
 ghost use Rattle.std.proofs.lemmas.List.Edits.{sets};
-ghost use Rattle.io.specs.Counts.{IsPrefixLen};
 ghost use Rattle.spec.specs.Held.{held_cap};
 ghost use Rattle.spec.specs.Entry.{write_formula, words_after, formula_text};
 ghost use Rattle.spec.specs.Programs.{unless_long, printed};
@@ -12,8 +11,10 @@ ghost use Rattle.programs.specs.Text.{words_text};
 ghost use Rattle.programs.specs.Opening.{first_line, words_behind};
 
 use crate::dimacs::{put_header, put_refusal, put_words};
-use libc::STDOUT_FILENO;
+use crate::system::fail;
 use model::Cap;
+use std::io::{Error, Print, Read};
+use std::rt::HostRuntime;
 use writing::{FormulaAnswer, write_formula};
 
 // How many bytes are printed first, and how many words follow them.
@@ -69,48 +70,91 @@ pub struct Loaded {
     pub read: bool,
 }
 
-// Reads an open file into the buffer. One read more tells its end from a failure: a file is too long
-// where it fills the buffer and has a byte more; a byte more behind a buffer that is not full means that
-// a read failed in between.
-pub fn load_from(fd: i32, buf: &mut [u8]) -> Loaded
-    ensures { (IsPrefixLen result.len buf.new) × (result.long ≡ true → result.len ≡ length buf.new) }
+// Reads until the buffer is full, the input ends or a read fails; answers how many bytes stand at its start.
+pub fn read_full<R: Read>(input: &mut R, buf: &mut [u8]) -> usize
+    ensures { result ≤ length buf.new }
 {
-    let n = io::read_full(fd, buf);
+    fill(input, buf).0
+}
+
+// The same, and why a read failed, where one did.
+fn fill<R: Read>(input: &mut R, buf: &mut [u8]) -> (usize, Option<Error>)
+    ensures { result.0 ≤ length buf.new }
+{
+    let mut n = 0;
+    while n < buf.len() {
+        match input.read(&mut buf[n..]) {
+            Ok(0) => return (n, None),
+            Ok(got) => n += got,
+            Err(error) => return (n, Some(error)),
+        }
+    }
+    (n, None)
+}
+
+// Reads an open input into the buffer, and tells why where it could not be read. One read more tells its end
+// from a failure: an input is too long where it fills the buffer and has a byte more; a byte more behind a
+// buffer that is not full means that a read failed in between.
+pub fn load_or_why<R: Read>(input: &mut R, buf: &mut [u8]) -> (Loaded, Option<Error>)
+    ensures { (result.0.len ≤ length buf.new) × (result.0.long ≡ true → result.0.len ≡ length buf.new) }
+{
+    let (n, why) = fill(input, buf);
     let mut more = [0u8; 1];
-    let got = libc::read(fd, &mut more);
-    if 0 < got && n == buf.len() {
-        return Loaded {
-            len: n,
-            long: true,
-            read: true,
-        };
+    match input.read(&mut more) {
+        Ok(0) => (held(n, false, true), None),
+        Ok(_) => if n == buf.len() {
+            (held(n, true, true), None)
+        } else {
+            (held(n, false, false), why)
+        },
+        Err(error) => (held(n, false, false), Some(error)),
     }
-    Loaded {
-        len: n,
-        long: false,
-        read: got == 0,
-    }
+}
+
+fn held(len: usize, long: bool, read: bool) -> Loaded
+    ensures { result ≡ record { len = len; long = long; read = read } }
+{
+    Loaded { len, long, read }
+}
+
+// Reads an open input into the buffer.
+pub fn load_from<R: Read>(input: &mut R, buf: &mut [u8]) -> Loaded
+    ensures { (result.len ≤ length buf.new) × (result.long ≡ true → result.len ≡ length buf.new) }
+{
+    load_or_why(input, buf).0
 }
 
 // Hands the first n bytes of the buffer to the output; answers whether it took them. Where it did not,
 // standard error says why.
-pub fn print(buf: &[u8], n: usize) -> bool {
+pub fn print(rt: &HostRuntime, buf: &[u8], n: usize) -> bool {
     if n <= buf.len() {
-        if io::write_all(STDOUT_FILENO, &buf[..n]) {
-            return true;
+        match rt.write_all(&buf[..n]) {
+            Ok(()) => return true,
+            Err(error) => fail(rt, b"standard output", error),
         }
-        os::fail(b"standard output");
     }
     false
 }
 
+// Hands bytes to the output. Where it does not take them, standard error says why.
+pub fn print_text(rt: &HostRuntime, text: &[u8]) {
+    print(rt, text, text.len());
+}
+
+// Prints a number in decimal.
+pub fn print_decimal(rt: &HostRuntime, n: u64) {
+    if let Err(error) = rt.print(n) {
+        fail(rt, b"standard output", error);
+    }
+}
+
 // Prints the text of words in pieces, a buffer at a time.
-pub fn print_words(words: &[i32]) {
-    let mut buf = io::large_buffer();
+pub fn print_words(rt: &HostRuntime, words: &[i32]) {
+    let mut buf = [0u8; 65536];
     let mut from = 0;
     while from < words.len() {
         let piece = put_words(&mut buf, words, from);
-        if !print(&buf, piece.len) {
+        if !print(rt, &buf, piece.len) {
             return;
         }
         from = piece.next;
@@ -119,24 +163,24 @@ pub fn print_words(words: &[i32]) {
 
 // Prints the formula, under a cap or none, of the book that the bytes hold, or its refusal, which is 12 where the book is too
 // long. The words have 64 KiB.
-fn print_formula_text(cap: Cap, book: &[u8], long: bool) {
+fn print_formula_text(rt: &HostRuntime, cap: Cap, book: &[u8], long: bool) {
     let mut words = [0i32; 16384];
     let mut line = [0u8; 64];
     let opened = open_text(cap, book, long, &mut words, &mut line);
     let n = opened.words;
-    if print(&line, opened.len) {
-        print_words(&words[..n]);
+    if print(rt, &line, opened.len) {
+        print_words(rt, &words[..n]);
     }
 }
 
 // Reads a book from an open file and prints its formula under a cap or none, or its refusal; answers whether the book could
 // be read.
-pub fn print_formula_from(cap: Cap, fd: i32) -> bool {
-    let mut book = io::large_buffer();
-    let loaded = load_from(fd, &mut book);
+pub fn print_formula_from<R: Read>(rt: &HostRuntime, cap: Cap, input: &mut R) -> bool {
+    let mut book = [0u8; 65536];
+    let loaded = load_from(input, &mut book);
     let n = loaded.len;
     if loaded.read {
-        print_formula_text(cap, &book[..n], loaded.long);
+        print_formula_text(rt, cap, &book[..n], loaded.long);
     }
     loaded.read
 }

@@ -5,7 +5,6 @@
 // read files by their names, and hand bytes to the output and to a file. A slice has at most 64 KiB.
 ghost use Rattle.std.specs.Prelude.{◌≡◌, ◌≤◌, length, pos};
 ghost use Rattle.std.proofs.lemmas.List.Edits.{sets};
-ghost use Rattle.io.specs.Counts.{IsPrefixLen};
 ghost use Rattle.spec.specs.Held.{held_cap};
 ghost use Rattle.spec.specs.Entry.{overwrite, written, zeroed, check_assignment, unpack_plan, check_plan, check_refutation, check_fewest};
 ghost use Rattle.spec.specs.Upgrade.{upgrade_book};
@@ -17,7 +16,8 @@ ghost use Rattle.programs.specs.Lines.{plain_answer};
 ghost use Rattle.programs.specs.Verdicts.{bare, verdict_of, has_result, asked_check, Says, Tells};
 
 use crate::dimacs::put_refusal;
-use crate::printing::{Loaded, load_from, print};
+use crate::printing::{Loaded, load_or_why, print};
+use crate::system::{create, fail, open};
 use carriers::list_carriers;
 use checking::{check_assignment, check_plan, unpack_plan};
 use fewest::check_fewest;
@@ -26,6 +26,8 @@ use graph::print_graph;
 use model::Cap;
 use reader::reading::{Answer, OutputAnswer};
 use refutations::check_refutation;
+use std::io::Write;
+use std::rt::HostRuntime;
 use upgrading::upgrade_book;
 
 // Which check a program makes. An assignment is judged alone, or judged and unpacked; the carriers are
@@ -278,48 +280,53 @@ pub fn graph_text(book: &[u8], plan: &[u8], long: bool, out: &mut [u8]) -> usize
 }
 
 // Reads the file of this name; where it can't be read, standard error says why.
-fn load(name: &[u8], buf: &mut [u8]) -> Loaded
-    ensures { IsPrefixLen result.len buf.new }
+fn load(rt: &HostRuntime, name: &[u8], buf: &mut [u8]) -> Loaded
+    ensures { result.len ≤ length buf.new }
 {
-    let fd = os::open_read(name);
-    if fd < 0 {
-        os::fail(name);
-        return Loaded {
-            len: 0,
-            long: false,
-            read: false,
-        };
+    match open(rt, name) {
+        Ok(file) => {
+            let mut input = file;
+            let (loaded, why) = load_or_why(&mut input, buf);
+            if let Some(error) = why {
+                if !loaded.read {
+                    fail(rt, name, error);
+                }
+            }
+            loaded
+        }
+        Err(error) => {
+            fail(rt, name, error);
+            Loaded {
+                len: 0,
+                long: false,
+                read: false,
+            }
+        }
     }
-    let loaded = load_from(fd, buf);
-    if !loaded.read {
-        os::fail(name);
-    }
-    libc::close(fd);
-    loaded
 }
 
 // Writes bytes into the file of this name; where it can't be written, standard error says why.
-fn save(name: &[u8], bytes: &[u8]) {
-    let fd = os::open_overwrite(name);
-    if fd < 0 {
-        os::fail(name);
-        return;
+fn save(rt: &HostRuntime, name: &[u8], bytes: &[u8]) {
+    match create(rt, name) {
+        Ok(file) => {
+            let mut output = file;
+            if let Err(error) = output.write_all(bytes) {
+                fail(rt, name, error);
+            }
+        }
+        Err(error) => fail(rt, name, error),
     }
-    if !io::write_all(fd, bytes) {
-        os::fail(name);
-    }
-    libc::close(fd);
 }
 
 // Prints the line of a verdict; where it is accepted its result, which may be empty, goes to the file of
 // this name, if one was named.
-fn hand_out(said: Said, line: &[u8], out: &[u8], res: &[u8], named: bool) {
+fn hand_out(rt: &HostRuntime, said: Said, line: &[u8], out: &[u8], res: &[u8], named: bool) {
     let n = said.result;
-    if !print(line, said.len) {
+    if !print(rt, line, said.len) {
         return;
     }
     if said.accepted && n <= out.len() && named {
-        save(res, &out[..n]);
+        save(rt, res, &out[..n]);
     }
 }
 
@@ -355,13 +362,21 @@ fn has_result(check: Check) -> bool
 
 // Judges the files of these names: the book, the second input, and the result, if one was named and the
 // check has one. Where an input can't be read, nothing is printed.
-pub fn judge_files(check: Check, cap: Cap, book: &[u8], second: &[u8], res: &[u8], named: bool) {
-    let mut bytes = io::large_buffer();
-    let mut more = io::large_buffer();
-    let a = load(book, &mut bytes);
-    let b = load(second, &mut more);
+pub fn judge_files(
+    rt: &HostRuntime,
+    check: Check,
+    cap: Cap,
+    book: &[u8],
+    second: &[u8],
+    res: &[u8],
+    named: bool,
+) {
+    let mut bytes = [0u8; 65536];
+    let mut more = [0u8; 65536];
+    let a = load(rt, book, &mut bytes);
+    let b = load(rt, second, &mut more);
     if a.read && b.read {
-        let mut out = io::large_buffer();
+        let mut out = [0u8; 65536];
         let mut line = [0u8; 64];
         let n = a.len;
         let m = b.len;
@@ -376,18 +391,18 @@ pub fn judge_files(check: Check, cap: Cap, book: &[u8], second: &[u8], res: &[u8
             &mut out,
             &mut line,
         );
-        hand_out(said, &line, &out, res, named && has_result(made));
+        hand_out(rt, said, &line, &out, res, named && has_result(made));
     }
 }
 
 // Prints the combined verdict on n, by the files of these names. Where one can't be read, nothing is printed.
-pub fn fewest_files(book: &[u8], n: usize, assignment: &[u8], refutation: &[u8]) {
-    let mut bytes = io::large_buffer();
-    let mut yes = io::large_buffer();
-    let mut no = io::large_buffer();
-    let a = load(book, &mut bytes);
-    let b = load(assignment, &mut yes);
-    let c = load(refutation, &mut no);
+pub fn fewest_files(rt: &HostRuntime, book: &[u8], n: usize, assignment: &[u8], refutation: &[u8]) {
+    let mut bytes = [0u8; 65536];
+    let mut yes = [0u8; 65536];
+    let mut no = [0u8; 65536];
+    let a = load(rt, book, &mut bytes);
+    let b = load(rt, assignment, &mut yes);
+    let c = load(rt, refutation, &mut no);
     if a.read && b.read && c.read {
         let mut line = [0u8; 64];
         let i = a.len;
@@ -395,36 +410,36 @@ pub fn fewest_files(book: &[u8], n: usize, assignment: &[u8], refutation: &[u8])
         let k = c.len;
         let long = a.long || b.long || c.long;
         let said = fewest_text(&bytes[..i], n, &yes[..j], &no[..k], long, &mut line);
-        print(&line, said.len);
+        print(rt, &line, said.len);
     }
 }
 
 // Prints the train graph of the plan in the second file, for the book in the first. Where one can't be
 // read, nothing is printed.
-pub fn graph_files(book: &[u8], plan: &[u8]) {
-    let mut bytes = io::large_buffer();
-    let mut more = io::large_buffer();
-    let a = load(book, &mut bytes);
-    let b = load(plan, &mut more);
+pub fn graph_files(rt: &HostRuntime, book: &[u8], plan: &[u8]) {
+    let mut bytes = [0u8; 65536];
+    let mut more = [0u8; 65536];
+    let a = load(rt, book, &mut bytes);
+    let b = load(rt, plan, &mut more);
     if a.read && b.read {
-        let mut out = io::large_buffer();
+        let mut out = [0u8; 65536];
         let n = a.len;
         let m = b.len;
         let len = graph_text(&bytes[..n], &more[..m], a.long || b.long, &mut out);
-        print(&out, len);
+        print(rt, &out, len);
     }
 }
 
 // Rewrites the old book in the file of this name into the file of the other. Where it can't be read,
 // nothing is printed.
-pub fn upgrade_file(old: &[u8], new: &[u8]) {
-    let mut bytes = io::large_buffer();
-    let a = load(old, &mut bytes);
+pub fn upgrade_file(rt: &HostRuntime, old: &[u8], new: &[u8]) {
+    let mut bytes = [0u8; 65536];
+    let a = load(rt, old, &mut bytes);
     if a.read {
-        let mut out = io::large_buffer();
+        let mut out = [0u8; 65536];
         let mut line = [0u8; 64];
         let n = a.len;
         let said = upgrade_text(&bytes[..n], a.long, &mut out, &mut line);
-        hand_out(said, &line, &out, new, true);
+        hand_out(rt, said, &line, &out, new, true);
     }
 }

@@ -1,6 +1,5 @@
 -- `clauses::store_three` meets its contract: word by word it comes to the same. Assumes nothing.
 use borrow.Author.Rules.{rules}
-use borrow.Author.Tests.{leb-true}
 use mathlib.Core.Path.{sym}
 use Prim.Native.Nat.{◌+◌, ◌≤◌}
 use native.Mathlib.Omega.{arith}
@@ -18,13 +17,13 @@ abbrev entry : tie.Then-at-out → tie.Start
 entry c = c.before.before.before
 
 room : (c : tie.Then-at-out) → (entry c).args.at + 4 ≤ length (entry c).args.out.now
-room c = leb-true _ _ c.if-at-out.true
+room c = c.if-at-out.true
 
 returns-2 : tie.Need-returns-then-at-out
 unfolding stored
 returns-2 c =
     let s = entry c in
-    rw (to_z-of_z s.fits.l, to_z-of_z s.fits.m, to_z-of_z s.fits.n)
+    rw (to_z-of_z s.ranges.l, to_z-of_z s.ranges.m, to_z-of_z s.ranges.n)
     (sym
     (stored-four s.args.at s.args.l s.args.m s.args.n (pos 0) [] s.args.out.now (omega (arith, c.if-at.true))))
 

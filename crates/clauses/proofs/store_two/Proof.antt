@@ -1,6 +1,5 @@
 -- `clauses::store_two` meets its contract: word by word it comes to the same. Assumes nothing.
 use mathlib.Core.Path.{sym}
-use borrow.Author.Tests.{leb-true}
 use Prim.Native.Nat.{◌+◌, ◌≤◌}
 use native.Mathlib.Omega.{arith}
 use mathlib.Core.List.{[]}
@@ -18,13 +17,13 @@ abbrev entry : tie.Then-at-out → tie.Start
 entry c = c.before.before.before
 
 room : (c : tie.Then-at-out) → (entry c).args.at + 3 ≤ length (entry c).args.out.now
-room c = leb-true _ _ c.if-at-out.true
+room c = c.if-at-out.true
 
 returns-2 : tie.Need-returns-then-at-out
 unfolding stored
 returns-2 c =
     let s = entry c in
-    rw (to_z-of_z s.fits.l, to_z-of_z s.fits.m)
+    rw (to_z-of_z s.ranges.l, to_z-of_z s.ranges.m)
     (sym (stored-three s.args.at s.args.l s.args.m (pos 0) [] s.args.out.now (omega (arith, c.if-at.true))))
 
 -- without room for all, one store behind the other

@@ -1,9 +1,8 @@
 -- `frames::frame_at` meets its contract: each answer is the one that the bytes left at the place decide. Assumes nothing.
 use borrow.Author.Rules.{rules}
 use mathlib.Core.Path.{sym, ◌∙◌, ap₂}
-use Prim.Native.Nat.{◌-◌}
 use native.Mathlib.Omega.{arith}
-use Rattle.frames.specs.declared.Framed.TheVariants.{Whole, Cut}
+use Rattle.frames.specs.declared.Framed.TheVariants.{Whole}
 use Rattle.frames.proofs.Places.{refusal-of, cut_at, whole-at}
 use Rattle.frames.proofs.frame_at.Statement.{statement}
 use Rattle.frames.proofs.frame_at.Tie as tie

@@ -3,17 +3,16 @@
 use borrow.Author.Rules.{rules}
 use borrow.Author.Tests.{lt-ltb, le-ltb}
 use mathlib.Core.Path.{◌≡◌, sym, ◌∙◌}
-use mathlib.Core.Logic.{⊎_elim, inl, inr}
+use mathlib.Core.Logic.{inl, inr}
 use mathlib.Core.Bool.{not, ◌&&◌, ◌||◌}
 use lib.Dec.{ltb, eqb}
-use Rattle.spec.specs.Frames as frames
 use Rattle.spec.specs.Frames.{kind_number}
 use Rattle.spec.specs.Read.{is_end}
 use Rattle.frames.specs.Framed.{out_of_order_by}
 use Rattle.frames.proofs.Order.{not_first, second_head, order-rest, agrees, differs}
 use Rattle.frames.proofs.out_of_order.Statement.{statement}
 use Rattle.frames.proofs.out_of_order.Tie as tie
-use Rattle.frames.proofs.out_of_order.Lts.{else-last-eq0, then-last-eq0}
+use Rattle.frames.proofs.out_of_order.Lts.{else-last-eq0+else-kind-eq-KIND, then-last-eq0+else-kind-ne-KIND}
 
 returns : tie.Need-returns-then-kind-ne-KIND
 returns c = not_first _ _ _ c.if-last-eq0.true c.if-kind-ne-KIND.true
@@ -29,7 +28,7 @@ rest : (c : tie.After-rank)
     → out_of_order_by c.args.last c.args.kind c.args.left
     ≡ (ltb c.rank.result c.args.last || is_end c.args.kind && not (eqb c.args.left 0))
 rest c =
-    order-rest _ _ _ (elim (c.if-last-eq0.branch) [ then-last-eq0 w ↦ inl (w.if-last-eq0.true, w.if-kind-ne-KIND.false) | else-last-eq0 w ↦ inr (w.if-last-eq0.false, w.if-kind-eq-KIND.false) ])
+    order-rest _ _ _ (elim (c.if-last-eq0.branch) [ then-last-eq0+else-kind-ne-KIND w ↦ inl (w.if-last-eq0.true, w.if-kind-ne-KIND.false) | else-last-eq0+else-kind-eq-KIND w ↦ inr (w.if-last-eq0.false, w.if-kind-eq-KIND.false) ])
     ∙ simp (← c.rank.ensures)
 
 returns-3 : tie.Need-returns-then-rank-last

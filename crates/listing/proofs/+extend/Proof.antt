@@ -1,11 +1,10 @@
 -- `listing::extend` meets its contract; what is missing falls at each call of itself. The loop's invariant: the tables and the
 -- count are those after the paths that go on over the first i successors of the path's last segment. Assumes nothing.
-use borrow.Author.Tests.{ltb-true, ltb-false}
 use Prim.Native.Nat.{ℕ, ◌+◌, ◌*◌, ◌/◌, ◌<◌, ◌≤◌, ◌-◌}
 use native.Mathlib.Omega.{arith}
 use mathlib.Core.Path.{◌≡◌, sym, ap, ◌∙◌, subst}
-use mathlib.Core.Bool.{Bool, true, false, not, not-not}
-use mathlib.Core.Logic.{◌⊎◌, inl, inr, ⊎_elim}
+use mathlib.Core.Bool.{Bool, true, false}
+use mathlib.Core.Logic.{◌⊎◌, inl, inr}
 use mathlib.Core.List.{List, ◌++◌, map}
 use lib.ListN.{length, get_or, length-append}
 use lib.Dec.{T}
@@ -22,6 +21,7 @@ use Rattle.listing.proofs.Successors.{each-slice, covered-number, covered-width,
 use Rattle.listing.proofs.extend.Reads as extend
 use Rattle.listing.proofs.extend.Kinds as extend-kinds
 use Rattle.listing.proofs.+extend.Lts-extend as lts
+use Rattle.listing.proofs.+extend.Lts-extend.{then-not-uses, else-not-uses}
 use Rattle.listing.proofs.keep.Reads as keep-reads
 use Rattle.listing.proofs.last_of.Reads as last-of-reads
 use Rattle.listing.proofs.pushed.Reads as pushed-reads
@@ -74,7 +74,7 @@ add-result : (t : ℕ) → lts.Need-overflow_add-result (calls t) (extend-at t) 
 add-result t c = omega arith
 
 same_length : (t : ℕ) → lts.Need-shape_of-runs-then-missing-eq0 (calls t) (extend-at t) extend.Post invariant-loop decreases-loop
-same_length t c = c.keep.auto.0
+same_length t c = c.keep.auto.runs
 
 returns : (t : ℕ) → lts.Need-returns-then-missing-eq0 (calls t) (extend-at t) extend.Post invariant-loop decreases-loop
 returns t c =
@@ -222,7 +222,7 @@ extend-requires t c κs =
       (
         subst (λ (d : ℕ). Covered (args t l).table.now (args t l).widths.now d) (sym on) (next t w),
         listed-long l.loop-i.invariant.1 ∙ p.1,
-        omega (arith, ltb-true),
+        omega arith,
         path-packed ds e,
         omega (arith, path-size ds e),
         omega (arith, path-size ds e, size t l, some t l),
@@ -234,9 +234,6 @@ add-i t c = omega arith
 
 loop-less : (t : ℕ) → lts.Need-loop-i-smaller (calls t) (extend-at t) extend.Post invariant-loop decreases-loop
 loop-less t c = omega arith
-
-turned : {a b : Bool} → not a ≡ b → a ≡ not b
-turned {a} e = sym (not-not a) ∙ ap not e
 
 loop-again : (t : ℕ) → lts.Need-loop-i-preserved (calls t) (extend-at t) extend.Post invariant-loop decreases-loop
 loop-again t c =
@@ -251,18 +248,18 @@ loop-again t c =
     let same = ap (λ (k : ℕ). extend_by a.table.now a.widths.now (a.missing - 1) (path t l ++ one k))
     (sym w.wide-d.ensures.0) in (
       omega arith,
-      ⊎_elim
-          (λ v.
-          let e = more (used t w false (sym u.uses.ensures ∙ turned v.0.true)) ∙ same
-          ∙ ap (extend_by a.table.now a.widths.now (a.missing - 1)) (sym (path-of _ v.2.ensures)) in
-          let k = v.3.ensures in
-          rw (v.6, v.7)
-          (listed_next (paths t l) l.loop-i.invariant.1 (are-short t l i) (rw e (record { counted = k.0; filled = k.1 }))))
-          (λ v.
-          rw (v.1, v.2)
-          (listed-skip (paths t l) l.loop-i.invariant.1 (are-short t l i)
-          (none (used t w true (sym u.uses.ensures ∙ turned v.0.left)))))
-          c.if-not-uses.branch,
+      elim c.if-not-uses.branch [
+        | then-not-uses v ↦
+            let e = more (used t w false (sym u.uses.ensures ∙ v.if-not-uses.true)) ∙ same
+            ∙ ap (extend_by a.table.now a.widths.now (a.missing - 1)) (sym (path-of _ v.pushed.ensures)) in
+            let k = v.extend-found.ensures in
+            rw (v.runs-is, v.found-is)
+            (listed_next (paths t l) l.loop-i.invariant.1 (are-short t l i) (rw e (record { counted = k.0; filled = k.1 })))
+        | else-not-uses v ↦
+            rw (v.runs-is, v.found-is)
+            (listed-skip (paths t l) l.loop-i.invariant.1 (are-short t l i)
+            (none (used t w true (sym u.uses.ensures ∙ v.if-not-uses.false))))
+      ],
     )
 
 same-length-2 : (t : ℕ) → lts.Need-shape_of-runs-else-found-lt-STOP (calls t) (extend-at t) extend.Post invariant-loop decreases-loop
@@ -270,7 +267,7 @@ same-length-2 t c = listed-long c.loop-i.invariant.1
 
 returns-2 : (t : ℕ) → lts.Need-returns-else-found-lt-STOP (calls t) (extend-at t) extend.Post invariant-loop decreases-loop
 returns-2 t c =
-    let l = done t c.before.before (inr (ltb-false _ _ c.if-found-lt-STOP.false)) in
+    let l = done t c.before.before (inr c.if-found-lt-STOP.false) in
     (l.counted, l.filled)
 
 same-length-3 : (t : ℕ) → lts.Need-shape_of-runs-after-loop-i (calls t) (extend-at t) extend.Post invariant-loop decreases-loop
@@ -279,8 +276,8 @@ same-length-3 t c = listed-long c.loop-i.invariant.1
 returns-3 : (t : ℕ) → lts.Need-returns-after-loop-i (calls t) (extend-at t) extend.Post invariant-loop decreases-loop
 returns-3 t c = let l = done t c.before (inl c.loop-i-test.false) in (l.counted, l.filled)
 
-pub +extend-spec : {M : Type 1} → statement M
-+extend-spec = close μ-extend λ t. lts.spec (calls t)
+pub +extend_spec : {M : Type 1} → statement M
++extend_spec = close μ-extend λ t. lts.spec (calls t)
     (extend-at t)
     extend.Post
     invariant-loop

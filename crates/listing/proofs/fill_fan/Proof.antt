@@ -4,7 +4,6 @@ use borrow.Author.Rules.{rules}
 use native.Mathlib.Omega.{arith}
 use mathlib.Core.Path.{◌≡◌, refl, sym, ap, ap₂, ◌∙◌}
 use mathlib.Core.Bool.{Bool, true, false}
-use mathlib.Core.Logic.{⊎_elim}
 use mathlib.Core.List.{List}
 use Prim.Native.Nat.{ℕ, ◌+◌, ◌*◌, ◌-◌, ◌≤◌}
 use lib.ListN.{length, set, length-set, length-append}
@@ -22,7 +21,8 @@ use Rattle.listing.proofs.Successors.{leads-joined, leads-apart}
 use Rattle.laws.proofs.Picks.{pick-taken, pick-left}
 use Rattle.listing.proofs.fill_fan.Statement.{statement}
 use Rattle.listing.proofs.fill_fan.Tie as tie
-use Rattle.listing.proofs.fill_fan.Lts.{else-start_in-node, then-start_in-node}
+use Rattle.listing.proofs.fill_fan.Lts.{then-start_in-node+then-join_among, else-start_in-node}
+use Rattle.listing.proofs.fill_fan.Lts.{else-start_in-node-via-then-start_in-node+else-join_among, else-start_in-node-via-else-start_in-node}
 
 abbrev invariant-loop : tie.invariant-loop-e
 invariant-loop d table₀ b n node joins count base found₀ e₀ table found e =
@@ -80,10 +80,17 @@ loop-again c =
     let ends = (looped s).end_node-node.ensures.0 in
     let joins = leads-joined (held (given s).args.b) (given s).args.d (e s) ends (starts s) in
     let after : After s c.if-start_in-node.table c.if-start_in-node.found =
-    elim (c.if-start_in-node.branch) [ then-start_in-node w ↦ rw (w.3, w.4) (taken s (joins w.if-start_in-node.true ∙ sym w.join_among.ensures ∙ w.if-join_among.true)) | else-start_in-node w ↦ rw (w.1, w.2)
-    (left s
-    (⊎_elim (λ v. joins v.0.true ∙ sym v.1.ensures ∙ v.2.false)
-    (λ v. leads-apart (held (given s).args.b) (given s).args.d (e s) ends (starts s) v.false) w.if-start_in-node.came)) ] in
+    elim c.if-start_in-node.branch [
+      | then-start_in-node+then-join_among w ↦
+          rw (w.table-is, w.found-is) (taken s (joins w.if-start_in-node.true ∙ sym w.join_among.ensures ∙ w.if-join_among.true))
+      | else-start_in-node w ↦ rw (w.table-is, w.found-is)
+          (left s (elim w.else-start_in-node.branch [
+            | else-start_in-node-via-then-start_in-node+else-join_among v ↦
+                joins v.if-start_in-node.true ∙ sym v.join_among.ensures ∙ v.if-join_among.false
+            | else-start_in-node-via-else-start_in-node v ↦
+                leads-apart (held (given s).args.b) (given s).args.d (e s) ends (starts s) v.if-start_in-node.false
+          ]))
+    ] in
     (omega arith, after.0, after.1, after.2, after.3)
 
 -- the book's segments are as many as its struct says
@@ -98,8 +105,8 @@ returns c =
     let s = c.before in
     let a = s.args in
     let size = segments s.before.before.before.before in
-    let done : s.loop-e.e ≡ 2 * length (held a.t1).segments = omega arith in
-    let all = ap (λ (n : ℕ). pick (leads_to (held a.t1) a.d) (up_to n)) done in
+    let done : s.loop-e.e ≡ 2 * length (held a.b).segments = omega arith in
+    let all = ap (λ (n : ℕ). pick (leads_to (held a.b) a.d) (up_to n)) done in
     (s.loop-e.invariant.3 ∙ ap length all, omega arith, s.loop-e.invariant.4 ∙ ap (sets a.table.now (a.d * 128)) all)
 
 pub fill_fan_spec : {M : Type 1} → statement M

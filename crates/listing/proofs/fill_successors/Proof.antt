@@ -37,7 +37,7 @@ loop-again c =
     let b = held a.b in
     let call = c.fill_fan in (
       omega arith,
-      call.auto.1.1.0 ∙ s.loop-d.invariant.1,
+      call.auto.table ∙ s.loop-d.invariant.1,
       simp length-set s.loop-d.invariant.2,
       call.ensures.2
           ∙ ap (λ (table : List ℕ). sets table (d * 128) (successors b d)) s.loop-d.invariant.3

@@ -50,17 +50,17 @@ unfolding packed_path entry_of
 returns c =
     let s = c.before.before.before in
     let a = s.args in
-    let ds = path_of a.t3 in
+    let ds = path_of a.path in
     let base = entry_at a.count in
     let i = c.loop-i.i in
-    let size : length a.t3.at ≡ 16 = search rules in
-    let done : length a.t3.at ≤ i = omega arith in
-    let row : a.t3.at ≡ padded 16 0 ds = ap (λ (p : Path). p.at) s.requires.2 in
-    let long : a.t3.n ≡ length ds = ap (λ (p : Path). p.n) s.requires.2 in
-    let byte : a.t3.n % 256 ≡ a.t3.n = omega arith in
+    let size : length a.path.at ≡ 16 = search rules in
+    let done : length a.path.at ≤ i = omega arith in
+    let row : a.path.at ≡ padded 16 0 ds = ap (λ (p : Path). p.at) s.requires.2 in
+    let long : a.path.n ≡ length ds = ap (λ (p : Path). p.n) s.requires.2 in
+    let byte : a.path.n % 256 ≡ a.path.n = omega arith in
     c.loop-i.invariant.2
-    ∙ ap (λ (k : ℕ). sets (set a.runs.now base (a.t3.n % 256)) k (take i a.t3.at)) (add-one base)
-    ∙ ap₂ (λ (n : ℕ) (ds : List ℕ). sets (set a.runs.now base n) (suc base) ds) (byte ∙ long) (take_all i a.t3.at done ∙ row)
+    ∙ ap (λ (k : ℕ). sets (set a.runs.now base (a.path.n % 256)) k (take i a.path.at)) (add-one base)
+    ∙ ap₂ (λ (n : ℕ) (ds : List ℕ). sets (set a.runs.now base n) (suc base) ds) (byte ∙ long) (take_all i a.path.at done ∙ row)
     ∙ sym (runs-kept a.count ds a.runs.now c.if-count-lt-MAX_RUNS.true)
 
 pub keep_spec : {M : Type 1} → statement M

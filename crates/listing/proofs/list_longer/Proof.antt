@@ -1,6 +1,5 @@
 -- `listing::list_longer` meets its contract. The loop's invariant: the tables and the count are those after the first places were
 -- extended. The runs that are read stand before those that are written. Assumes nothing.
-use borrow.Author.Tests.{ltb-true, ltb-false}
 use Prim.Native.Nat.{ℕ, ◌≤◌, ◌<◌, ◌-◌}
 use native.Mathlib.Omega.{arith}
 use mathlib.Core.Path.{◌≡◌, sym, ap, ◌∙◌, subst}
@@ -65,7 +64,7 @@ module _ (c : tie.Then-found-lt-STOP invariant-loop decreases-loop) where
 
   few : (start looped).args.places ≤ 256
   few =
-      let room : looped.loop-place.found < 257 = ltb-true _ _ c.if-found-lt-STOP.true in
+      let room : looped.loop-place.found < 257 = c.if-found-lt-STOP.true in
       omega (arith, listed-from looped.loop-place.invariant.1 (start looped).requires.2, (start looped).requires.1)
 
   -- it is as it was
@@ -74,13 +73,12 @@ module _ (c : tie.Then-found-lt-STOP invariant-loop decreases-loop) where
 
 path-at-requires : tie.Need-path_at-path-requires invariant-loop decreases-loop
 path-at-requires c κs =
-    let t = c.before in
-    let p = (start (looped t)).requires in
-    (listed-long (looped t).loop-place.invariant.1 ∙ p.0, omega (arith, few t), omega arith)
+    let p = (start (looped c)).requires in
+    (listed-long (looped c).loop-place.invariant.1 ∙ p.0, omega (arith, few c), omega arith)
 
 extend-requires : tie.Need-extend-found-requires invariant-loop decreases-loop
 extend-requires c κs =
-    let t = c.before.before.before in
+    let t = c.before.before in
     let at = looped t in
     let p = (start at).requires in
     let e = c.path_at-path.ensures in
@@ -90,7 +88,7 @@ extend-requires c κs =
       subst (λ (path : List ℕ). Covered (table at) (widths at) (last_or 0 path)) (sym (path-of place e ∙ stays t))
           (p.5 (few t) at.loop-place.place (omega arith)),
       long,
-      omega (arith, ltb-true),
+      omega arith,
       path-packed place e,
       omega (arith, size),
       omega (arith, size),
@@ -98,7 +96,7 @@ extend-requires c κs =
 
 loop-again : tie.Need-loop-place-preserved invariant-loop decreases-loop
 loop-again c =
-    let t = c.before.before.before.before.before.before in
+    let t = c.before.before.before.before.before in
     let at = looped t in
     let e = c.extend-found.ensures in
     let same = path-of _ c.path_at-path.ensures ∙ stays t in
@@ -109,7 +107,7 @@ loop-again c =
 
 returns : tie.Need-returns-else-found-lt-STOP invariant-loop decreases-loop
 returns c =
-    let r = done c.before.before (inr (ltb-false _ _ c.if-found-lt-STOP.false)) in
+    let r = done c.before.before (inr c.if-found-lt-STOP.false) in
     (r.counted, r.filled)
 
 pub list_longer_spec : {M : Type 1} → statement M

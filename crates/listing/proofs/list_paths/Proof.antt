@@ -1,7 +1,6 @@
 -- `listing::list_paths` meets its contract. The loop's invariant: the tables and the count are those after the paths that start
 -- over the directed segments below d. Assumes nothing.
 use borrow.Author.Rules.{rules}
-use borrow.Author.Tests.{ltb-true, ltb-false}
 use Prim.Native.Nat.{ℕ, ◌≤◌, ◌-◌}
 use native.Mathlib.Omega.{arith}
 use mathlib.Core.Path.{refl, ◌∙◌}
@@ -51,7 +50,7 @@ extend-requires c κs =
     let p = (start l).requires in (
       p.0 l.loop-d.d c.loop-d-test.true,
       listed-long l.loop-d.invariant.1 ∙ p.1,
-      omega (arith, ltb-true),
+      omega arith,
       refl,
       omega arith,
       omega arith,
@@ -69,7 +68,7 @@ loop-again c =
 
 returns : tie.Need-returns-else-found-lt-STOP invariant-loop decreases-loop
 returns c =
-    let l = done c.before.before (inr (ltb-false _ _ c.if-found-lt-STOP.false)) in
+    let l = done c.before.before (inr c.if-found-lt-STOP.false) in
     (l.counted, l.filled)
 
 pub list_paths_spec : {M : Type 1} → statement M

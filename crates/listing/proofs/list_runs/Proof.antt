@@ -73,7 +73,7 @@ module _ (c : tie.After-list_paths-places) where
   found = c.list_paths-places.result
 
   abbrev runs : Bytes
-  runs = c.list_paths-places.new.1.1.1.0
+  runs = c.list_paths-places.new.runs
 
   listed : Listed 0 given.args.runs.now (first known) found runs
   listed = let e = c.list_paths-places.ensures in record { counted = e.0; filled = e.1 }
@@ -123,7 +123,7 @@ module _ (c : tie.After-list_further) where
   -- the tables and the count after further runs
   abbrev After : List (List ℕ) → Type 0
   After further =
-      Listed (found a) (runs a) further c.list_further.result c.list_further.new.1.1.0
+      Listed (found a) (runs a) further c.list_further.result c.list_further.new.runs
 
   came : After (further_by table widths (places_in (runs a) (l (known a)) (found a)) (k (known a)))
   came = let e = c.list_further.ensures in record { counted = e.0; filled = e.1 }
@@ -136,7 +136,7 @@ module _ (c : tie.After-list_further) where
       (le-or-lt (found a) 256)
 
   all_listed : Listed 0 (given a).args.runs.now (runs_of (b (known a)) (t (known a)))
-      c.list_further.result c.list_further.new.1.1.0
+      c.list_further.result c.list_further.new.runs
   all_listed =
       rw
       (runs-further (given a).requires.6 (t (known a)) (directed (known a)) (l (known a)) (k (known a)) (directed-is (known a))

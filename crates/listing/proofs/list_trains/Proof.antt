@@ -108,7 +108,7 @@ loop-again c =
     let same = runs-held (b t) (room (start t)) (i t) (below t) in (
       omega (arith, below t),
       v.1,
-      length-next train_bytes (i t) t.loop-i.runs f.list_runs.new.1.1.1.1.0 f.list_runs.auto.1.1.1.1.0 ∙ v.2,
+      length-next train_bytes (i t) t.loop-i.runs f.list_runs.new.runs f.list_runs.auto.runs ∙ v.2,
       counts-next (counted (b t)) (i t) _ _ (few t) v.3 (f.list_runs.ensures.0 ∙ ap (count_after 0) (sym same)),
       filled_next (turned (b t)) train_bytes (i t) _ _ _ (fits t) v.4
           (f.list_runs.ensures.1

@@ -64,7 +64,7 @@ loop-again c =
     let g = c.before.before.before in
     let i = g.before.before in
     let a = i.args in
-    let given = (held_train (get_or a.t1.trains a.t.train no_train)).place in
+    let given = (held_train (get_or a.b.trains a.t.train no_train)).place in
     let place = ap (λ (k : ℕ). same (place_at a.runs.now k a.t.length) given) g.start_of.ensures in
     let same-words = ap (λ (x : Bool). words_of (clause a.t.base i.loop-k.k x)) (g.is_given-given.ensures ∙ place) in
     turn _ _ _ i.loop-k.invariant i.loop-k-test.true (walks_same same-words c.unit_not_if-next.ensures)

@@ -74,7 +74,7 @@ returns c =
     let a = s.args in
     let h = s.requires.0 in
     let place = ending-n s.requires.2 _ h.runs _ h.length in
-    let serves : ℕ → Bool = (instance_of (held a.b)).serves-served a.t.train a.number in
+    let serves : ℕ → Bool = (instance_of (held a.b)).serves a.t.train a.number in
     let row = each-range _ (λ r. only (serves r) (one (is (a.t.base + r)))) a.t.runs _ h.runs
     (λ r m. ap (λ (x : Bool). only x (one (is (a.t.base + r))))
     (serves-answer a.b a.t.train r h.length a.number s.requires.1 (place r m) refl)) in

@@ -26,7 +26,7 @@ module _ (c : tie.After-served_at_departure) where
   answer =
       let a = start.args in
       let k = start.requires.block.block in
-      departure-answer a.t1 train a.number call.call_at-c.ensures k.passed k.known c.served_at_departure.ensures
+      departure-answer a.b train a.number call.call_at-c.ensures k.passed k.known c.served_at_departure.ensures
 
 returns-2 : tie.Need-returns
 returns-2 c =

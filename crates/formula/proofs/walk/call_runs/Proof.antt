@@ -3,7 +3,6 @@
 use borrow.Author.Rules.{rules}
 use native.Mathlib.Omega.{arith}
 use mathlib.Core.Path.{◌≡◌, sym, ap₂, ◌∙◌, subst}
-use mathlib.Core.Logic.{⊎_elim}
 use Prim.Native.Nat.{ℕ, ◌+◌, ◌-◌, ◌<◌}
 use mathlib.Core.List.{List}
 use lib.IntN.{ℤ}
@@ -22,6 +21,7 @@ use Rattle.tables.proofs.Here.{few-trains, departs-here, window-answer}
 use Rattle.layout.specs.Blocks.{BlockHeld}
 use Rattle.formula.specs.Families.{call_runs}
 use Rattle.formula.proofs.Trains.{of-block}
+use Rattle.formula.proofs.walk.call_runs.Lts.{then-in_window, else-in_window}
 use Rattle.formula.proofs.walk.call_runs.Statement.{statement}
 use Rattle.formula.proofs.walk.call_runs.Tie as tie
 
@@ -69,8 +69,8 @@ servers-requires c κs =
     let a = s.args in
     let k = v.block_at-t.ensures.0 in (
       k.block,
-      of-block (λ i. a.c ≡ call_at (held a.t1) i a.number) k s.requires.1,
-      of-block (λ i. RunsHeld (held a.t1) i a.runs.now) k s.requires.0.table,
+      of-block (λ i. a.c ≡ call_at (held a.b) i a.number) k s.requires.1,
+      of-block (λ i. RunsHeld (held a.b) i a.runs.now) k s.requires.0.table,
     )
 
 -- a turn passes the runs of its interval, or nothing where its time is not in the call's window
@@ -85,25 +85,26 @@ module _ (c : tie.Joined-in_window invariant-loop decreases-loop) where
       inner.loop-interval.next inner.loop-interval.out c.if-in_window.next c.if-in_window.out
   passed =
       let a = given.args in
-      let I = instance_of (held a.t1) in
-      let answer = window-answer a.t1 a.first.train a.number given.requires.1 (t inner + 1) c.in_window.ensures in
-      ⊎_elim
-      (λ w.
-      let k = w.1.ensures.0 in
-      let same-words = ap₂ (λ (i x : ℕ). servers_f I i a.number x) k.train k.base
-      ∙ sym (only-true _ (sym answer ∙ w.0.true)) in
-      came-to w.6 w.5 (walks_same same-words w.3.ensures))
-      (λ w. came-to w.2 w.1 (walks-nothing (only-false _ (sym answer ∙ w.0.left))))
-      c.if-in_window.branch
+      let I = instance_of (held a.b) in
+      let answer = window-answer a.b a.first.train a.number given.requires.1 (t inner + 1) c.in_window.ensures in
+      elim c.if-in_window.branch [
+        | then-in_window w ↦
+            let k = w.block_at-t.ensures.0 in
+            let same-words = ap₂ (λ (i x : ℕ). servers_f I i a.number x) k.train k.base
+            ∙ sym (only-true _ (sym answer ∙ w.if-in_window.true)) in
+            came-to w.next-is w.out-is (walks_same same-words w.servers-next.ensures)
+        | else-in_window w ↦
+            came-to w.next-is w.out-is (walks-nothing (only-false _ (sym answer ∙ w.if-in_window.false)))
+      ]
 
 returns : tie.Need-returns invariant-loop decreases-loop
 unfolding call_runs
 returns c =
     let s = c.before.before.before.before in
     let a = s.args in
-    walks_same (ap₂ (λ (d z : ℕ). each (range d z) (words a.t1 a.first.train a.number))
-    (departs-here a.t1 (block s).passed a.first.train (block s).known)
-    (sym (intervals-is a.t1 (block s).passed)))
+    walks_same (ap₂ (λ (d z : ℕ). each (range d z) (words a.b a.first.train a.number))
+    (departs-here a.b (block s).passed a.first.train (block s).known)
+    (sym (intervals-is a.b (block s).passed)))
     (turned _ _ _ c.loop-interval.invariant c.loop-interval-test.false)
 
 pub call_runs_spec : {M : Type 1} → statement M

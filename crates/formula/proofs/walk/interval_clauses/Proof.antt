@@ -30,45 +30,45 @@ module _ (s : tie.Start) where
 returns : tie.Need-returns-in-B
 returns c =
     let f = c.before.before.before in
-    let s = f.before.before.before.before.before.before in
+    let s = f.before.before.before.before.before in
     let same = ap (λ (n : ℕ). words_of (clauses_b n s.args.t.base)) s.requires.0.runs in
     walks_same (same ∙ told s f.in-B.is) c.clauses_b.ensures
 
 returns-2 : tie.Need-returns-in-C
 returns-2 c =
     let f = c.before.before.before in
-    let s = f.before.before.before.before.before.before in
+    let s = f.before.before.before.before.before in
     let same = ap (λ (n : ℕ). words_of (clauses_c n s.args.t.base)) s.requires.0.runs in
     walks_same (same ∙ told s f.in-C.is) c.clauses_c.ensures
 
 returns-3 : tie.Need-returns-in-D
 returns-3 c =
     let f = c.before.before.before in
-    walks_same (told f.before.before.before.before.before.before f.in-D.is) c.clauses_d.ensures
+    walks_same (told f.before.before.before.before.before f.in-D.is) c.clauses_d.ensures
 
 returns-4 : tie.Need-returns-in-E
 returns-4 c =
     let f = c.before.before.before in
-    walks_same (told f.before.before.before.before.before.before f.in-E.is) c.clauses_e.ensures
+    walks_same (told f.before.before.before.before.before f.in-E.is) c.clauses_e.ensures
 
 returns-5 : tie.Need-returns-in-G
 returns-5 c =
     let f = c.before.before.before in
-    walks_same (told f.before.before.before.before.before.before f.in-G.is) c.clauses_g.ensures
+    walks_same (told f.before.before.before.before.before f.in-G.is) c.clauses_g.ensures
 
 returns-6 : tie.Need-returns-in-H
 returns-6 c =
     let f = c.before.before.before in
-    walks_same (told f.before.before.before.before.before.before f.in-H.is) c.clauses_h.ensures
+    walks_same (told f.before.before.before.before.before f.in-H.is) c.clauses_h.ensures
 
 pub interval_clauses_spec : {M : Type 1} → statement M
 interval_clauses_spec =
     tie.close
     (tie.spec
     (λ c. search rules)
-    (λ c κs. (small c.before.before.before.before.before.before.before).1)
+    (λ c κs. (small c.before.before.before.before.before.before).1)
     (λ c. search rules)
-    (λ c κs. let n = small c.before.before.before.before.before.before.before in (n.1, n.0))
+    (λ c κs. let n = small c.before.before.before.before.before.before in (n.1, n.0))
     (λ c. search rules)
     (λ c κs. search rules)
     (λ c. search rules)

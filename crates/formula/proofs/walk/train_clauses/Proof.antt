@@ -96,7 +96,7 @@ loop-again c =
     let i = v.before in
     let a = (start i).args in
     turn _ _ _ i.loop-interval.invariant i.loop-interval-test.true
-    (walks_same (block_words a.t2 a.family v.block_at-t.ensures.0) c.interval_clauses-next.ensures)
+    (walks_same (block_words a.b a.family v.block_at-t.ensures.0) c.interval_clauses-next.ensures)
 
 returns : tie.Need-returns invariant-loop decreases-loop
 returns c =
@@ -104,9 +104,9 @@ returns c =
     let s = e.before.before.before.before.before in
     let a = s.args in
     let passed = (block s).passed in
-    let same = train-words a.t2 a.family a.first.train c.first_interval-interval.ensures e.end_interval-to.ensures
-    (departs-here a.t2 passed a.first.train (block s).known)
-    (sym (intervals-is a.t2 passed)) in
+    let same = train-words a.b a.family a.first.train c.first_interval-interval.ensures e.end_interval-to.ensures
+    (departs-here a.b passed a.first.train (block s).known)
+    (sym (intervals-is a.b passed)) in
     walks_same same (turned _ _ _ c.loop-interval.invariant c.loop-interval-test.false)
 
 pub train_clauses_spec : {M : Type 1} → statement M

@@ -12,7 +12,7 @@ returns c =
     let s = c.before.before.before in
     let a = s.args in
     let p = s.requires in
-    let l = length-here a.t1 p.0.passed a.train p.1 c.length_in_segments-length.ensures in
+    let l = length-here a.b p.0.passed a.train p.1 c.length_in_segments-length.ensures in
     record {
       block = record {
         passed = p.0.passed;
@@ -20,10 +20,10 @@ returns c =
         runs = p.0.runs a.train p.1;
         length = l.0;
         short = l.1;
-        small = omega (arith, c.first_variable.ensures, first_below a.t1 a.t2 p.0 a.train p.1);
+        small = omega (arith, c.first_variable.ensures, first_below a.b a.counts p.0 a.train p.1);
       };
       train = refl;
-      base = c.first_variable.ensures ∙ base-first _ (passed-few a.t1 p.0.passed) a.train;
+      base = c.first_variable.ensures ∙ base-first _ (passed-few a.b p.0.passed) a.train;
     }
 
 pub train_block_spec : {M : Type 1} → statement M

@@ -60,10 +60,13 @@ loop-again c =
     let s = a.args.borders.now in
     let n = a.loop-node.node in
     let i = a.loop-node.invariant in
-    elim (c.if-counts.branch) [ then-counts w ↦ let taken = ap length (pick-taken _ n (counts-is f ∙ w.if-counts.true)) in
-    let e : before s b (n + 1) ≡ before s b n + 1 = taken ∙ length-append (pick (test s b) (up_to n)) (one n) in
-    (omega arith, omega arith, omega (arith, i.2, e)) | else-counts w ↦ let e : before s b (n + 1) ≡ before s b n = ap length (pick-left _ n (counts-is f ∙ w.if-counts.false)) in
-    (omega arith, omega arith, omega (arith, i.2, e)) ]
+    elim (c.if-counts.branch) [
+      | then-counts w ↦ let taken = ap length (pick-taken _ n (counts-is f ∙ w.if-counts.true)) in
+          let e : before s b (n + 1) ≡ before s b n + 1 = taken ∙ length-append (pick (test s b) (up_to n)) (one n) in
+          (omega arith, omega arith, omega (arith, i.2, e))
+      | else-counts w ↦ let e : before s b (n + 1) ≡ before s b n = ap length (pick-left _ n (counts-is f ∙ w.if-counts.false)) in
+          (omega arith, omega arith, omega (arith, i.2, e))
+    ]
 
 returns : tie.Need-returns invariant-loop decreases-loop
 unfolding set_count free_nodes_of instance_of compile held

@@ -46,9 +46,9 @@ returns c = none_of _ _ c.in-No.is
 
 returns-2 : tie.Need-returns-in-AtMost
 returns-2 c =
-    let start = c.before.before.before.before.before in
+    let start = c in
     let free = c.count_free.ensures in
-    some_of _ _ _ _ _ c.cap-1.given.1 free.0 (omega (arith, free.1, start.requires.nodes)) c.counter_below.ensures
+    some_of _ _ _ _ _ c.in-AtMost.is free.0 (omega (arith, free.1, start.requires.nodes)) c.counter_below.ensures
 
 pub counter_of_spec : {M : Type 1} → statement M
 counter_of_spec =

@@ -49,11 +49,14 @@ loop-again c =
     let a = f.before.before.before in
     let n = a.loop-node.node in
     let i = a.loop-node.invariant in
-    elim (c.if-is_free.branch) [ then-is_free w ↦ (
-      omega arith,
-      omega (arith, w.2),
-      stored-now (stored_same (stored-byte i.2 n refl) (sym (pick-taken _ n (free-is f ∙ w.if-is_free.true)))) w.2 w.1,
-    ) | else-is_free w ↦ (omega arith, omega (arith, w.2), stored-now (stored_same i.2 (sym (pick-left _ n (free-is f ∙ w.if-is_free.false)))) w.2 w.1) ]
+    elim (c.if-is_free.branch) [
+      | then-is_free w ↦ (
+        omega arith,
+        omega (arith, w.free-is),
+        stored-now (stored_same (stored-byte i.2 n refl) (sym (pick-taken _ n (free-is f ∙ w.if-is_free.true)))) w.free-is w.out-is,
+      )
+      | else-is_free w ↦ (omega arith, omega (arith, w.free-is), stored-now (stored_same i.2 (sym (pick-left _ n (free-is f ∙ w.if-is_free.false)))) w.free-is w.out-is)
+    ]
 
 same_length : tie.Need-shape_of-out invariant-loop decreases-loop
 same_length c = stored-length c.loop-node.invariant.2

@@ -24,7 +24,7 @@ told n e = ap (λ (o : Move). if_run (held_move o) (λ k. ltb k n)) (sym e)
 
 returns : tie.Need-returns-in-Run
 unfolding if_run
-returns c = told c.args.n c.m-1.given.1
+returns c = told c.args.n c.in-Run.is
 
 returns-2 : tie.Need-returns-in-Absent
 unfolding if_run

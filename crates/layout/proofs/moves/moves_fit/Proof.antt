@@ -30,9 +30,6 @@ loop-holds c =
     let s = c.before in
     ap (λ (n : ℕ). all (fits s.args.b s.args.plan.now) (up_to n)) (trains-is s.args.b s.requires.0.passed) ∙ all_start _ _
 
-few : (c : tie.In-loop-i invariant-loop decreases-loop) → c.loop-i.i < 8
-few c = omega (arith, c.loop-i-test.true, c.requires.0.passed.packed.counts.trains)
-
 train-fits-requires : tie.Need-train_fits-requires invariant-loop decreases-loop
 train-fits-requires c κs =
     let p = c.requires in
@@ -56,8 +53,8 @@ moves_fit_spec =
     invariant-loop
     decreases-loop
     loop-holds
-    (λ c. omega (arith, few c))
-    (λ c. few c)
+    (λ c. omega (arith, c.loop-i-test.true, c.requires.0.passed.packed.counts.trains))
+    (λ c. omega (arith, c.loop-i-test.true, c.requires.0.passed.packed.counts.trains))
     train-fits-requires
     returns
     (λ c. omega arith)

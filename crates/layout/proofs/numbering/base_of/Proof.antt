@@ -12,9 +12,9 @@ base-from-requires : tie.Need-base_from-requires
 base-from-requires c κs =
     let a = c.args in
     let p = c.requires in (
-      subst (λ (n : ℕ). n ≤ 168296544) (sym c.first_variable.ensures) (first_below a.b a.t2 p.0 a.train p.1),
-      few-runs a.b a.t2 p.0 a.train p.1,
-      few-segments a.b a.t2 p.0 a.train p.1,
+      subst (λ (n : ℕ). n ≤ 168296544) (sym c.first_variable.ensures) (first_below a.b a.counts p.0 a.train p.1),
+      few-runs a.b a.counts p.0 a.train p.1,
+      few-segments a.b a.counts p.0 a.train p.1,
       omega (arith, p.0.passed.packed.numbers.intervals, p.2),
     )
 
@@ -24,8 +24,8 @@ returns c =
     let a = v.args in
     let p = v.requires in (
       c.base_from.ensures.0
-          ∙ ap (λ (x : ℕ). x + a.interval * (get_or a.t2 a.train 0 + 1 + a.b.segment_count)) v.first_variable.ensures
-          ∙ base-here a.b a.t2 p.0 a.train p.1 a.interval,
+          ∙ ap (λ (x : ℕ). x + a.interval * (get_or a.counts a.train 0 + 1 + a.b.segment_count)) v.first_variable.ensures
+          ∙ base-here a.b a.counts p.0 a.train p.1 a.interval,
       c.base_from.ensures.1,
     )
 

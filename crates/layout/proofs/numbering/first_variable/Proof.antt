@@ -24,6 +24,10 @@ loop-holds c =
     let a = c.args in
     (omega arith, sym (first-none (instance_of (held a.b)) ∙ nodes-is a.b c.requires.0.passed))
 
+-- a train below one that the book has, or one behind its last, is one of the book's few
+few-j : (b : BookStruct) (runs : List ℕ) → Counted b runs → (j train : ℕ) → j < train → train ≤ b.train_count → j < 8
+few-j b runs h j train below known = few-trains b runs h j (omega arith)
+
 -- what holds of train j
 module _ (c : tie.In-loop-j invariant-loop decreases-loop) where
   abbrev b : BookStruct
@@ -40,9 +44,6 @@ module _ (c : tie.In-loop-j invariant-loop decreases-loop) where
 
   below : j < b.train_count
   below = omega (arith, c.loop-j-test.true, c.requires.1)
-
-  few-j : j < 8
-  few-j = few-trains b runs counted j below
 
   next : c.loop-j.first + b.intervals * (get_or runs j 0 + 1 + b.segment_count) ≡ first_var (instance_of (held b)) (j + 1)
   next =
@@ -74,10 +75,10 @@ first_variable_spec =
     invariant-loop
     decreases-loop
     loop-holds
-    (λ c. omega (arith, few-j c))
-    (λ c. few-j c)
+    (λ c. omega (arith, few-j _ _ c.requires.0 _ _ c.loop-j-test.true c.requires.1))
+    (λ c. few-j _ _ c.requires.0 _ _ c.loop-j-test.true c.requires.1)
     base-from-requires
-    (λ c. omega (arith, few-j c.before))
+    (λ c. omega (arith, few-j _ _ c.requires.0 _ _ c.loop-j-test.true c.requires.1))
     (λ c. let h = c.loop-j-test.true in omega arith)
     loop-again
     returns)

@@ -4,7 +4,6 @@ use borrow.Author.Rules.{rules}
 use borrow.Author.Tests.{eq-eqb, ne_eqb}
 use native.Mathlib.Omega.{arith}
 use mathlib.Core.Path.{◌≡◌, refl, sym, ap, ◌∙◌}
-use mathlib.Core.Logic.{⊎_elim}
 use mathlib.Core.Bool.{Bool, true, false}
 use mathlib.Core.List.{List}
 use Prim.Native.Nat.{ℕ, suc, ◌+◌, ◌-◌, ◌≤◌, ◌<◌}
@@ -18,7 +17,7 @@ use Rattle.spec.specs.Held.{held, zero_call}
 use Rattle.network.proofs.Walks.{length-of-map, slice-next, slice-end}
 use Rattle.network.proofs.calls.call_at.Statement.{statement}
 use Rattle.network.proofs.calls.call_at.Tie as tie
-use Rattle.network.proofs.calls.call_at.Lts.{else-wide-train, then-wide-train}
+use Rattle.network.proofs.calls.call_at.Lts.{else-wide-train, then-wide-train+else-left-eq0}
 
 -- the element with number k among those from i up to n that pass a test
 module _ {ℓ} {A : Type ℓ} (f : A → Bool) (xs : List A) (n i : ℕ) (z : A) where
@@ -101,7 +100,7 @@ module _ (c : tie.After-wide invariant-loop decreases-loop) where
 
 loop-again : tie.Need-loop-i-preserved invariant-loop decreases-loop
 loop-again c =
-    elim (c.if-wide-train.branch) [ then-wide-train w ↦ let some = w.if-left-eq0.false in turn-later c.before w.if-wide-train.true (omega arith) ∙ simp w.2 | else-wide-train w ↦ turn-other c.before w.if-wide-train.false ∙ simp w.1 ]
+    elim (c.if-wide-train.branch) [ then-wide-train+else-left-eq0 w ↦ let some = w.if-left-eq0.false in turn-later c.before w.if-wide-train.true (omega arith) ∙ simp w.left-is | else-wide-train w ↦ turn-other c.before w.if-wide-train.false ∙ simp w.left-is ]
 
 returns-2 : tie.Need-returns invariant-loop decreases-loop
 unfolding no_call

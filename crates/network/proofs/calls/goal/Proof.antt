@@ -4,7 +4,6 @@ use borrow.Author.Rules.{rules}
 use borrow.Author.Tests.{eq-eqb, ne_eqb}
 use native.Mathlib.Omega.{arith}
 use mathlib.Core.Path.{◌≡◌, refl, sym, ◌∙◌}
-use mathlib.Core.Logic.{⊎_elim}
 use Prim.Native.Nat.{ℕ, ◌+◌, ◌-◌, ◌≤◌}
 use lib.ListN.{length, get_or}
 use lib.Seq.{slice}
@@ -58,7 +57,7 @@ module _ (c : tie.After-wide invariant-loop decreases-loop) where
 
 loop-again : tie.Need-loop-i-preserved invariant-loop decreases-loop
 loop-again c =
-    elim (c.if-wide-train.branch) [ then-wide-train w ↦ turn-taken c.before w.if-wide-train.true ∙ simp w.1 | else-wide-train w ↦ turn-left c.before w.if-wide-train.false ∙ simp w.1 ]
+    elim (c.if-wide-train.branch) [ then-wide-train w ↦ turn-taken c.before w.if-wide-train.true ∙ simp w.last-is | else-wide-train w ↦ turn-left c.before w.if-wide-train.false ∙ simp w.last-is ]
 
 pub goal_spec : {M : Type 1} → statement M
 goal_spec =

@@ -4,7 +4,6 @@ use borrow.Author.Rules.{rules}
 use borrow.Author.Tests.{eq-eqb, ne_eqb}
 use native.Mathlib.Omega.{arith}
 use mathlib.Core.Path.{◌≡◌, refl, sym, ap, ◌∙◌}
-use mathlib.Core.Logic.{⊎_elim}
 use mathlib.Core.Bool.{Bool, ◌&&◌, ◌||◌}
 use Prim.Native.Nat.{ℕ, ◌+◌, ◌-◌, ◌≤◌, ◌<◌}
 use mathlib.Core.List.{List}
@@ -19,6 +18,7 @@ use Rattle.network.proofs.Rests.{any-range-next, any-range-end, any-range-all}
 use Rattle.network.proofs.Dividing.{hits, Marks, open_here, divide-by-segment, marks-none, hits-here, marks-ends, marks-other, a-inside, b-inside}
 use Rattle.network.proofs.scans.may_divide.Statement.{statement}
 use Rattle.network.proofs.scans.may_divide.Tie as tie
+use Rattle.network.proofs.scans.may_divide.Lts.{then-wide-ttd+else-divides+else-divides-2, else-wide-ttd}
 
 abbrev invariant-loop : tie.invariant-loop-i
 invariant-loop ttd b n seen₀ i₀ seen i =
@@ -153,31 +153,30 @@ again-other c =
 
 loop-again : tie.Need-loop-i-preserved invariant-loop decreases-loop
 loop-again c =
-    ⊎_elim
-    (λ w.
-    let e : tie.Else-divides-2 invariant-loop decreases-loop = record {
-      before = record {
-        before = record {
-          before = record {
+    elim (c.if-wide-ttd.branch) [
+      | then-wide-ttd+else-divides+else-divides-2 w ↦
+          let inner : tie.After-wide-e invariant-loop decreases-loop = record {
+            before = record { before = record { before = c.before; if-wide-ttd = w.if-wide-ttd }; wide-a = w.wide-a };
+            wide-e = w.wide-e;
+          } in
+          let e : tie.Else-divides-2 invariant-loop decreases-loop = record {
             before = record {
               before = record {
-                before = record { before = record { before = record { before = c.before; if1 = w.0 }; wide2 = w.1 }; wide3 = w.2 };
-                divides-arg = w.3;
+                before = record {
+                  before = record { before = record { before = inner; divides-arg-1 = w.divides-arg-1 }; divides = w.divides };
+                  if-divides = w.if-divides;
+                };
+                divides-arg-then-wide-ttd-1 = w.divides-arg-then-wide-ttd-1;
               };
-              divides = w.4;
+              divides-then-wide-ttd = w.divides-then-wide-ttd;
             };
-            if2 = w.5;
-          };
-          divides-arg2 = w.6;
-        };
-        divides2 = w.7;
-      };
-      if3 = w.8;
-    } in
-    rw w.9 (again-of e))
-    (λ w. let e : tie.Else-wide-ttd invariant-loop decreases-loop = record { before = c.before; if1 = w.0 } in
-    rw w.1 (c.loop-i.invariant.0, (again-other e).0, (again-other e).1))
-    c.if-wide-ttd.branch
+            if-divides-2 = w.if-divides-2;
+          } in
+          rw w.seen-is (again-of e)
+      | else-wide-ttd w ↦
+          let e : tie.Else-wide-ttd invariant-loop decreases-loop = record { before = c.before; if-wide-ttd = w.if-wide-ttd } in
+          rw w.seen-is (c.loop-i.invariant.0, (again-other e).0, (again-other e).1)
+    ]
 
 returns-3 : tie.Need-returns invariant-loop decreases-loop
 returns-3 c =

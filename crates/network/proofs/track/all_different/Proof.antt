@@ -83,14 +83,14 @@ loop-again : tie.Need-loop-i-preserved invariant-loop2 decreases-loop2 invariant
 loop-again c =
     let s = c.before in
     let a = s.args in
-    let e = all_end a.t1 a.n s.loop-j.j c.loop-j-test.false in
+    let e = all_end a.place a.n s.loop-j.j c.loop-j-test.false in
     s.loop-i.invariant ∙ s.loop-j.invariant ∙ simp e
 
 returns-2 : tie.Need-returns invariant-loop2 decreases-loop2 invariant-loop decreases-loop
 unfolding different
 returns-2 c =
     let a = c.args in
-    let e = slice-end a.t1 a.n c.loop-i.i c.loop-i-test.false in
+    let e = slice-end a.place a.n c.loop-i.i c.loop-i-test.false in
     sym (c.loop-i.invariant ∙ simp e)
 
 pub all_different_spec : {M : Type 1} → statement M

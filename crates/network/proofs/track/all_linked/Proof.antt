@@ -1,7 +1,6 @@
 -- `track::all_linked` meets its contract. The loop's invariant: the answer for the place is the answer for what stands from
 -- i - 1 on. Assumes nothing.
 use borrow.Author.Rules.{rules}
-use borrow.Author.Tests.{not-true, not-false}
 use native.Mathlib.Omega.{arith}
 use mathlib.Core.Path.{◌≡◌, refl, sym, ◌∙◌}
 use mathlib.Core.Bool.{Bool, ◌&&◌}

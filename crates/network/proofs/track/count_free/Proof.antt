@@ -2,7 +2,6 @@
 use borrow.Author.Rules.{rules}
 use native.Mathlib.Omega.{arith}
 use mathlib.Core.Path.{◌≡◌, sym, ap, ◌∙◌}
-use mathlib.Core.Logic.{⊎_elim}
 use mathlib.Core.Bool.{not, ◌&&◌}
 use Prim.Native.Nat.{ℕ, ◌+◌, ◌-◌, ◌≤◌}
 use lib.ListN.{length, take, length-append}
@@ -47,9 +46,12 @@ loop-again c =
     let b = a.args.b in
     let n = a.loop-node.node in
     let i = a.loop-node.invariant in
-    elim (c.if-is_free.branch) [ then-is_free w ↦ let taken = ap length (pick-taken _ n (free-is f ∙ w.if-is_free.true)) in
-    let e : before b (n + 1) ≡ before b n + 1 = taken ∙ length-append (pick (is_free (instance_of (held b))) (up_to n)) (one n) in
-    (omega arith, omega arith, omega (arith, i.2, e)) | else-is_free w ↦ let e : before b (n + 1) ≡ before b n = ap length (pick-left _ n (free-is f ∙ w.if-is_free.false)) in (omega arith, omega arith, omega (arith, i.2, e)) ]
+    elim (c.if-is_free.branch) [
+      | then-is_free w ↦ let taken = ap length (pick-taken _ n (free-is f ∙ w.if-is_free.true)) in
+          let e : before b (n + 1) ≡ before b n + 1 = taken ∙ length-append (pick (is_free (instance_of (held b))) (up_to n)) (one n) in
+          (omega arith, omega arith, omega (arith, i.2, e))
+      | else-is_free w ↦ let e : before b (n + 1) ≡ before b n = ap length (pick-left _ n (free-is f ∙ w.if-is_free.false)) in (omega arith, omega arith, omega (arith, i.2, e))
+    ]
 
 returns : tie.Need-returns invariant-loop decreases-loop
 unfolding free_nodes_of instance_of compile held

@@ -1,6 +1,5 @@
 -- `track::is_free` meets its contract: the two branches are the two ways of `&&`. Assumes nothing.
 use borrow.Author.Rules.{rules}
-use borrow.Author.Tests.{not-true, not-false}
 use mathlib.Core.Path.{sym, ap, ◌∙◌}
 use mathlib.Core.Bool.{Bool, not, ◌&&◌}
 use Rattle.spec.specs.Book.{forces_border}
@@ -15,7 +14,7 @@ returns c =
 returns-2 : tie.Need-returns-else-not-denies_border
 returns-2 c =
     let d = c.before in
-    c.if-not-denies_border.false ∙ sym (ap (λ (t : Bool). not t && not (forces_border d.args.kind)) (sym d.denies_border.ensures ∙ c.if-not-denies_border.false))
+    ap not c.if-not-denies_border.false ∙ sym (ap (λ (t : Bool). not t && not (forces_border d.args.kind)) (sym d.denies_border.ensures ∙ c.if-not-denies_border.false))
 
 pub is_free_spec : {M : Type 1} → statement M
 is_free_spec =

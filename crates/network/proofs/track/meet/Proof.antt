@@ -4,7 +4,6 @@ use borrow.Author.Rules.{rules}
 use borrow.Author.Tests.{eq-eqb, ne_eqb}
 use mathlib.Core.Path.{◌≡◌, sym, ◌∙◌}
 use mathlib.Core.Bool.{Bool, not, ◌&&◌}
-use mathlib.Core.Logic.{⊎_elim}
 use lib.Dec.{eqb}
 use Rattle.spec.specs.Book.{touches}
 use Rattle.network.proofs.track.meet.Statement.{statement}
@@ -21,18 +20,18 @@ touches-requires-2 c κs = search rules
 abbrev alike : tie.Start → Bool
 alike c = not (eqb c.args.s c.args.t) && eqb c.args.first.ttd c.args.second.ttd
 
-same-ttd : (c : tie.Joined-s-t) → c.if-s-t.if-first-second ≡ alike c.before
+same-ttd : (c : tie.Joined-s-t) → c.if-s-t.t-8 ≡ alike c.before
 same-ttd c =
-    elim (c.if-s-t.branch) [ then-s-t w ↦ w.3 ∙ simp (ne_eqb _ _ w.if-s-t.true) | else-s-t w ↦ w.1 ∙ simp (eq-eqb _ _ w.if-s-t.false) ]
+    elim (c.if-s-t.branch) [ then-s-t w ↦ w.t-8-is ∙ simp (ne_eqb _ _ w.if-s-t.true) | else-s-t w ↦ w.t-8-is ∙ simp (eq-eqb _ _ w.if-s-t.false) ]
 
 -- and the first of them touches the node
 abbrev alike_here : tie.Start → Bool
 alike_here c = alike c && touches c.args.first c.args.node
 
-first-touches : (c : tie.Joined-first-second) → c.if-first-second.if-touches ≡ alike_here c.before.before
+first-touches : (c : tie.Joined-first-second) → c.if-first-second.value ≡ alike_here c.before.before
 first-touches c =
     let e = sym (same-ttd c.before) in
-    elim (c.if-first-second.branch) [ then-first-second w ↦ w.2 ∙ w.touches.ensures ∙ simp (e ∙ w.if-first-second.true) | else-first-second w ↦ w.1 ∙ w.if-first-second.false ∙ simp (e ∙ w.if-first-second.false) ]
+    elim (c.if-first-second.branch) [ then-first-second w ↦ w.value-is ∙ w.touches.ensures ∙ simp (e ∙ w.if-first-second.true-raw) | else-first-second w ↦ w.value-is ∙ w.if-first-second.false-raw ∙ simp (e ∙ w.if-first-second.false-raw) ]
 
 returns : tie.Need-returns-then-touches
 returns c = let f = sym (first-touches c.before.before) ∙ c.if-touches.true in c.touches-then-touches.ensures ∙ sym (simp f)

@@ -39,7 +39,7 @@ module _ (o : tie.After-own_variables-first) where
   cap = held_cap given.args.cap
 
   abbrev nodes : List ℕ
-  nodes = o.list_free.last.1.0
+  nodes = o.list_free.new.out
 
   abbrev c : CounterStruct
   c = o.counter_of-c.result

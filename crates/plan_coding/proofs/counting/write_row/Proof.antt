@@ -47,7 +47,7 @@ loop-again c =
     let k = t.loop-k.k in
     let counted = c.with_next-n.ensures in
     let byte : c.if-j-n.out ≡ value a.nodes.now a.plan.now a.j k =
-    elim (c.if-j-n.branch) [ then-j-n w ↦ w.1 ∙ ap bit (sym (lt-ltb _ _ w.if-j-n.true)) | else-j-n w ↦ w.1 ∙ ap bit (sym (le-ltb _ _ w.if-j-n.false)) ]
+    elim (c.if-j-n.branch) [ then-j-n w ↦ w.out-is ∙ ap bit (sym (lt-ltb _ _ w.if-j-n.true)) | else-j-n w ↦ w.out-is ∙ ap bit (sym (le-ltb _ _ w.if-j-n.false)) ]
     ∙ ap (λ (n : ℕ). bit (ltb a.j n)) counted in
     let next : a.j + k + 1 ≡ a.j + (k + 1) = omega arith in
     (stored_next t.loop-k.invariant.0 c.loop-k-test.true refl byte, counted ∙ ap (set_below a.nodes.now a.plan.now) next)

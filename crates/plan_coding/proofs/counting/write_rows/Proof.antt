@@ -47,7 +47,7 @@ add_at c =
     let l = t.loop-j in
     let s = t.before.before.before.before in
     let a = s.args in
-    omega (arith, row_fits a.first l.j a.c.spare l.invariant.1 a.c.most t.loop-j-test.true s.requires.2, s.well-formed)
+    omega (arith, row_fits a.first l.j a.c.spare l.invariant.1 a.c.most t.loop-j-test.true s.requires.2, s.well_formed)
 
 loop-again : tie.Need-loop-j-preserved invariant-loop decreases-loop
 loop-again c =

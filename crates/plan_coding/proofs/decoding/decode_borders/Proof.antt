@@ -38,7 +38,7 @@ loop-again c =
     let k = c.before.before.before in
     let h = c.value.ensures in
     let stored : c.if-value.out ≡ byte k.args.values.now k.loop-node.node =
-    elim (c.if-value.branch) [ then-value w ↦ w.1 ∙ ap bit (sym w.if-value.true ∙ h) | else-value w ↦ w.1 ∙ ap bit (sym w.if-value.false ∙ h) ] in
+    elim (c.if-value.branch) [ then-value w ↦ w.out-is ∙ ap bit (sym w.if-value.true ∙ h) | else-value w ↦ w.out-is ∙ ap bit (sym w.if-value.false ∙ h) ] in
     stored_next k.loop-node.invariant c.loop-node-test.true (sym (zero-add k.loop-node.node)) stored
 
 returns : tie.Need-returns invariant-loop decreases-loop

@@ -61,7 +61,7 @@ module _ (k : tie.At-loop-i invariant-loop decreases-loop) where
   abbrev given : tie.Start invariant-loop decreases-loop
   given = borders.before.before.before.before.before.before
 
-  bordered : borders.write_borders.last.1.1.0 ≡ sets given.args.out.now 0 (border_bytes (I given) (p given))
+  bordered : borders.write_borders.new.out ≡ sets given.args.out.now 0 (border_bytes (I given) (p given))
   bordered =
       borders.write_borders.ensures
       ∙ ap (λ (n : ℕ). sets given.args.out.now 0 (map (λ k. bit (eqb (get_or given.args.plan.now k 0) 1)) (up_to n)))

@@ -15,7 +15,7 @@ told r e = ap (λ (o : Move). runs (held_move o) (eqb r)) (sym e)
 
 returns : tie.Need-returns-in-Run
 unfolding runs
-returns c = told c.args.r c.m-1.given.1
+returns c = told c.args.r c.in-Run.is
 
 returns-2 : tie.Need-returns-in-Absent
 unfolding runs

@@ -30,7 +30,7 @@ loop-again c =
     let t = c.before.before.before in
     let a = t.args in
     let byte : c.if-plan-k-eq1.out ≡ border a.plan.now t.loop-k.k =
-    elim (c.if-plan-k-eq1.branch) [ then-plan-k-eq1 w ↦ w.1 ∙ ap bit (sym (eq-eqb _ _ w.if-plan-k-eq1.true)) | else-plan-k-eq1 w ↦ w.1 ∙ ap bit (sym (ne_eqb _ _ w.if-plan-k-eq1.false)) ] in
+    elim (c.if-plan-k-eq1.branch) [ then-plan-k-eq1 w ↦ w.out-is ∙ ap bit (sym (eq-eqb _ _ w.if-plan-k-eq1.true)) | else-plan-k-eq1 w ↦ w.out-is ∙ ap bit (sym (ne_eqb _ _ w.if-plan-k-eq1.false)) ] in
     stored_next t.loop-k.invariant c.loop-k-test.true (sym (zero-add t.loop-k.k)) byte
 
 pub write_borders_spec : {M : Type 1} → statement M

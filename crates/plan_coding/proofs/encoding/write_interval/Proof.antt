@@ -68,7 +68,7 @@ module _ (c : tie.After-stretch_of) where
 
   -- what the move's bytes left, as long as it was
   abbrev half : Bytes
-  half = wrote.write_move.last.1.1.1.0
+  half = wrote.write_move.new.out
 
   sized : length half ≡ length start.args.out.now
   sized = ap length wrote.write_move.ensures ∙ simp length-sets
@@ -99,7 +99,7 @@ module _ (c : tie.After-write_marked) where
   abbrev r : tie.After-stretch_of
   r = f.before.before.before
 
-  written : c.write_marked.new.1.1.1.1.0
+  written : c.write_marked.new.out
       ≡ sets (start r).args.out.now (formula.base (I (start r)) (train (start r)) (start r).args.interval)
       (interval_bytes (I (start r)) (p (start r)) (train (start r)) (start r).args.interval)
   written =
@@ -124,7 +124,7 @@ write_interval_spec =
     (λ c κs. omega (arith, room c.before.before.before.before.before.before))
     stretch-of-requires
     mark-requires
-    (λ c κs. let s = start c.before.before in omega (arith, room s, s.good))
+    (λ c κs. let s = start c.before.before in omega (arith, room s, s.well_formed))
     write-marked-requires
     (λ c. ap length (written c.before.before) ∙ simp length-sets)
     (λ c. written c.before.before))

@@ -30,7 +30,7 @@ loop-again c =
     let t = c.before.before.before.before in
     let a = t.args in
     let byte : c.if-marks-label-eq1.out ≡ claim a.labels.now a.marks.now t.loop-s.s =
-    elim (c.if-marks-label-eq1.branch) [ then-marks-label-eq1 w ↦ w.1 ∙ ap bit (sym (eq-eqb _ _ w.if-marks-label-eq1.true)) | else-marks-label-eq1 w ↦ w.1 ∙ ap bit (sym (ne_eqb _ _ w.if-marks-label-eq1.false)) ] in
+    elim (c.if-marks-label-eq1.branch) [ then-marks-label-eq1 w ↦ w.out-is ∙ ap bit (sym (eq-eqb _ _ w.if-marks-label-eq1.true)) | else-marks-label-eq1 w ↦ w.out-is ∙ ap bit (sym (ne_eqb _ _ w.if-marks-label-eq1.false)) ] in
     stored_next t.loop-s.invariant c.loop-s-test.true refl byte
 
 pub write_marked_spec : {M : Type 1} → statement M

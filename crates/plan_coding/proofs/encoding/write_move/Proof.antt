@@ -35,7 +35,7 @@ loop-again c =
     let t = c.before.before.before in
     let h = c.is_run.ensures in
     let byte : c.if-is_run.out ≡ own t.args.m t.loop-r.r =
-    elim (c.if-is_run.branch) [ then-is_run w ↦ w.1 ∙ ap bit (sym w.if-is_run.true ∙ h) | else-is_run w ↦ w.1 ∙ ap bit (sym w.if-is_run.false ∙ h) ] in
+    elim (c.if-is_run.branch) [ then-is_run w ↦ w.out-is ∙ ap bit (sym w.if-is_run.true ∙ h) | else-is_run w ↦ w.out-is ∙ ap bit (sym w.if-is_run.false ∙ h) ] in
     stored_next t.loop-r.invariant c.loop-r-test.true refl byte
 
 returns : tie.Need-returns invariant-loop decreases-loop
@@ -46,7 +46,7 @@ returns c =
     let a = t.args in
     let h = c.is_gone.ensures in
     let byte : c.if-is_gone.out ≡ bit (is_gone (held_move a.m)) =
-    elim (c.if-is_gone.branch) [ then-is_gone w ↦ w.1 ∙ ap bit (sym w.if-is_gone.true ∙ h) | else-is_gone w ↦ w.1 ∙ ap bit (sym w.if-is_gone.false ∙ h) ] in
+    elim (c.if-is_gone.branch) [ then-is_gone w ↦ w.out-is ∙ ap bit (sym w.if-is_gone.true ∙ h) | else-is_gone w ↦ w.out-is ∙ ap bit (sym w.if-is_gone.false ∙ h) ] in
     let size : length (map (own a.m) (up_to a.n)) ≡ a.n = length-map (up_to a.n) (own a.m) ∙ length-up_to a.n in
     ap₂ (λ (o : Bytes) (x : ℕ). set o v.gone_variable-gone.result x) (stored-done t.loop-r.invariant v.loop-r-test.false) byte
     ∙ ap (λ (k : ℕ). set (sets a.out.now a.at (map (own a.m) (up_to a.n))) k (bit (is_gone (held_move a.m))))

@@ -36,13 +36,13 @@ loop-holds c =
 returns : tie.Need-returns-then-not-interval_apart invariant-loop decreases-loop
 returns c =
     let t = c.before.before in
-    sym (t.loop-interval.invariant.1 ∙ least-here _ _ _ t.loop-interval-test.true (ap not (sym c.interval_apart.ensures) ∙ c.if-not-interval_apart.true))
+    sym (t.loop-interval.invariant.1 ∙ least-here _ _ _ t.loop-interval-test.true (ap not (sym c.interval_apart.ensures ∙ c.if-not-interval_apart.true)))
 
 loop-again : tie.Need-loop-interval-preserved invariant-loop decreases-loop
 loop-again c =
     let t = c.before.before in (
       omega (arith, t.loop-interval-test.true),
-      t.loop-interval.invariant.1 ∙ least-next _ _ _ t.loop-interval-test.true (ap not (sym c.interval_apart.ensures) ∙ c.if-not-interval_apart.false),
+      t.loop-interval.invariant.1 ∙ least-next _ _ _ t.loop-interval-test.true (ap not (sym c.interval_apart.ensures ∙ c.if-not-interval_apart.false)),
     )
 
 returns-2 : tie.Need-returns invariant-loop decreases-loop

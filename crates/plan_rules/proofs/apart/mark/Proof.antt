@@ -35,7 +35,7 @@ module _ (c : tie.After-wide invariant-loop decreases-loop) where
 loop-again : tie.Need-loop-k-preserved invariant-loop decreases-loop
 unfolding segment_of
 loop-again c =
-    let w = c.before in
+    let w = c.before.before in
     let inv = w.loop-k.invariant in
     let labels = (start w).args.labels.now in (
       omega arith,
@@ -62,7 +62,7 @@ mark_spec =
     (λ c κs. search rules)
     (λ c. omega (arith, c.wide.ensures.1))
     (λ c. (label c.before).0)
-    (λ c. (label c.before).1)
+    (λ c. (label c.before.before).1)
     (λ c. omega arith)
     (λ c. omega arith)
     loop-again

@@ -20,8 +20,8 @@ few : (m : Move) (r : ℕ) → m ≡ Run r → T (if_run (held_move m) (λ k. lt
 unfolding if_run
 few m r e h = (ltb_iff r 256).0 (subst (λ (o : Move). T (if_run (held_move o) (λ k. ltb k 256))) e h)
 
-below : (c : tie.In-Run) → c.m-1.given.0.0 < 256
-below c = few _ _ c.m-1.given.1 c.requires.2
+below : (c : tie.In-Run) → c.in-Run.r < 256
+below c = few _ _ c.in-Run.is c.requires.2
 
 -- the stretch for the case that it is
 told : (runs : Bytes) (i : ℕ) {m m' : Move} → m ≡ m' → stretch_of runs i (held_move m') ≡ stretch_of runs i (held_move m)
@@ -30,10 +30,9 @@ told runs i e = ap (λ (o : Move). stretch_of runs i (held_move o)) (sym e)
 returns : tie.Need-returns-in-Run
 unfolding stretch_of
 returns c =
-    let k = c.before.before.before in
-    let a = k.args in
+    let a = c.args in
     ap₂ (λ (at size : ℕ). record { at = a.train * train_bytes + at; size = size }) c.start_of.ensures c.wide-size.ensures.0
-    ∙ told a.runs.now a.train k.m-1.given.1
+    ∙ told a.runs.now a.train c.in-Run.is
 
 returns-2 : tie.Need-returns-in-Absent
 unfolding stretch_of

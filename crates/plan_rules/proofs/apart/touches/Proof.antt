@@ -65,13 +65,13 @@ whole c = sym (any-map _ _ _)
 returns : tie.Need-returns-then-marks-label-eq1 invariant-loop decreases-loop
 unfolding is_marked
 returns c =
-    let w = c.before.before.before in
+    let w = c.before.before.before.before in
     sym (sym (whole w) ∙ turn w ∙ ap (λ (t : Bool). t || behind w (here w + 1)) (eq-eqb _ _ c.if-marks-label-eq1.true))
 
 loop-again : tie.Need-loop-k-preserved invariant-loop decreases-loop
 unfolding is_marked
 loop-again c =
-    let w = c.before.before.before in
+    let w = c.before.before.before.before in
     (omega arith, turn w ∙ ap (λ (t : Bool). t || behind w (here w + 1)) (ne_eqb _ _ c.if-marks-label-eq1.false))
 
 returns-2 : tie.Need-returns invariant-loop decreases-loop
@@ -90,7 +90,7 @@ touches_spec =
     (λ c κs. search rules)
     (λ c. omega (arith, c.wide.ensures.1))
     (λ c. (label c.before).0)
-    (λ c. (label c.before).1)
+    (λ c. (label c.before.before).1)
     returns
     (λ c. omega arith)
     (λ c. omega arith)

@@ -1,5 +1,4 @@
 -- `rules::first_broken` meets its contract: the rules in their order. Assumes nothing.
-use borrow.Author.Tests.{not-true, not-false}
 use mathlib.Core.Path.{◌≡◌, sym, ◌∙◌}
 use mathlib.Core.Bool.{true}
 use Rattle.spec.specs.Instance.{Instance, instance_of}

@@ -9,11 +9,11 @@ use Rattle.plan_rules.proofs.rules.goes_from.Tie as tie
 follows-requires : tie.Need-follows-requires
 follows-requires c κs =
     let p = c.requires in
-    follows-asks p.0 _ _ p.1 (below p.0 p.2 c.m-1.given.1)
+    follows-asks p.0 _ _ p.1 (below p.0 p.2 c.in-Run.is)
 
 returns : tie.Need-returns-in-Run
 returns c =
-    let told = c.m-1.given.1 in
+    let told = c.in-Run.is in
     let p = c.requires in
     follows-answer p.0 _ _ p.1 (below p.0 p.2 told) c.follows.ensures ∙ if-run _ told
 

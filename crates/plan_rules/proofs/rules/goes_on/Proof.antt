@@ -7,8 +7,8 @@ use Rattle.plan_rules.proofs.rules.goes_on.Tie as tie
 
 goes-from-requires : tie.Need-goes_from-requires
 goes-from-requires c κs =
-    let s = c.before.before.before.before in
-    (s.requires.0, below s.requires.0 s.requires.1 c.before.before-1.given.1, s.requires.2)
+    let p = c.requires in
+    (p.0, below p.0 p.1 c.in-Run.is, p.2)
 
 pub goes_on_spec : {M : Type 1} → statement M
 goes_on_spec =
@@ -18,6 +18,6 @@ goes_on_spec =
     goes-from-requires
     (λ c. search rules)
     (λ c. search rules)
-    (λ c. c.goes_from.ensures ∙ if-run _ c.before.before.before-1.given.1)
+    (λ c. c.goes_from.ensures ∙ if-run _ c.in-Run.is)
     (λ c. if-absent _ c.in-Absent.is)
     (λ c. if-gone _ c.in-Gone.is))

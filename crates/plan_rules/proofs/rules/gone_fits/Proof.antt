@@ -1,6 +1,5 @@
 -- `rules::gone_fits` meets its contract, case by case. Assumes nothing.
 use borrow.Author.Rules.{rules}
-use borrow.Author.Tests.{not-true, not-false}
 use mathlib.Core.Path.{◌≡◌, refl, sym, ap, ap₂, ◌∙◌}
 use mathlib.Core.Bool.{Bool, true, false, not, ◌&&◌, ◌||◌}
 use Rattle.spec.specs.Instance.{instance_of}
@@ -59,8 +58,8 @@ returns-2 c =
 returns-3 : tie.Need-returns-then-not-gone
 returns-3 c =
     let k = c.before.before in
-    c.if-not-gone.true
-    ∙ of-cases k (start k).args.late (gone-now k (c.if-not-gone.true)) (gone-before k c.if-is_gone.false)
+    ap not c.if-not-gone.true
+    ∙ of-cases k (start k).args.late (gone-now k c.if-not-gone.true) (gone-before k c.if-is_gone.false)
 
 returns-4 : tie.Need-returns-then-late
 returns-4 c =
@@ -68,7 +67,7 @@ returns-4 c =
     let k = e.before.before in
     c.may_go.ensures
     ∙ goes (leaves k)
-    ∙ of-cases k true (gone-now k (e.if-not-gone.false)) (gone-before k e.if-is_gone.false)
+    ∙ of-cases k true (gone-now k e.if-not-gone.false) (gone-before k e.if-is_gone.false)
     ∙ ap (λ (late : Bool). answer late (now k) (was k) (leaves k)) (sym c.if-late.true)
 
 returns-5 : tie.Need-returns-else-late
@@ -76,7 +75,7 @@ returns-5 c =
     let e = c.before in
     let k = e.before.before in
     c.if-late.false
-    ∙ of-cases k false (gone-now k (e.if-not-gone.false)) (gone-before k e.if-is_gone.false)
+    ∙ of-cases k false (gone-now k e.if-not-gone.false) (gone-before k e.if-is_gone.false)
     ∙ ap (λ (late : Bool). answer late (now k) (was k) (leaves k)) (sym c.if-late.false)
 
 pub gone_fits_spec : {M : Type 1} → statement M

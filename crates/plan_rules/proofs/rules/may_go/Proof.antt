@@ -8,23 +8,20 @@ use Rattle.plan_rules.proofs.rules.may_go.Tie as tie
 
 -- the move is a run of the train's: its end lies in the table
 end-of-requires : tie.Need-end_of-requires
-end-of-requires c κs = let s = c.before.before.before.before in run-asks s.requires.0 s.requires.1 c.m-1.given.1
+end-of-requires c κs = run-asks c.requires.0 c.requires.1 c.in-Run.is
 
 may-leave-requires : tie.Need-may_leave-requires
 may-leave-requires c κs =
-    let s = c.before.before.before.before.before in
-    let h = s.requires.0 in
-    let own = below h s.requires.1 c.m-1.given.1 in
-    let place = leave-asks s.args.b s.args.train _ h.reached h.table own h.passed h.known c.end_of.ensures in
-    (h.passed, s.requires.2, place.0, place.1, place.2)
+    let h = c.requires.0 in
+    let own = below h c.requires.1 c.in-Run.is in
+    let place = leave-asks c.args.b c.args.train _ h.reached h.table own h.passed h.known c.end_of.ensures in
+    (h.passed, c.requires.2, place.0, place.1, place.2)
 
 returns : tie.Need-returns-in-Run
 returns c =
-    let told = c.before.before.before in
-    let s = told.before.before.before in
-    let place = run_ends s.requires.0 s.requires.1 told.m-1.given.1 c.end_of.ensures in
-    leaves-answer s.args.b s.args.train _ s.requires.0.reached place c.may_leave.ensures
-    ∙ runs-run _ told.m-1.given.1
+    let place = run_ends c.requires.0 c.requires.1 c.in-Run.is c.end_of.ensures in
+    leaves-answer c.args.b c.args.train _ c.requires.0.reached place c.may_leave.ensures
+    ∙ runs-run _ c.in-Run.is
 
 pub may_go_spec : {M : Type 1} → statement M
 may_go_spec =

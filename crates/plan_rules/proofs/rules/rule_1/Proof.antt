@@ -1,6 +1,5 @@
 -- `rules::rule_1` meets its contract. The loop's invariant: the answer for all nodes is that for those from `node` on. Assumes
 -- nothing.
-use borrow.Author.Tests.{not-true, not-false}
 use native.Mathlib.Omega.{arith}
 use mathlib.Core.Path.{◌≡◌, sym, ap₂, ◌∙◌, refl}
 use mathlib.Core.Bool.{Bool, not, ◌&&◌, ◌||◌}

@@ -8,18 +8,16 @@ use Rattle.plan_rules.proofs.rules.run_serves.Tie as tie
 
 -- the move is a run of the train's: its end lies in the table
 end-of-requires : tie.Need-end_of-requires
-end-of-requires c κs = let s = c.before.before.before.before in run-asks s.requires.0 s.requires.1 c.m-1.given.1
+end-of-requires c κs = run-asks c.requires.0 c.requires.1 c.in-Run.is
 
 serves-requires : tie.Need-serves-requires
-serves-requires c κs = let s = c.before.before.before.before.before in run_room s.requires.0 s.requires.1 c.m-1.given.1 c.end_of.ensures
+serves-requires c κs = run_room c.requires.0 c.requires.1 c.in-Run.is c.end_of.ensures
 
 returns : tie.Need-returns-in-Run
 returns c =
-    let told = c.before.before.before in
-    let s = told.before.before.before in
-    let place = run_ends s.requires.0 s.requires.1 told.m-1.given.1 c.end_of.ensures in
-    serves-answer s.args.b s.args.train _ s.requires.0.reached s.args.number s.requires.2 place c.serves.ensures
-    ∙ runs-run _ told.m-1.given.1
+    let place = run_ends c.requires.0 c.requires.1 c.in-Run.is c.end_of.ensures in
+    serves-answer c.args.b c.args.train _ c.requires.0.reached c.args.number c.requires.2 place c.serves.ensures
+    ∙ runs-run _ c.in-Run.is
 
 pub run_serves_spec : {M : Type 1} → statement M
 run_serves_spec =

@@ -2,7 +2,6 @@
 -- those from t on. Assumes nothing.
 use native.Mathlib.Omega.{arith}
 use mathlib.Core.Path.{◌≡◌, sym, ap, ap₂, ◌∙◌}
-use mathlib.Core.Logic.{⊎_elim}
 use mathlib.Core.Bool.{Bool, true, false, ◌&&◌}
 use Prim.Native.Nat.{ℕ, ◌+◌, ◌-◌, ◌<◌}
 use Rattle.spec.specs.Lists.{any, range}
@@ -15,7 +14,7 @@ use Rattle.tables.proofs.Small.{intervals-is}
 use Rattle.plan_rules.proofs.Ready.{planned, move_asks, move-own}
 use Rattle.plan_rules.proofs.rules.served_after.Statement.{statement}
 use Rattle.plan_rules.proofs.rules.served_after.Tie as tie
-use Rattle.plan_rules.proofs.rules.served_after.Lts.{else-in_window, then-in_window}
+use Rattle.plan_rules.proofs.rules.served_after.Lts.{else-in_window, then-in_window+else-run_serves}
 
 -- whether the run of an interval serves the call
 abbrev serving : Instance → Plan → ℕ → ℕ → ℕ → Bool
@@ -112,9 +111,12 @@ loop-again c =
     let v = c.before in
     let t = k v in
     any-turn _ t.loop-t.invariant t.loop-t-test.true
-    (elim (c.if-in_window.branch) [ then-in_window w ↦ within v w.if-in_window.true
-    (sym w.if-run_serves.false ∙ w.run_serves.ensures
-    ∙ ap (λ (m : Move). runs m (λ x. (I t).serves (start t).args.train (start t).args.number x)) w.move_at-m.ensures) | else-in_window w ↦ outside v w.if-in_window.false ])
+    (elim c.if-in_window.branch [
+      | then-in_window+else-run_serves w ↦ within v w.if-in_window.true
+          (sym w.if-run_serves.false ∙ w.run_serves.ensures
+          ∙ ap (λ (m : Move). runs m (λ x. (I t).serves (start t).args.train (start t).args.number x)) w.move_at-m.ensures)
+      | else-in_window w ↦ outside v w.if-in_window.false
+    ])
 
 pub served_after_spec : {M : Type 1} → statement M
 served_after_spec =

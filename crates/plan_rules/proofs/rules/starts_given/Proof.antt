@@ -14,10 +14,10 @@ use Rattle.plan_rules.proofs.rules.starts_given.Tie as tie
 -- the run and the train are the book's
 module _ (c : tie.In-Run) where
   abbrev start : tie.Start
-  start = c.before.before.before.before
+  start = c.before.before
 
-  run-known : c.m-1.given.0.0 < (instance_of (held start.args.b)).runs start.args.train
-  run-known = below start.requires.0 start.requires.1 c.m-1.given.1
+  run-known : c.in-Run.r < (instance_of (held start.args.b)).runs start.args.train
+  run-known = below start.requires.0 start.requires.1 c.in-Run.is
 
   train-few : start.args.train < 8
   train-few = few-trains start.args.b start.requires.0.passed start.args.train start.requires.0.known
@@ -36,7 +36,7 @@ returns c =
     let p = s.requires.0 in
     given-answer s.args.b s.args.train _ p.reached (same-train s.args.b p.passed s.args.train p.known)
     (starting p _ (run-known k) c.start_of.ensures) c.is_given.ensures
-    ∙ runs-run _ k.m-1.given.1
+    ∙ runs-run _ c.in-Run.is
 
 pub starts_given_spec : {M : Type 1} → statement M
 starts_given_spec =

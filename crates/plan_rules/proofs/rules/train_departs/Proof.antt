@@ -15,6 +15,10 @@ use Rattle.plan_rules.proofs.Ready.{planned, move_asks, move-own}
 use Rattle.plan_rules.proofs.rules.train_departs.Statement.{statement}
 use Rattle.plan_rules.proofs.rules.train_departs.Tie as tie
 
+-- the train is one of the book's
+few : (s : tie.Start) → s.args.train < 8
+few s = few-trains s.args.b s.requires.0.passed s.args.train s.requires.0.known
+
 -- the departure, inside the plan
 module _ (c : tie.After-shared_slice_known-2-1) where
   abbrev start : tie.Start
@@ -25,9 +29,6 @@ module _ (c : tie.After-shared_slice_known-2-1) where
 
   abbrev d : ℕ
   d = (get_or b.trains start.args.train no_train).departure
-
-  few : start.args.train < 8
-  few = few-trains b start.requires.0.passed start.args.train start.requires.0.known
 
   ready : Planned b start.args.train start.args.plan.now
   ready = planned start.requires.0 start.requires.1
@@ -66,8 +67,8 @@ pub train_departs_spec : {M : Type 1} → statement M
 train_departs_spec =
     tie.close
     (tie.spec
-    (λ c. omega (arith, few c))
-    (λ c. few c)
+    (λ c. omega (arith, few c.before.before))
+    (λ c. few c.before.before)
     (λ c κs. move_asks (ready c) (d c) (inside c))
     (λ c κs. ready c.before)
     starts-given-requires

@@ -49,19 +49,19 @@ module _ (c : tie.After-length_in_segments-l) where
 
 returns : tie.Need-returns-in-Departing
 unfolding train_keeps
-returns c = c.train_departs.ensures ∙ told c.before.before.before c.in-Departing.is
+returns c = c.train_departs.ensures ∙ told c.before.before c.in-Departing.is
 
 returns-2 : tie.Need-returns-in-Leaving
 unfolding train_keeps
-returns-2 c = c.train_leaves.ensures ∙ told c.before.before.before c.in-Leaving.is
+returns-2 c = c.train_leaves.ensures ∙ told c.before.before c.in-Leaving.is
 
 returns-3 : tie.Need-returns-in-Running
 unfolding train_keeps
-returns-3 c = c.train_runs.ensures ∙ told c.before.before.before c.in-Running.is
+returns-3 c = c.train_runs.ensures ∙ told c.before.before c.in-Running.is
 
 returns-4 : tie.Need-returns-in-Calling
 unfolding train_keeps
-returns-4 c = c.train_calls.ensures ∙ told c.before.before.before c.in-Calling.is
+returns-4 c = c.train_calls.ensures ∙ told c.before.before c.in-Calling.is
 
 pub train_keeps_spec : {M : Type 1} → statement M
 train_keeps_spec =
@@ -71,13 +71,13 @@ train_keeps_spec =
     (λ c. few c.before.before)
     length-in-segments-requires
     (λ c. search rules)
-    (λ c κs. let k = c.before.before in (ready k, (start k).requires.0.fits))
+    (λ c κs. let k = c.before in (ready k, (start k).requires.0.fits))
     (λ c. search rules)
-    (λ c κs. let k = c.before.before in (ready k, (start k).requires.0.fits))
+    (λ c κs. let k = c.before in (ready k, (start k).requires.0.fits))
     (λ c. search rules)
-    (λ c κs. let k = c.before.before in (ready k, (start k).requires.0.fits))
+    (λ c κs. let k = c.before in (ready k, (start k).requires.0.fits))
     (λ c. search rules)
-    (λ c κs. let k = c.before.before in (ready k, (start k).requires.0.fits))
+    (λ c κs. let k = c.before in (ready k, (start k).requires.0.fits))
     returns
     returns-2
     returns-3

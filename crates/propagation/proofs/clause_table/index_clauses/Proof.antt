@@ -2,7 +2,6 @@
 -- word is in the clause at hand or its 0 (`Indexing`). Assumes nothing.
 use borrow.Author.Rules.{rules, sfits_of}
 use mathlib.Core.Path.{sym, ap, ◌∙◌}
-use mathlib.Core.Logic.{⊎_elim}
 use Prim.Native.Nat.{◌-◌}
 use lib.ListN.{length}
 use mir.Syntax.{w32}
@@ -29,9 +28,12 @@ loop-again c =
     let t = c.before.before.before in
     let closed = t.requires.0 in
     let l = c.loop-at-test.true in
-    let back = to_z-of_z (sfits_of c.t9-1.given) in
-    elim (c.if-words-at-eq0.branch) [ then-words-at-eq0 w ↦ rw (w.1, w.2, w.3)
-    (indexing-closes closed t.loop-at.invariant (closed-proper _ closed) l (sym back ∙ ap (to_z w32) w.if-words-at-eq0.true)) | else-words-at-eq0 w ↦ rw (w.1, w.2, w.3) (indexing-passes closed t.loop-at.invariant l (λ e. w.if-words-at-eq0.false (ap (of_z w32) e))) ]
+    let back = to_z-of_z {w = w32} (sfits_of c.t9-1.given) in
+    elim (c.if-words-at-eq0.branch) [
+      | then-words-at-eq0 w ↦ rw (w.starts-is, w.first-is, w.clause-is)
+          (indexing-closes closed t.loop-at.invariant (closed-proper _ closed) l (sym back ∙ ap (to_z w32) w.if-words-at-eq0.true))
+      | else-words-at-eq0 w ↦ rw (w.starts-is, w.first-is, w.clause-is) (indexing-passes closed t.loop-at.invariant l (λ e. w.if-words-at-eq0.false (ap (of_z w32) e)))
+    ]
 
 pub index_clauses_spec : {M : Type 1} → statement M
 index_clauses_spec =

@@ -20,8 +20,8 @@ module _ (c : tie.After-take_false-first) where
   abbrev start : tie.Start
   start = c.before.before.before.before.before.before.before.before
 
-  same : length c.take_false-first.new.1.0 ≡ length start.args.values.now
-  same = c.take_false-first.auto.1.0
+  same : length c.take_false-first.new.values ≡ length start.args.values.now
+  same = c.take_false-first.auto.values
 
 try-hints-requires : tie.Need-try_hints-tried-requires
 try-hints-requires c κs =
@@ -48,11 +48,11 @@ module _ (c : tie.After-try_hints-tried) where
   answer = c.try_hints-tried.ensures.0 ∙ ap through taken.take_false-first.ensures.0
 
   -- and there are still as many values
-  as_many : length c.try_hints-tried.new.1.1.1.0 ≡ length first.args.values.now
-  as_many = c.try_hints-tried.auto.1.1.1.0 ∙ same taken
+  as_many : length c.try_hints-tried.new.values ≡ length first.args.values.now
+  as_many = c.try_hints-tried.auto.values ∙ same taken
 
   -- what was set is left on the trail
-  left : LeftOnTrail (length first.args.values.now) first.args.trail.now c.try_hints-tried.new.1.1.1.1.0
+  left : LeftOnTrail (length first.args.values.now) first.args.trail.now c.try_hints-tried.new.trail
   left =
       let e = c.try_hints-tried.ensures in
       left_here e.1 as_many (e.3 ∙ behind_more _ _ _ _ e.2 taken.take_false-first.ensures.2)
@@ -60,7 +60,7 @@ module _ (c : tie.After-try_hints-tried) where
 returns : tie.Need-returns
 unfolding follows_rule
 returns c =
-    let h = c.before.before.before.before.before.before.before.before.before in
+    let h = c.before.before.before.before.before.before.before.before in
     (answer h, c.undo.ensures ∙ ap (zeroed 0) (as_many h) ∙ sym (first h).requires.3, left h)
 
 pub follows_rule_spec : {M : Type 1} → statement M

@@ -2,7 +2,6 @@
 use borrow.Author.Rules.{rules}
 use native.Mathlib.Omega.{arith}
 use mathlib.Core.Path.{◌≡◌, ap₂}
-use mathlib.Core.Logic.{⊎_elim}
 use Prim.Native.Nat.{ℕ, ◌-◌}
 use lib.ListN.{get_or}
 use lib.Dec.{eqb}
@@ -19,12 +18,12 @@ module _ (c : tie.After-variable) where
 
   -- the variable that was found is the literal's
   found : c.variable.result ≡ variable_of start.args.l
-  found = variable-read _ start.fits.l c.variable.ensures
+  found = variable-read _ start.ranges.l c.variable.ensures
 
   -- and the byte the one that makes it false
   byte : c.if-l-lt0.byte ≡ false_byte start.args.l
   byte =
-      elim (c.if-l-lt0.branch) [ then-l-lt0 w ↦ false-byte _ start.fits.l w.if-l-lt0.true w.1 | else-l-lt0 w ↦ false-byte _ start.fits.l w.if-l-lt0.false w.1 ]
+      elim (c.if-l-lt0.branch) [ then-l-lt0 w ↦ false-byte _ start.ranges.l w.if-l-lt0.true w.byte-is | else-l-lt0 w ↦ false-byte _ start.ranges.l w.if-l-lt0.false w.byte-is ]
 
 returns : tie.Need-returns
 returns c =

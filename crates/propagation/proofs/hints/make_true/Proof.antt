@@ -2,7 +2,6 @@
 use borrow.Author.Rules.{rules}
 use native.Mathlib.Omega.{arith}
 use mathlib.Core.Path.{◌≡◌}
-use mathlib.Core.Logic.{⊎_elim}
 use Rattle.spec.specs.Refutation.{variable_of}
 use Rattle.propagation.specs.Known.{true_byte}
 use Rattle.propagation.proofs.Signs.{variable-read, true-byte, made}
@@ -18,7 +17,7 @@ returns : tie.Need-returns
 returns c =
     let s = c.before.before.before.before in
     let byte : c.if-l-lt0.values ≡ true_byte s.args.l =
-    elim (c.if-l-lt0.branch) [ then-l-lt0 w ↦ true-byte _ s.ranges.l w.if-l-lt0.true w.1 | else-l-lt0 w ↦ true-byte _ s.ranges.l w.if-l-lt0.false w.1 ] in
+    elim (c.if-l-lt0.branch) [ then-l-lt0 w ↦ true-byte _ s.ranges.l w.if-l-lt0.true w.values-is | else-l-lt0 w ↦ true-byte _ s.ranges.l w.if-l-lt0.false w.values-is ] in
     made s.args.values.now s.args.trail.now s.args.set (found c.before) byte
 
 pub make_true_spec : {M : Type 1} → statement M

@@ -34,7 +34,7 @@ module _ (c : tie.After-literal_at invariant-loop decreases-loop) where
 
   found : to_z w32 (of_z w32 c.literal_at.result) ≡ next head.loop-i.invariant start.requires.0 less
   found =
-      to_z-of_z (sfits_of c.literal_at.type_inv)
+      to_z-of_z {w = w32} (sfits_of c.literal_at.type_inv)
       ∙ c.literal_at.ensures
       ∙ ap (λ (n : ℕ). get_or (literals_in start.args.list.now) (n - 1 - head.loop-i.i) (pos 0))
       (sym (literals-length start.args.list.now))

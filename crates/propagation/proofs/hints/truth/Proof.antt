@@ -7,6 +7,7 @@ use Prim.Native.Nat.{ℕ, ◌-◌}
 use lib.ListN.{get_or}
 use lib.IntN.{pos}
 use lib.Signed.{lt_z}
+use mir.Syntax.{w32}
 use mir.Facts.{to_z-of_z}
 use Rattle.spec.specs.Assignment as spec
 use Rattle.spec.specs.Assignment.{Value, open', yes', no', deny}
@@ -23,7 +24,7 @@ module _ (c : tie.After-variable) where
   start = c.before.before
 
   found : c.variable.result ≡ variable_of start.args.l
-  found = c.variable.ensures ∙ ap variable_of (to_z-of_z start.fits.l)
+  found = c.variable.ensures ∙ ap variable_of (to_z-of_z {w = w32} start.ranges.l)
 
   abbrev byte : ℕ
   byte = get_or start.args.values.now (c.variable.result - 1) 0

@@ -2,13 +2,12 @@
 -- hints from number k on prove it from the values now. That of the loop over a clause's literals (`Scanning`): the clause does
 -- what the scan of the literals from `at` on gives, with the open literal that was found. Assumes nothing.
 use borrow.Author.Rules.{rules}
-use borrow.Author.Tests.{not-false, eqb-true}
+use borrow.Author.Tests.{eqb-true}
 use native.Mathlib.Omega.{arith}
 use mathlib.Core.Path.{◌≡◌, sym, ap, ◌∙◌}
 use mathlib.Core.Bool.{true}
 use mir.Syntax.{w32}
 use mir.Val.{to_z, of_z}
-use mathlib.Core.Logic.{⊎_elim}
 use Prim.Native.Nat.{ℕ, zero, suc, ◌-◌, ◌≤◌, ◌<◌}
 use lib.ListN.{length, get_or}
 use lib.IntN.{ℤ, pos, negsuc}
@@ -25,6 +24,7 @@ use Rattle.propagation.proofs.Scan.{ends-true, ends-second, ends-proving, ends-m
 use Rattle.propagation.proofs.HintTurns.{Gone, hint-fits, sets-out, clause-begins, has_room, goes_on, runs-out, refuses, concludes}
 use Rattle.propagation.proofs.hints.try_hints.Statement.{statement}
 use Rattle.propagation.proofs.hints.try_hints.Tie as tie
+use Rattle.propagation.proofs.hints.try_hints.Lts.{then-not-has_false_byte+in-No, then-not-has_false_byte+in-Open+else-unit-ne0, else-not-has_false_byte}
 
 abbrev invariant-loop : tie.invariant-loop-at
 invariant-loop hints words starts values trail first n set proved k at₀ unit₀ at unit =
@@ -112,7 +112,7 @@ false-told values (negsuc v) h e =
 abbrev Stands : tie.At-loop-at invariant-loop decreases-loop invariant-hints decreases-hints → Type 0
 Stands c =
     let words = (entry (outer c)).args.words.now in
-    Ahead words (known c) (length (outer c).hints.values) (named c) c.loop-at.at c.loop-at.unit (word c)
+    Ahead words (known c) (length (outer c).hints.values) (named c) c.loop-at.at c.loop-at.unit-bits (word c)
 
 stands : (c : tie.In-loop-at invariant-loop decreases-loop invariant-hints decreases-hints) → Stands c.before.before
 stands c = ahead c.loop-at.invariant c.loop-at-test.true
@@ -129,7 +129,7 @@ in-range c =
 -- where it was asked whether the literal is false
 module _ (c : tie.After-has_false_byte invariant-loop decreases-loop invariant-hints decreases-hints) where
   abbrev looked : tie.In-loop-at invariant-loop decreases-loop invariant-hints decreases-hints
-  looked = c.before.before.before
+  looked = c.before.before
 
   abbrev inner : tie.At-loop-at invariant-loop decreases-loop invariant-hints decreases-hints
   inner = looked.before.before
@@ -143,7 +143,7 @@ module _ (c : tie.After-has_false_byte invariant-loop decreases-loop invariant-h
 -- where its truth was
 module _ (c : tie.After-truth invariant-loop decreases-loop invariant-hints decreases-hints) where
   abbrev asked : tie.After-has_false_byte invariant-loop decreases-loop invariant-hints decreases-hints
-  asked = c.before.before.before
+  asked = c.before.before
 
   -- the literal is what the answer says
   told : {r : Answer} → c.truth.result ≡ r → truth (known (inner asked)) (word (inner asked)) ≡ meant r
@@ -156,17 +156,19 @@ loop-again c =
     let q = c.before in
     let s = stands (looked q) in
     let f = few (outer (inner q)) in
-    ⊎_elim (λ w. let t : tie.After-truth invariant-loop decreases-loop invariant-hints decreases-hints = record { before = record { before = record { before = q; if2 = w.0 }; truth-arg = w.1 }; truth = w.2 } in
-    rw w.5 (passes s (told t w.4.given.1)))
-    (⊎_elim (λ w. let t : tie.After-truth invariant-loop decreases-loop invariant-hints decreases-hints = record { before = record { before = record { before = q; if2 = w.0 }; truth-arg = w.1 }; truth = w.2 } in
-    rw w.6 (notes s f (told t w.4.given.1) w.5.left))
-    (λ w. rw w.1 (passes s (is-no q (not-false _ w.0.left))))) c.if-not-has_false_byte.branch
+    elim c.if-not-has_false_byte.branch [
+      | then-not-has_false_byte+in-No w ↦ let t : tie.After-truth invariant-loop decreases-loop invariant-hints decreases-hints = record { before = record { before = q; if-not-has_false_byte = w.if-not-has_false_byte }; truth = w.truth } in
+          rw w.unit-is-bits (passes s (told t w.in-No.is))
+      | then-not-has_false_byte+in-Open+else-unit-ne0 w ↦ let t : tie.After-truth invariant-loop decreases-loop invariant-hints decreases-hints = record { before = record { before = q; if-not-has_false_byte = w.if-not-has_false_byte }; truth = w.truth } in
+          rw w.unit-is-bits (notes s f (told t w.in-Open.is) w.if-unit-ne0.false)
+      | else-not-has_false_byte w ↦ rw w.unit-is-bits (passes s (is-no q w.if-not-has_false_byte.false))
+    ]
 
 -- ---- where the clause ends
 
 -- an open literal was found
 abbrev Found : tie.At-loop-at invariant-loop decreases-loop invariant-hints decreases-hints → Type 0
-Found c = OpenOne (known c) (length (outer c).hints.values) c.loop-at.unit
+Found c = OpenOne (known c) (length (outer c).hints.values) c.loop-at.unit-bits
 
 finds : (c : tie.Else-unit-eq0 invariant-loop decreases-loop invariant-hints decreases-hints) → Found c.before.before.before
 finds c = open-one c.loop-at.invariant.found c.if-unit-eq0.false
@@ -204,7 +206,7 @@ returns c =
 
 returns-2 : tie.Need-returns-in-Yes invariant-loop decreases-loop invariant-hints decreases-hints
 returns-2 c =
-    let a = c.before.before in
+    let a = c.before in
     let q = asked a in
     let g = (outer (inner q)).hints.invariant in
     let e = ends-true (stands (looked q)) (told a c.in-Yes.is) in
@@ -212,7 +214,7 @@ returns-2 c =
 
 returns-3 : tie.Need-returns-then-unit-ne0 invariant-loop decreases-loop invariant-hints decreases-hints
 returns-3 c =
-    let a = c.before.before.before in
+    let a = c.before.before in
     let q = asked a in
     let g = (outer (inner q)).hints.invariant in
     let e = ends-second (stands (looked q)) (told a c.in-Open.is) c.if-unit-ne0.true in
@@ -243,8 +245,8 @@ try_hints_spec =
     (λ c. reads c)
     (λ c. let h = reads c.before.before in search rules)
     (λ c. reads c.before.before)
-    (λ c κs. in-range c.before.before)
-    (λ c κs. in-range (looked c.before.before))
+    (λ c κs. in-range c.before)
+    (λ c κs. in-range (looked c.before))
     (λ c. search rules)
     (λ c. search rules)
     (λ c. search rules)

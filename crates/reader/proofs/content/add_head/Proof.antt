@@ -1,7 +1,6 @@
 -- `content::add_head` meets its contract: each answer is the one of the table of faults, by the tests that led there, and the
 -- struct with the Head's numbers is the one of the book with them. Assumes nothing.
 use borrow.Author.Rules.{rules}
-use borrow.Author.Tests.{ltb-true, ltb-false}
 use mathlib.Core.Logic.{⊎_elim}
 use native.Mathlib.Omega.{arith}
 use Rattle.spec.specs.Frames.{Format, head_kind}
@@ -33,10 +32,8 @@ returns c =
     refuses (format a) head_kind (start a).requires.0 _
     (head-wrong (format a) _ _ (λ h i j k.
     ⊎_elim (λ w. omega arith)
-    (⊎_elim (λ w. omega (arith, ltb-true t.pair-seconds.result 1 w.1.true))
-    (⊎_elim (λ w. omega (arith, ltb-true t.time-intervals.result 1 w.2.true))
-    (λ w. omega (arith, ltb-true a.most_intervals-most.result t.time-intervals.result w.3.true))))
-    c.if-metres-lt1.branch))
+    (⊎_elim (λ w. omega arith) (⊎_elim (λ w. omega arith) (λ w. omega arith)))
+    c.then-metres-lt1.either))
     c.refused.ensures
 
 returns-2 : tie.Need-returns
@@ -47,10 +44,6 @@ returns-2 c =
     let n = t.pair-seconds.ensures.0 in
     let u = t.time-intervals.ensures.0 in
     let g = a.most_intervals-most.ensures in
-    let h = c.if-metres-lt1.false in
-    let i = ltb-false t.pair-seconds.result 1 c.if-seconds-lt1.false in
-    let j = ltb-false t.time-intervals.result 1 c.if-intervals-lt1.false in
-    let k = ltb-false a.most_intervals-most.result t.time-intervals.result c.if-most-intervals.false in
     accepts (format a) head_kind (start a).requires.0 _ (head-fine (format a) _ _ (omega arith) (omega arith) (omega arith) (omega arith))
     (put-head _ (start a).requires.0 (format a) _ _ _ _ m n u) c.fine.ensures
 

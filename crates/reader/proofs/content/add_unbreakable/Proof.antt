@@ -1,7 +1,6 @@
 -- `content::add_unbreakable` meets its contract: each answer is the one of the table of faults, by the tests that led there; the
 -- book stays as it is. Assumes nothing.
 use borrow.Author.Rules.{rules}
-use borrow.Author.Tests.{not-true, not-false}
 use mathlib.Core.Path.{◌≡◌, sym, ap, ◌∙◌}
 use mathlib.Core.Bool.{Bool, true, false}
 use native.Mathlib.Omega.{arith}

@@ -5,7 +5,6 @@ use borrow.Author.Tests.{lt-ltb, le-ltb}
 use native.Mathlib.Omega.{arith}
 use mathlib.Core.Path.{◌≡◌, sym, ◌∙◌}
 use mathlib.Core.Bool.{Bool, ◌&&◌}
-use mathlib.Core.Logic.{⊎_elim}
 use lib.ListN.{length}
 use lib.Dec.{leb, ltb}
 use Rattle.spec.specs.Read.{call_fits}
@@ -28,18 +27,18 @@ abbrev both : tie.After-wide → Bool
 both c =
     ltb c.wide.result c.args.b.train_count && ltb c.args.c.segment c.args.b.segment_count
 
-known : (c : tie.Joined-wide-b) → c.if-wide-b.if-wide-b-2 ≡ both c.before.before
+known : (c : tie.Joined-wide-b) → c.if-wide-b.value ≡ both c.before.before
 known c =
-    elim (c.if-wide-b.branch) [ then-wide-b w ↦ w.3 ∙ simp (lt-ltb _ _ w.if-wide-b.true, w.wide-then-wide-b.ensures.0) | else-wide-b w ↦ w.1 ∙ simp (le-ltb _ _ w.if-wide-b.false) ]
+    elim (c.if-wide-b.branch) [ then-wide-b w ↦ w.value-is ∙ simp (lt-ltb _ _ w.if-wide-b.true, w.wide-then-wide-b.ensures.0) | else-wide-b w ↦ w.value-is ∙ simp (le-ltb _ _ w.if-wide-b.false) ]
 
 -- and the window is none that ends before it begins
 abbrev window : tie.After-wide → Bool
 window c = both c && leb c.args.c.first c.args.c.last
 
-ordered : (c : tie.Joined-wide-b-2) → c.if-wide-b-2.if-c ≡ window c.before.before.before
+ordered : (c : tie.Joined-wide-b-2) → c.if-wide-b-2.value ≡ window c.before.before.before
 ordered c =
     let f = sym (known c.before) in
-    elim (c.if-wide-b-2.branch) [ then-wide-b-2 w ↦ w.2 ∙ simp (f ∙ w.if-wide-b-2.true) | else-wide-b-2 w ↦ w.1 ∙ w.if-wide-b-2.false ∙ simp (f ∙ w.if-wide-b-2.false) ]
+    elim (c.if-wide-b-2.branch) [ then-wide-b-2 w ↦ w.value-is ∙ simp (f ∙ w.if-wide-b-2.true) | else-wide-b-2 w ↦ w.value-is ∙ w.if-wide-b-2.false ∙ simp (f ∙ w.if-wide-b-2.false) ]
 
 -- the definition, over the struct
 whole : (c : tie.After-wide)

@@ -1,10 +1,10 @@
 -- `content::join_fits` meets its contract: `opened` is the definition over the struct, `inside` says that the three numbers are
 -- below their counts past the first test, and `first-touches` what the flag is where the arms of the `&&` meet. Assumes nothing.
 use borrow.Author.Rules.{rules}
-use borrow.Author.Tests.{eq-eqb, ne_eqb, lt-ltb, le-ltb, leb-true, leb-false}
+use borrow.Author.Tests.{eq-eqb, ne_eqb, lt-ltb, le-ltb}
 use mathlib.Core.Path.{◌≡◌, sym, ◌∙◌}
 use mathlib.Core.Bool.{Bool, not, ◌&&◌, and_assoc}
-use mathlib.Core.Logic.{⊎_elim}
+use mathlib.Core.Logic.{inl, inr}
 use Prim.Native.Nat.{ℕ, ◌<◌}
 use native.Mathlib.Omega.{arith}
 use lib.ListN.{length, get_or}
@@ -47,27 +47,26 @@ opened c =
 returns : tie.Need-returns-then-b-node
 returns c =
     let a = c.before in
-    let n = a.args.b.segment_count in
-    ⊎_elim (λ w. sym (opened a ∙ simp (le-ltb _ _ w.true)))
-    (⊎_elim
-    (λ w. sym (opened a ∙ simp (lt-ltb _ _ w.0.left, le-ltb _ _ (leb-true n (left a) w.1.true))))
-    (λ w. sym (opened a ∙ simp (lt-ltb _ _ w.0.left, lt-ltb _ _ (leb-false n (left a) w.1.left), le-ltb _ _ (leb-true n (right a) w.2.true)))))
-    c.if-b-node.branch
+    elim c.then-b-node.either [
+      | inl w ↦ sym (opened a ∙ simp (le-ltb _ _ w))
+      | inr (inl w) ↦ sym (opened a ∙ simp (lt-ltb _ _ w.0, le-ltb _ _ w.1))
+      | inr (inr w) ↦ sym (opened a ∙ simp (lt-ltb _ _ w.0, lt-ltb _ _ w.1, le-ltb _ _ w.2))
+    ]
 
 -- past the first test
 inside : (c : tie.Else-b-right)
     → let a = c.before.before.before in
     let b = a.args.b in
     (node a < b.node_count) × (left a < b.segment_count) × (right a < b.segment_count)
-inside c = (c.if-b-node.false, leb-false _ _ c.if-b-left.false, leb-false _ _ c.if-b-right.false)
+inside c = (c.if-b-node.false, c.if-b-left.false, c.if-b-right.false)
 
 -- two segments, and the first touches the node
 abbrev first_fits : tie.After-wide-right → Bool
 first_fits c = not (eqb (left c) (right c)) && touches (get_or c.args.b.segments (left c) zero_segment) (node c)
 
-first-touches : (c : tie.Joined-left-right) → c.if-left-right.if-touches ≡ first_fits c.before.before.before.before
+first-touches : (c : tie.Joined-left-right) → c.if-left-right.value ≡ first_fits c.before.before.before.before
 first-touches c =
-    elim (c.if-left-right.branch) [ then-left-right w ↦ w.3 ∙ w.touches.ensures ∙ simp (ne_eqb _ _ w.if-left-right.true) | else-left-right w ↦ w.1 ∙ simp (eq-eqb _ _ w.if-left-right.false) ]
+    elim (c.if-left-right.branch) [ then-left-right w ↦ w.value-is ∙ w.touches.ensures ∙ simp (ne_eqb _ _ w.if-left-right.true) | else-left-right w ↦ w.value-is ∙ simp (eq-eqb _ _ w.if-left-right.false) ]
 
 -- the definition, past the first test
 whole : (c : tie.Else-b-right)

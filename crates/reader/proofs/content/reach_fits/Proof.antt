@@ -1,16 +1,15 @@
--- `content::reach_fits` meets its contract: `length-fits` and `not-slow` say what the flag is where the arms of each `&&` meet.
--- Assumes nothing.
+-- `content::reach_fits` meets its contract: `not-moves` says what the definition's first three tests are where the code has found
+-- one of them false. Assumes nothing.
 use borrow.Author.Rules.{rules}
 use borrow.Author.Tests.{le-leb, lt-leb}
 use mathlib.Core.Path.{◌≡◌, sym, ◌∙◌}
-use mathlib.Core.Bool.{Bool, ◌&&◌, and_assoc}
-use mathlib.Core.Logic.{⊎_elim}
+use mathlib.Core.Bool.{Bool, false, ◌&&◌, and_assoc}
+use mathlib.Core.Logic.{inl, inr}
 use lib.Dec.{leb}
 use Rattle.spec.specs.Read.{reach_fits, between}
 use Rattle.spec.specs.Held.{held, held_train}
 use Rattle.reader.proofs.content.reach_fits.Statement.{statement}
 use Rattle.reader.proofs.content.reach_fits.Tie as tie
-use Rattle.reader.proofs.content.reach_fits.Lts.{else-l-ge1, else-l-le-MAX_REACH, then-l-ge1, then-l-le-MAX_REACH}
 
 length-in-segments-requires : tie.Need-length_in_segments-l-requires
 length-in-segments-requires c κs = search rules
@@ -22,18 +21,17 @@ speed-in-segments-requires c κs = search rules
 abbrev short : tie.After-speed_in_segments-k → Bool
 short c = leb 1 c.length_in_segments-l.result && leb c.length_in_segments-l.result 8
 
-length-fits : (c : tie.Joined-l-ge1) → c.if-l-ge1.if-l-le-MAX_REACH ≡ short c.before
-length-fits c =
-    elim (c.if-l-ge1.branch) [ then-l-ge1 w ↦ w.1 ∙ simp (le-leb _ _ w.if-l-ge1.true) | else-l-ge1 w ↦ w.1 ∙ simp (lt-leb _ _ w.if-l-ge1.false) ]
-
 -- and the speed at least 1
 abbrev moves : tie.After-speed_in_segments-k → Bool
 moves c = short c && leb 1 c.speed_in_segments-k.result
 
-not-slow : (c : tie.Joined-l-le-MAX_REACH) → c.if-l-le-MAX_REACH.if-k-ge1 ≡ moves c.before.before
-not-slow c =
-    let f = sym (length-fits c.before) in
-    elim (c.if-l-le-MAX_REACH.branch) [ then-l-le-MAX_REACH w ↦ w.1 ∙ simp (f ∙ w.if-l-le-MAX_REACH.true) | else-l-le-MAX_REACH w ↦ w.1 ∙ w.if-l-le-MAX_REACH.false ∙ simp (f ∙ w.if-l-le-MAX_REACH.false) ]
+not-moves : (c : tie.Else-k-ge1) → moves c.before.before.before ≡ false
+not-moves c =
+    elim c.if-k-ge1.either [
+      | inl w ↦ simp (le-leb _ _ w.0, le-leb _ _ w.1, lt-leb _ _ w.2)
+      | inr (inl w) ↦ simp (le-leb _ _ w.0, lt-leb _ _ w.1)
+      | inr (inr w) ↦ simp (lt-leb _ _ w)
+    ]
 
 -- the definition, over the two numbers
 whole : (c : tie.After-speed_in_segments-k)
@@ -44,13 +42,12 @@ whole c = simp (c.length_in_segments-l.ensures, c.speed_in_segments-k.ensures, a
 
 returns : tie.Need-returns-then-k-ge1
 returns c =
-    let f = sym (not-slow c.before) ∙ c.if-k-ge1.true in
-    sym (simp f) ∙ whole c.before.before.before
+    let f = c.if-k-ge1.true in
+    sym (simp (le-leb _ _ f.0, le-leb _ _ f.1, le-leb _ _ f.2)) ∙ whole c.before.before.before
 
 returns-2 : tie.Need-returns-else-k-ge1
 returns-2 c =
-    let f = sym (not-slow c.before) ∙ c.if-k-ge1.false in
-    c.if-k-ge1.false ∙ sym (simp f) ∙ whole c.before.before.before
+    c.if-k-ge1.false-raw ∙ sym (simp (not-moves c)) ∙ whole c.before.before.before
 
 pub reach_fits_spec : {M : Type 1} → statement M
 reach_fits_spec =

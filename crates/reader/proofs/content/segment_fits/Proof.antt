@@ -1,17 +1,16 @@
--- `content::segment_fits` meets its contract: `inside` and `apart` say what the flag is where the arms of each `&&` meet.
--- Assumes nothing.
+-- `content::segment_fits` meets its contract: `not-two` says what the definition's first three tests are where the code has found
+-- one of them false. Assumes nothing.
 use borrow.Author.Rules.{rules}
-use borrow.Author.Tests.{lt-ltb, le-ltb}
+use borrow.Author.Tests.{eq-eqb, ne_eqb, lt-ltb, le-ltb}
 use mathlib.Core.Path.{◌≡◌, sym, ◌∙◌}
-use mathlib.Core.Bool.{Bool, not, ◌&&◌}
-use mathlib.Core.Logic.{⊎_elim}
+use mathlib.Core.Bool.{Bool, false, not, ◌&&◌}
+use mathlib.Core.Logic.{inl, inr}
 use lib.Dec.{eqb, ltb, leb}
 use Rattle.spec.specs.Read.{segment_fits}
 use Rattle.spec.specs.Held.{held}
 use Rattle.reader.proofs.Packing.{nodes-held}
 use Rattle.reader.proofs.content.segment_fits.Statement.{statement}
 use Rattle.reader.proofs.content.segment_fits.Tie as tie
-use Rattle.reader.proofs.content.segment_fits.Lts.{else-a-b, else-e-b, then-a-b, then-e-b}
 
 wide-requires : tie.Need-wide-a-requires
 wide-requires c κs = search rules
@@ -28,18 +27,17 @@ both c =
     let n = c.args.b.node_count in
     ltb c.wide-a.result n && ltb c.wide-e.result n
 
-inside : (c : tie.Joined-a-b) → c.if-a-b.if-e-b ≡ both c.before.before
-inside c =
-    elim (c.if-a-b.branch) [ then-a-b w ↦ w.2 ∙ simp (lt-ltb _ _ w.if-a-b.true) | else-a-b w ↦ w.1 ∙ simp (le-ltb _ _ w.if-a-b.false) ]
-
 -- and they are two
 abbrev two : tie.After-wide-e → Bool
 two c = both c && not (eqb c.wide-a.result c.wide-e.result)
 
-apart : (c : tie.Joined-e-b) → c.if-e-b.if-a-e ≡ two c.before.before.before
-apart c =
-    let f = sym (inside c.before) in
-    elim (c.if-e-b.branch) [ then-e-b w ↦ w.1 ∙ simp (f ∙ w.if-e-b.true) | else-e-b w ↦ w.1 ∙ w.if-e-b.false ∙ simp (f ∙ w.if-e-b.false) ]
+not-two : (c : tie.Else-a-e) → two c.before.before.before.before ≡ false
+not-two c =
+    elim c.if-a-e.either [
+      | inl w ↦ simp (lt-ltb _ _ w.0, lt-ltb _ _ w.1, eq-eqb _ _ w.2)
+      | inr (inl w) ↦ simp (lt-ltb _ _ w.0, le-ltb _ _ w.1)
+      | inr (inr w) ↦ simp (le-ltb _ _ w)
+    ]
 
 -- the definition, over the struct
 whole : (c : tie.After-wide-e)
@@ -52,13 +50,12 @@ whole c =
 
 returns : tie.Need-returns-then-a-e
 returns c =
-    let f = sym (apart c.before.before) ∙ c.if-a-e.true in
-    sym (simp (f, ← c.wide.ensures.0)) ∙ whole c.before.before.before.before.before
+    let f = c.if-a-e.true in
+    sym (simp (lt-ltb _ _ f.0, lt-ltb _ _ f.1, ne_eqb _ _ f.2, ← c.wide.ensures.0)) ∙ whole c.before.before.before.before.before
 
 returns-2 : tie.Need-returns-else-a-e
 returns-2 c =
-    let f = sym (apart c.before) ∙ c.if-a-e.false in
-    c.if-a-e.false ∙ sym (simp f) ∙ whole c.before.before.before.before
+    c.if-a-e.false-raw ∙ sym (simp (not-two c)) ∙ whole c.before.before.before.before
 
 pub segment_fits_spec : {M : Type 1} → statement M
 segment_fits_spec =

@@ -4,7 +4,6 @@ use borrow.Author.Rules.{rules}
 use borrow.Author.Tests.{le-leb, lt-leb}
 use mathlib.Core.Path.{◌≡◌, sym, ap, ◌∙◌}
 use mathlib.Core.Bool.{Bool, ◌&&◌}
-use mathlib.Core.Logic.{⊎_elim}
 use Prim.Native.Nat.{ℕ, ◌*◌}
 use native.Mathlib.Omega.{arith}
 use native.Mathlib.Nat.{zero-add}
@@ -30,10 +29,10 @@ format c = format_of c.args.format
 abbrev early : tie.Start → Bool
 early c = leb 1 (field c.args.p.now 0 2) && ltb (field c.args.p.now 4 (format c).time_width) c.args.b.intervals
 
-starts : (c : tie.Joined-pair-ge1) → c.if-pair-ge1.if-time-b ≡ early c.before.before.before
+starts : (c : tie.Joined-pair-ge1) → c.if-pair-ge1.value ≡ early c.before.before.before
 starts c =
     let m = c.pair.ensures.0 in
-    elim (c.if-pair-ge1.branch) [ then-pair-ge1 w ↦ w.3 ∙ simp (← m, le-leb _ _ w.if-pair-ge1.true, w.time.ensures.0) | else-pair-ge1 w ↦ w.1 ∙ simp (← m, lt-leb _ _ w.if-pair-ge1.false) ]
+    elim (c.if-pair-ge1.branch) [ then-pair-ge1 w ↦ w.value-is ∙ simp (← m, le-leb _ _ w.if-pair-ge1.true, w.time.ensures.0) | else-pair-ge1 w ↦ w.value-is ∙ simp (← m, lt-leb _ _ w.if-pair-ge1.false) ]
 
 -- the definition, over the struct
 whole : (c : tie.Start)

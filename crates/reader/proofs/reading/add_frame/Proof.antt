@@ -1,9 +1,8 @@
 -- `reading::add_frame` meets its contract: where a kind's cursor does not end at the payload's end, 4; else the kind's function
 -- answers. What the functions ask of the book holds of every book as far as it was read. Assumes nothing.
 use borrow.Author.Rules.{rules}
-use borrow.Author.Tests.{eqb-true, eqb-false, not-true, not-false}
 use mathlib.Core.Path.{◌≡◌, refl, sym, ap, ◌∙◌}
-use mathlib.Core.Logic.{⊎_elim, ◌≢◌}
+use mathlib.Core.Logic.{◌≢◌}
 use mathlib.Core.Option.{Option, none, some}
 use Prim.Native.Nat.{ℕ, ◌+◌, ◌*◌, ◌-◌}
 use native.Mathlib.Omega.{arith}
@@ -22,7 +21,7 @@ use Rattle.reader.specs.BookAnswers.{added_found}
 use Rattle.reader.proofs.ByKind.{by_kind, wrong-length, right-length, elsewhere, there, sized, train-long, train-short, train-wrong, train-right, adds-nothing, none_left, ends-right, no-head, growing-metres, growing-calls, growing-segments}
 use Rattle.reader.proofs.reading.add_frame.Statement.{statement}
 use Rattle.reader.proofs.reading.add_frame.Tie as tie
-use Rattle.reader.proofs.reading.add_frame.Lts.{else-end-fixed, then-end-fixed}
+use Rattle.reader.proofs.reading.add_frame.Lts.{then-end-fixed-via-then-end-fixed, then-end-fixed-via-else-end-fixed+then-end-fixed-2}
 
 -- the format that is read
 abbrev format : tie.Start → Format
@@ -55,24 +54,24 @@ module _ {st : tie.Start} {k : Kind} {n to : ℕ} (h : Of st k n to) where
   long same = sized (format st) _ st.requires.0 _ _ _ st.requires.2 k n to (h.size _) h.ends st.requires.1 same
 
 head : (c : tie.After-head_end-to)
-    → let st = c.before.before.before.before in Of st head_kind (4 + (format st).time_width) c.head_end-to.result
+    → let st = c.before.before.before in Of st head_kind (4 + (format st).time_width) c.head_end-to.result
 unfolding length_fits
 head c = record { told = ap kind_in c.in-Head.is; size = λ p. refl; ends = c.head_end-to.ensures }
 
-node : (c : tie.After-cursor-to) → Of c.before.before.before.before node_kind 1 c.cursor-to.result.end
+node : (c : tie.After-cursor-to) → Of c.before.before.before node_kind 1 c.cursor-to.result.end
 unfolding length_fits
 node c = record { told = ap kind_in c.in-Node.is; size = λ p. refl; ends = c.cursor-to.ensures.1 }
 
-segment : (c : tie.After-cursor-to-in-Segment) → Of c.before.before.before.before segment_kind 3 c.cursor-to-in-Segment.result.end
+segment : (c : tie.After-cursor-to-in-Segment) → Of c.before.before.before segment_kind 3 c.cursor-to-in-Segment.result.end
 unfolding length_fits
 segment c = record { told = ap kind_in c.in-Segment.is; size = λ p. refl; ends = c.cursor-to-in-Segment.ensures.1 }
 
-join : (c : tie.After-cursor-to-in-Join) → Of c.before.before.before.before join_kind 3 c.cursor-to-in-Join.result.end
+join : (c : tie.After-cursor-to-in-Join) → Of c.before.before.before join_kind 3 c.cursor-to-in-Join.result.end
 unfolding length_fits
 join c = record { told = ap kind_in c.in-Join.is; size = λ p. refl; ends = c.cursor-to-in-Join.ensures.1 }
 
 call : (c : tie.After-call_end-to)
-    → let st = c.before.before.before.before in Of st call_kind (2 + 2 * (format st).time_width) c.call_end-to.result
+    → let st = c.before.before.before in Of st call_kind (2 + 2 * (format st).time_width) c.call_end-to.result
 unfolding length_fits
 call c = record { told = ap kind_in c.in-Call.is; size = λ p. refl; ends = c.call_end-to.ensures }
 
@@ -82,7 +81,7 @@ add-call-requires c κs =
     let p = k.requires in
     (p.0, growing-calls _ (p.3 (no-head k.in-Call.is (λ e. omega arith))), long (call k) c.if-to-end-5.false)
 
-unbreakable : (c : tie.After-cursor-to-in-Unbreakable) → Of c.before.before.before.before unbreakable_kind 1 c.cursor-to-in-Unbreakable.result.end
+unbreakable : (c : tie.After-cursor-to-in-Unbreakable) → Of c.before.before.before unbreakable_kind 1 c.cursor-to-in-Unbreakable.result.end
 unfolding length_fits
 unbreakable c = record { told = ap kind_in c.in-Unbreakable.is; size = λ p. refl; ends = c.cursor-to-in-Unbreakable.ensures.1 }
 
@@ -95,7 +94,7 @@ add-unbreakable-requires c κs =
 -- Train: its place stands behind the fixed part
 module _ (c : tie.After-train_end-fixed) where
   abbrev start5 : tie.Start
-  start5 = c.before.before.before.before
+  start5 = c.before.before.before
 
   is5 : start5.args.kind ≡ Train
   is5 = c.in-Train.is
@@ -111,8 +110,13 @@ returns-5 c =
     let st = start5 k in
     by_kind (format st) _ st.requires.0 _ _ _ st.requires.2 (is5 k)
     (wrong-length (format st) _ st.requires.0 _ _ _ st.requires.2 train_kind
-    (elim (c.if-end-fixed.branch) [ then-end-fixed w ↦ train-short (format st) _ st.requires.0 _ _ _ st.requires.2 _ 0 k.train_end-fixed.ensures st.requires.1 w.true | else-end-fixed w ↦ train-wrong (format st) _ st.requires.0 _ _ _ st.requires.2 _ _ k.train_end-fixed.ensures st.requires.1 w.0.left
-    (count_at k w.2.ensures.0) (eqb-false _ _ (not-true _ w.3.true)) ])
+    (elim c.then-end-fixed.branch [
+      | then-end-fixed-via-then-end-fixed w ↦
+          train-short (format st) _ st.requires.0 _ _ _ st.requires.2 _ 0 k.train_end-fixed.ensures st.requires.1 w.if-end-fixed.true
+      | then-end-fixed-via-else-end-fixed+then-end-fixed-2 w ↦
+          train-wrong (format st) _ st.requires.0 _ _ _ st.requires.2 _ _ k.train_end-fixed.ensures st.requires.1 w.if-end-fixed.false
+          (count_at k w.wide.ensures.0) w.if-end-fixed-2.true
+    ])
     c.wrong_length-then-end-fixed.ensures)
 
 add-train-requires : tie.Need-add_train-requires
@@ -131,18 +135,18 @@ returns-13 c =
     by_kind (format st) _ st.requires.0 _ _ _ st.requires.2 (is5 k)
     (right-length (format st) _ st.requires.0 _ _ _ st.requires.2 train_kind
     (train-right (format st) _ st.requires.0 _ _ _ st.requires.2 _ _ k.train_end-fixed.ensures st.requires.1 e.if-end-fixed.false
-    (count_at k e.wide.ensures.0) (eqb-true _ _ (e.if-end-fixed-2.false)))
+    (count_at k e.wide.ensures.0) e.if-end-fixed-2.false)
     c.add_train.ensures)
 
 -- End
-ending : (c : tie.After-cursor) → Of c.before.before.before.before end_kind 0 c.cursor.result.end
+ending : (c : tie.After-cursor) → Of c.before.before.before end_kind 0 c.cursor.result.end
 unfolding length_fits
 ending c = record { told = ap kind_in c.in-End.is; size = λ p. refl; ends = c.cursor.ensures.1 }
 
 returns-16 : tie.Need-returns-else-cursor-end
 returns-16 c =
     let k = c.before.before.before in
-    let st = k.before.before.before.before in
+    let st = k.before.before.before in
     by_kind (format st) _ st.requires.0 _ _ _ st.requires.2 k.in-End.is
     (ends-right (format st) _ st.requires.0 _ _ _ st.requires.2
     (none_left (format st) _ st.requires.0 _ _ _ st.requires.2 _ k.cursor.ensures.1 c.if-cursor-end.false) c.unchanged.ensures)
@@ -150,7 +154,7 @@ returns-16 c =
 returns-17 : tie.Need-returns-in-Unknown
 unfolding kind_faults first_fault add_found
 returns-17 c =
-    let st = c.before.before.before.before in
+    let st = c.before.before.before in
     by_kind (format st) _ st.requires.0 _ _ _ st.requires.2 c.in-Unknown.is
     (adds-nothing (format st) _ st.requires.0 _ _ _ st.requires.2 none refl refl c.unchanged-in-Unknown.ensures)
 

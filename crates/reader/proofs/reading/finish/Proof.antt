@@ -56,7 +56,7 @@ finish_spec =
     (p.0.counts, p.0.numbers, p.1, p.2, p.3))
     (λ c κs. (c.requires.0.counts, c.list_trains-counts.ensures.0))
     (λ c κs. tt)
-    (λ c. c.list_trains-counts.auto.1.0)
+    (λ c. c.list_trains-counts.auto.runs)
     returns-2
-    (λ c. c.list_trains-counts.auto.1.0)
+    (λ c. c.list_trains-counts.auto.runs)
     returns-3)

@@ -42,8 +42,8 @@ step-requires c κs =
 
 returns : tie.Need-returns-in-Stop invariant-loop decreases-loop
 returns c =
-    let at-step = c.before.before.before.before in
-    let told = c.next-1.given.1 in (
+    let at-step = c.before.before in
+    let told = c.in-Stop.is in (
       c.refused_book.ensures
           ∙ ap book_read_of
           (sym (way-stop _ _ _ _ _ at-step.loop-n.invariant.0 at-step.step-st.result at-step.step-st.ensures _ told)),
@@ -54,7 +54,7 @@ returns c =
 -- the End: what is left are the book's own refusals
 module _ (c : tie.In-End invariant-loop decreases-loop) where
   abbrev at-step : tie.After-step-st invariant-loop decreases-loop
-  at-step = c.before.before
+  at-step = c.before
 
   abbrev looped : tie.At-loop-n invariant-loop decreases-loop
   looped = at-step.before
@@ -80,17 +80,17 @@ returns-2 c =
 -- the next place, and that it is further on
 module _ (c : tie.After-book-1 invariant-loop decreases-loop) where
   abbrev stepped : tie.After-step-st invariant-loop decreases-loop
-  stepped = c.before.before.before.before
+  stepped = c.before.before
 
   abbrev start : tie.Start invariant-loop decreases-loop
   start = stepped.before.before.before.before.before
 
-  onward : OnWay (format_of start.args.format) start.args.s.now stepped.step-st.result.book c.next-in-More-1.given.0.1.0
-      c.next-in-More-1.given.0.0
-      × (stepped.loop-n.at < c.next-in-More-1.given.0.0)
+  onward : OnWay (format_of start.args.format) start.args.s.now stepped.step-st.result.book c.in-More.l
+      c.in-More.a
+      × (stepped.loop-n.at < c.in-More.a)
   onward =
       way-more _ _ _ _ _ stepped.loop-n.invariant.0 stepped.step-st.result stepped.step-st.ensures _ _
-      c.next-in-More-1.given.1
+      c.in-More.is
 
 pub read_as_spec : {M : Type 1} → statement M
 read_as_spec =
@@ -107,7 +107,7 @@ read_as_spec =
     returns
     (λ c. search rules)
     finish-requires
-    (λ c. c.finish.auto.1.0 ∙ ap length (looped c.before.before.before.before).loop-n.invariant.1)
+    (λ c. c.finish.auto.runs ∙ ap length (looped c.before.before.before.before).loop-n.invariant.1)
     returns-2
     (λ c. search rules)
     (λ c. let w = onward c in let h = w.0.inside in omega arith)

@@ -19,13 +19,13 @@ enum-known-kind c = search rules
 
 step-whole-requires : tie.Need-step_whole-requires
 step-whole-requires c κs =
-    let st = c.before.before.before.before.before in
-    let whole = sym c.frame_at.ensures.0 ∙ c.kind-1.given.1 in
+    let st = c.before.before.before in
+    let whole = sym c.frame_at.ensures.0 ∙ c.in-Whole.is in
     (st.requires.0, st.requires.1, whole, whole_room st.args.s.now st.args.at _ _ st.requires.2 whole)
 
 returns : tie.Need-returns-in-Cut
 returns c =
-    let st = c.before.before.before.before.before in
+    let st = c.before.before.before.before in
     cut-here _ st.args.b st.requires.0 st.args.last st.args.s.now st.args.at
     (sym c.frame_at.ensures.0 ∙ c.in-Cut.is) c.stopped.result c.stopped.ensures
 

@@ -54,20 +54,19 @@ add-frame-requires c κs =
 
 returns-3 : tie.Need-returns-in-Refused
 returns-3 c =
-    let k = c.before.before in
-    let a = k.before.before.before in
+    let a = c.before.before.before in
     let e = a.before in
     let st = start e in
     stops _ st.args.b st.requires.0 st.args.last st.args.s.now st.args.at st.args.kind st.args.len st.requires.2
     c.stopped-in-Refused.result _ c.stopped-in-Refused.ensures
     (refused-here _ st.args.b st.requires.0 st.args.last st.args.s.now st.args.at st.args.kind st.args.len st.requires.2
     (known e.before.before.before) (ordered e.before) a.add_frame-a.result e.kind_of.result e.kind_of.ensures a.add_frame-a.ensures
-    _ k.checked-1.given.1)
+    _ c.in-Refused.is)
 
 returns-4 : tie.Need-returns-then-kind-eq-KIND
 returns-4 c =
     let f = c.before in
-    let a = f.before.before.before in
+    let a = f.before.before in
     let e = a.before in
     let st = start e in
     ends-here _ st.args.b st.requires.0 st.args.last st.args.s.now st.args.at st.args.kind st.args.len st.requires.2 c.if-kind-eq-KIND.true
@@ -78,7 +77,7 @@ returns-4 c =
 returns-5 : tie.Need-returns-else-kind-eq-KIND
 returns-5 c =
     let f = c.before in
-    let a = f.before.before.before in
+    let a = f.before.before in
     let e = a.before in
     let st = start e in
     let o = e.before in

@@ -1,6 +1,6 @@
 -- `numbers::hints_fit` meets its contract. The loop's invariant: all hints fit exactly where those before i did and those from i on do.
 -- Assumes nothing.
-use borrow.Author.Tests.{lt-ltb, le-ltb, le-leb, lt-leb, leb-true, leb-false}
+use borrow.Author.Tests.{lt-ltb, le-ltb, le-leb, lt-leb}
 use Prim.Native.Nat.{ℕ, ◌+◌, ◌-◌}
 use native.Mathlib.Omega.{arith}
 use mathlib.Core.Path.{◌≡◌, refl, sym, ap, ◌∙◌}
@@ -13,7 +13,7 @@ use Rattle.refutation_file.specs.Numbers.{numbers_in}
 use Rattle.refutation_file.proofs.NumberLists.{numbers-length, hints-next, hints-end}
 use Rattle.refutation_file.proofs.numbers.hints_fit.Statement.{statement}
 use Rattle.refutation_file.proofs.numbers.hints_fit.Tie as tie
-use Rattle.refutation_file.proofs.numbers.hints_fit.Lts.{else-h-lt1, then-h-lt1}
+use Rattle.refutation_file.proofs.numbers.hints_fit.Lts.{then-h-lt1, else-h-lt1+else-own-h}
 
 abbrev invariant-loop : tie.invariant-loop-i
 invariant-loop list own n fits₀ i₀ fits i = hints_fit own (numbers_in list) ≡ (fits && hints_fit own (drop i (numbers_in list)))
@@ -47,13 +47,16 @@ module _ (c : tie.Joined-h-lt1 invariant-loop decreases-loop) where
   fits = leb 1 hint && ltb hint given.args.own
 
   -- the flag stays where this hint fits
-  flag : c.if-h-lt1.ranges ≡ (at-loop.loop-i.fits && fits)
+  flag : c.if-h-lt1.fits ≡ (at-loop.loop-i.fits && fits)
   flag =
       let own = given.args.own in
-      elim (c.if-h-lt1.branch) [ then-h-lt1 w ↦ w.1 ∙ sym (⊎_elim
-      (λ v. simp (lt-leb 1 hint v.true, and-false))
-      (λ v. simp (le-ltb hint own (leb-true own hint v.1.true), and-false))
-      w.if-h-lt1.came) | else-h-lt1 w ↦ w.2 ∙ simp (le-leb 1 hint w.if-h-lt1.false, lt-ltb hint own (leb-false own hint w.if-own-h.false), and-true) ]
+      elim (c.if-h-lt1.branch) [
+        | then-h-lt1 w ↦ w.fits-is ∙ sym (⊎_elim
+            (λ v. simp (lt-leb 1 hint v, and-false))
+            (λ v. simp (le-ltb hint own v.1, and-false))
+            w.then-h-lt1.either)
+        | else-h-lt1+else-own-h w ↦ w.fits-is ∙ simp (le-leb 1 hint w.if-h-lt1.false, lt-ltb hint own w.if-own-h.false, and-true)
+      ]
 
 loop-again : tie.Need-loop-i-preserved invariant-loop decreases-loop
 loop-again c =

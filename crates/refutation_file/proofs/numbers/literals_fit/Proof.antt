@@ -1,7 +1,6 @@
 -- `numbers::literals_fit` meets its contract. The loop's invariant: all literals fit exactly where those from i on do, above `low`.
 -- Assumes nothing.
 use borrow.Author.Rules.{sfits_of}
-use borrow.Author.Tests.{not-true, not-false}
 use Prim.Native.Nat.{◌+◌, ◌-◌, ◌≤◌}
 use native.Mathlib.Omega.{arith}
 use mathlib.Core.Path.{◌≡◌, refl, sym, ◌∙◌}
@@ -50,7 +49,7 @@ module _ (c : tie.After-literal_fits invariant-loop decreases-loop) where
   turn =
       at-loop.loop-i.invariant
       ∙ rises_next given.args.variables at-loop.loop-i.low at-loop.loop-i.i literals this
-      (to_z-of_z (sfits_of c.literal_at-l.type_inv) ∙ c.literal_at-l.ensures)
+      (to_z-of_z {w = w32} (sfits_of c.literal_at-l.type_inv) ∙ c.literal_at-l.ensures)
       (omega (arith, literals-length given.args.list.now, c.loop-i-test.true))
       ∙ simp (← c.literal_fits.ensures)
 

@@ -19,7 +19,7 @@ add-result c =
     let st = c.before.before in
     omega (arith, step_room st.args.s.now st.args.at st.requires.0 st.requires.1)
 
-part-result-end : tie.Need-slice-bounds-result-end
+part-result-end : tie.Need-slice_bounds-result-end
 part-result-end c =
     let st = c.before.before in
     omega (arith, step_room st.args.s.now st.args.at st.requires.0 st.requires.1)

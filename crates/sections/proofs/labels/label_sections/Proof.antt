@@ -4,7 +4,6 @@ use borrow.Author.Rules.{rules}
 use borrow.Author.Tests.{eq-eqb, ne_eqb}
 use native.Mathlib.Omega.{arith}
 use mathlib.Core.Path.{◌≡◌, sym, ◌∙◌}
-use mathlib.Core.Logic.{⊎_elim}
 use mathlib.Core.Bool.{Bool}
 use mathlib.Core.List.{List}
 use Prim.Native.Nat.{ℕ, ◌+◌, ◌-◌, ◌≤◌, ◌<◌}
@@ -15,6 +14,7 @@ use Rattle.laws.proofs.Tests.{from-true, from-denied}
 use Rattle.sections.proofs.Labelled.{Labelled, labelled-start, labelled-meets, labelled-border, labelled-open, labelled-end}
 use Rattle.sections.proofs.labels.label_sections.Statement.{statement}
 use Rattle.sections.proofs.labels.label_sections.Tie as tie
+use Rattle.sections.proofs.labels.label_sections.Lts.{then-borders-node-ne1, else-borders-node-ne1}
 
 abbrev invariant-loop : tie.invariant-loop-at
 invariant-loop b meets borders labels₀ end at₀ labels at = (at ≤ end) × Labelled b (borders_of borders) meets at labels₀ labels
@@ -80,18 +80,19 @@ module _ (c : tie.Joined-borders-node-ne1 invariant-loop decreases-loop) where
   node-is x e = rw (← c.wide-node.ensures.0) e
 
   turn : Labelled start.args.b (borders_of start.args.borders.now) (meets inside) (at inside + 3)
-      inside.number_labels.last.0 c.if-borders-node-ne1.labels
+      inside.number_labels.new.labels c.if-borders-node-ne1.labels
   turn =
       let i = inside.loop-at.invariant.1 in
       let t = inside.loop-at-test.true in
-      ⊎_elim
-      (λ w.
-      labelled-open start.args.b start.requires.0 _ _ start.requires.1 (at inside) _ _ i t
-      (from-denied (node-is _ (ne_eqb _ _ w.0.true))) _ _ _ w.3.ensures.0 w.5.ensures.0 (w.9 ∙ w.6.ensures))
-      (λ w.
-      labelled-border start.args.b start.requires.0 _ _ start.requires.1 (at inside) _ _ i t
-      (from-true (node-is _ (eq-eqb _ _ w.0.left))) _ w.1)
-      c.if-borders-node-ne1.branch
+      elim (c.if-borders-node-ne1.branch) [
+        | then-borders-node-ne1 w ↦
+            labelled-open start.args.b start.requires.0 _ _ start.requires.1 (at inside) _ _ i t
+            (from-denied (node-is _ (ne_eqb _ _ w.if-borders-node-ne1.true))) _ _ _ w.wide.ensures.0
+            w.wide-then-borders-node-ne1.ensures.0 (w.labels-is ∙ w.join.ensures)
+        | else-borders-node-ne1 w ↦
+            labelled-border start.args.b start.requires.0 _ _ start.requires.1 (at inside) _ _ i t
+            (from-true (node-is _ (eq-eqb _ _ w.if-borders-node-ne1.false))) _ w.labels-is
+      ]
 
 same_length : tie.Need-shape_of-labels invariant-loop decreases-loop
 same_length c =

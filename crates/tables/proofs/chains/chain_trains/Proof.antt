@@ -30,6 +30,10 @@ loop-holds : tie.Need-loop-i-init invariant-loop decreases-loop
 unfolding filled
 loop-holds c = (omega arith, c.requires.1, refl)
 
+-- a turn, before its number is read
+few-unread : (c : tie.In-loop-i-unread invariant-loop decreases-loop) → c.loop-i.i < 8
+few-unread c = omega (arith, c.loop-i-test.true, c.requires.0.counted.passed.packed.counts.trains)
+
 -- a turn
 module _ (c : tie.In-loop-i invariant-loop decreases-loop) where
   abbrev start : tie.Start invariant-loop decreases-loop
@@ -67,7 +71,7 @@ loop-again c =
     let t = f.before.before.before in
     let v = t.loop-i.invariant in (
       omega (arith, t.loop-i-test.true),
-      length-next train_chains (i t) t.loop-i.chains f.chain_train.new.1.1.1.1.0 f.chain_train.auto.1.1.1.1.0
+      length-next train_chains (i t) t.loop-i.chains f.chain_train.new.chains f.chain_train.auto.chains
           ∙ v.1,
       filled_next (turned (start t).args.b) train_chains (i t) _ _ _ (chains-fit t) v.2 f.chain_train.ensures,
     )
@@ -84,10 +88,10 @@ chain_trains_spec =
     invariant-loop
     decreases-loop
     loop-holds
-    (λ c. omega (arith, few c))
-    (λ c. omega (arith, few c))
-    (λ c. omega (arith, few c))
-    (λ c. omega (arith, few c))
+    (λ c. omega (arith, few-unread c))
+    (λ c. omega (arith, few-unread c))
+    (λ c. omega (arith, few-unread c))
+    (λ c. omega (arith, few-unread c))
     (λ c. omega (arith, few c))
     (λ c. omega (arith, few c))
     (λ c. omega (arith, runs_fit c))

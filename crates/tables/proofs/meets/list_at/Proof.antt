@@ -3,7 +3,6 @@
 use borrow.Author.Rules.{rules}
 use native.Mathlib.Omega.{arith}
 use mathlib.Core.Path.{◌≡◌, sym, ap, ◌∙◌}
-use mathlib.Core.Logic.{⊎_elim}
 use Prim.Native.Nat.{ℕ, ◌+◌, ◌*◌, ◌-◌, ◌≤◌}
 use lib.ListN.{length}
 use Rattle.spec.specs.Book.{Segment, touches}
@@ -14,6 +13,7 @@ use Rattle.network.proofs.Walks.{length-of-map}
 use Rattle.tables.specs.Meets.{meets_of}
 use Rattle.tables.proofs.MeetRows.{Listed, listed-none, listed_next, listed_same, listed-length, listed-all}
 use Rattle.tables.proofs.MeetRows.{of_none, firsts-most, meets_at_lem}
+use Rattle.tables.proofs.meets.list_at.Lts.{then-touches, else-touches}
 use Rattle.tables.proofs.meets.list_at.Statement.{statement}
 use Rattle.tables.proofs.meets.list_at.Tie as tie
 
@@ -40,13 +40,14 @@ module _ (c : tie.Joined-touches invariant-loop decreases-loop) where
   turn =
       let a = given.args in
       let before = c.loop-s in
-      let place = segment-at a.t1 s c.loop-s-test.true in
-      ⊎_elim
-      (λ w. listed_next _ _ _ before.invariant.2 (w.6 ∙ w.2.ensures.0) (w.5 ∙ w.2.ensures.1))
-      (λ w.
-      let off = ap (λ (x : Segment). touches x a.node) place ∙ sym c.touches.ensures ∙ w.0.left in
-      listed_same _ _ _ before.invariant.2 (of_none (held a.t1) a.node s off) w.2 w.1)
-      c.if-touches.branch
+      let place = segment-at a.b s c.loop-s-test.true in
+      elim c.if-touches.branch [
+        | then-touches w ↦
+            listed_next _ _ _ before.invariant.2 (w.end-is ∙ w.list_of-end.ensures.0) (w.table-is ∙ w.list_of-end.ensures.1)
+        | else-touches w ↦
+            let off = ap (λ (x : Segment). touches x a.node) place ∙ sym c.touches.ensures ∙ w.if-touches.false in
+            listed_same _ _ _ before.invariant.2 (of_none (held a.b) a.node s off) w.end-is w.table-is
+      ]
 
 loop-again : tie.Need-loop-s-preserved invariant-loop decreases-loop
 loop-again c =

@@ -3,7 +3,6 @@
 use borrow.Author.Rules.{rules}
 use native.Mathlib.Omega.{arith}
 use mathlib.Core.Path.{◌≡◌, ap, ◌∙◌}
-use mathlib.Core.Logic.{⊎_elim}
 use Prim.Native.Nat.{ℕ, ◌+◌, ◌*◌, ◌-◌, ◌≤◌}
 use lib.ListN.{length, set}
 use Rattle.spec.specs.Lists.{Bytes}
@@ -12,6 +11,7 @@ use Rattle.network.proofs.Held.{share-at}
 use Rattle.network.proofs.Walks.{length-of-map}
 use Rattle.tables.proofs.MeetRows.{Listed, listed-none, listed_next, listed_same, listed-length, listed-all, stored-three}
 use Rattle.tables.proofs.MeetRows.{pair, pair-listed, pair-none, pairs-most, meets-of}
+use Rattle.tables.proofs.meets.list_of.Lts.{then-meet, else-meet}
 use Rattle.tables.proofs.meets.list_of.Statement.{statement}
 use Rattle.tables.proofs.meets.list_of.Tie as tie
 
@@ -38,31 +38,32 @@ module _ (c : tie.Joined-meet invariant-loop decreases-loop) where
       let a = given.args in
       let before = c.loop-u in
       let room = c.loop-u-test.true in
-      let flag = share-at a.t1 a.node a.s u given.requires.2 room c.meet.ensures in
-      ⊎_elim
-      (λ w.
-      let row = pair-listed (held a.t1) a.node a.s u flag w.0.true in
-      let first = w.2.ensures in
-      let second = w.6.ensures ∙ ap (λ (t : Bytes). set t (before.end + 1) a.s) first in
-      let third = w.10.ensures ∙ ap (λ (t : Bytes). set t (before.end + 2) u) second in
-      listed_next _ _ _ before.invariant.2 (rw row w.14)
-      (rw row (w.13 ∙ third ∙ stored-three before.table before.end a.node a.s u)))
-      (λ w. listed_same _ _ _ before.invariant.2 (pair-none (held a.t1) a.node a.s u flag w.0.left) w.2 w.1)
-      c.if-meet.branch
+      let flag = share-at a.b a.node a.s u given.requires.2 room c.meet.ensures in
+      elim c.if-meet.branch [
+        | then-meet w ↦
+            let row = pair-listed (held a.b) a.node a.s u flag w.if-meet.true in
+            let first = w.store_byte.ensures in
+            let second = w.store_byte-then-meet.ensures ∙ ap (λ (t : Bytes). set t (before.end + 1) a.s) first in
+            let third = w.store_byte-then-meet-2.ensures ∙ ap (λ (t : Bytes). set t (before.end + 2) u) second in
+            listed_next _ _ _ before.invariant.2 (rw row w.end-is)
+            (rw row (w.table-is ∙ third ∙ stored-three before.table before.end a.node a.s u))
+        | else-meet w ↦
+            listed_same _ _ _ before.invariant.2 (pair-none (held a.b) a.node a.s u flag w.if-meet.false) w.end-is w.table-is
+      ]
 
 loop-again : tie.Need-loop-u-preserved invariant-loop decreases-loop
 loop-again c =
     let a = (given c).args in
     let l = turn c in
-    (omega arith, omega (arith, l.ends, pairs-most (held a.t1) a.node a.s (u c + 1)), l)
+    (omega arith, omega (arith, l.ends, pairs-most (held a.b) a.node a.s (u c + 1)), l)
 
 returns : tie.Need-returns invariant-loop decreases-loop
 returns c =
     let k = c.before in
     let g = k.before.before.before in
     let a = g.args in
-    let done : k.loop-u.u ≡ a.t1.segment_count = omega arith in
-    listed-all _ _ _ k.loop-u.invariant.2 done (meets-of a.t1 g.requires.0 (full g) a.node a.s)
+    let done : k.loop-u.u ≡ a.b.segment_count = omega arith in
+    listed-all _ _ _ k.loop-u.invariant.2 done (meets-of a.b g.requires.0 (full g) a.node a.s)
 
 pub list_of_spec : {M : Type 1} → statement M
 list_of_spec =

@@ -10,34 +10,27 @@ use Rattle.tables.proofs.preparing.prepare_chains.Tie as tie
 
 -- an accepted book
 module _ (c : tie.In-Accepted) where
-  abbrev prepared : tie.After-prepare-p
-  prepared = c.before.before.before.before.before.before.before.before.before
-
-  abbrev start : tie.Start
-  start = prepared.before.before.before.before.before.before.before
-
   abbrev p : Prepared
-  p = prepared.prepare-p.result
+  p = c.prepare-p.result
 
-  runs-are : RunsReady p.read.book p.read.counts prepared.prepare-p.last.1.0
-  runs-are = (prepared.prepare-p.ensures.1 c.in-Accepted.is).0
+  runs-are : RunsReady p.read.book p.read.counts c.prepare-p.new.runs
+  runs-are = (c.prepare-p.ensures.1 c.in-Accepted.is).0
 
 returns : tie.Need-returns-in-Refused
 returns c =
-    let p = c.before.before.before.before.before.before.before.before.before in
-    let e = p.prepare-p.ensures in
+    let e = c.prepare-p.ensures in
     let refused = c.in-Refused.is in
     (e.0, e.1, never-accepted refused, e.2, never-accepted refused, e.3, e.4, λ n d _. refl)
 
 returns-2 : tie.Need-returns-in-Accepted
 returns-2 c =
     let f = c.before.before in
-    let a = f.before.before.before in
-    let e = (prepared a).prepare-p.ensures in (
+    let a = f.before.before in
+    let e = a.prepare-p.ensures in (
       e.0,
       e.1,
       λ _.
-          chains-ready (p a).read.book (runs-are a).counted.passed (start a).args.chains.now (start a).requires.1
+          chains-ready (p a).read.book (runs-are a).counted.passed a.args.chains.now a.requires.1
           f.chain_trains.ensures,
       e.2,
       λ _. f.chain_trains.ensures,
@@ -53,11 +46,11 @@ prepare_chains_spec =
     (λ c κs. let q = c.requires in (q.0, q.2))
     (λ c. search rules)
     (λ c. search rules)
-    (λ c κs. let a = c.before.before in (runs-are a, (start a).requires.1))
-    (λ c. c.prepare-p.auto.1.0)
-    (λ c. c.prepare-p.auto.1.1.0)
+    (λ c κs. (runs-are c.before, c.requires.1))
+    (λ c. c.prepare-p.auto.runs)
+    (λ c. c.prepare-p.auto.meets)
     returns
-    (λ c. (prepared c.before.before.before.before.before).prepare-p.kept.1.0)
-    (λ c. c.chain_trains.auto.1.1.1.0)
-    (λ c. (prepared c.before.before.before.before.before).prepare-p.kept.1.1.0)
+    (λ c. c.prepare-p.auto.runs)
+    (λ c. c.chain_trains.auto.chains)
+    (λ c. c.prepare-p.auto.meets)
     returns-2)
