@@ -1,6 +1,6 @@
 -- What a cap leaves as it is, and what its counter adds. Assumes nothing.
-use mathlib.Core.Path.{◌≡◌, refl, sym, ap, ap₂, ◌∙◌}
-use mathlib.Core.Option.{Option, none, some}
+use mathlib.Core.Path.{◌≡◌, refl, ap}
+use mathlib.Core.Option.{Option}
 use Prim.Native.Nat.{ℕ, ◌+◌, ◌*◌, ◌≤◌}
 use native.Mathlib.Nat.{mul-le-mul}
 use native.Mathlib.Omega.{arith}
@@ -9,7 +9,7 @@ use mathlib.Core.List.{List, [], ◌∷◌, ◌++◌}
 use lib.ListN.{length}
 use Rattle.spec.specs.Lists.{pick, only, one}
 use Rattle.spec.specs.Instance.{Instance, under, is_free, free_nodes_of}
-use Rattle.spec.specs.Cap.{Counter, counter_for, counter_of, cap_variables}
+use Rattle.spec.specs.Cap.{counter_for, counter_of, cap_variables}
 use Rattle.spec.specs.Formula.{width, first_var, own_variables, variables}
 
 module _ (cap : Option ℕ) (I : Instance) where

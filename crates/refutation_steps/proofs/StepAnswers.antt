@@ -1,15 +1,15 @@
 -- The answer to a whole step, from what the tests of its lists of numbers give, and what a proved step leaves. The number of clauses
 -- before it and their words are those that `Ready` counts. Assumes nothing.
 use mathlib.Core.Path.{◌≡◌, sym, ap, ◌∙◌}
-use mathlib.Core.Bool.{Bool, true, false, not, ◌&&◌}
+use mathlib.Core.Bool.{Bool, true, false, ◌&&◌}
 use mathlib.Core.List.{List, ◌++◌}
 use Prim.Native.Nat.{ℕ, ◌+◌, ◌-◌, ◌≤◌, ◌<◌}
 use native.Mathlib.Omega.{arith}
 use lib.ListN.{length, take, set, length-set}
 use lib.Seq.{sets, length-sets, length-take-le}
 use lib.IntN.{ℤ, pos}
-use lib.Dec.{leb, eqb}
-use borrow.Author.Tests.{le-leb, lt-leb, eqb-true, eqb-false, not-true, not-false}
+use lib.Dec.{leb}
+use borrow.Author.Tests.{le-leb, lt-leb}
 use Rattle.laws.proofs.Tests.{and-false, from-true}
 use Rattle.spec.specs.Lists.{Bytes, one}
 use Rattle.spec.specs.Frames.{payload_of}
@@ -97,13 +97,13 @@ module _ {filled : Extent} {n h : ℕ} {words : List ℤ} {starts : List ℕ} {v
   -- ---- the answers
 
   -- 18
-  pub refused-18 : {r : Bool} → r ≡ literals_fit (length values) (literals_in ls) → not r ≡ true → Answer (Refused 18)
-  refused-18 e t = literals-bad _ _ _ _ s whole_is (fits-as ∙ sym e ∙ not-true _ t)
+  pub refused-18 : {r : Bool} → r ≡ literals_fit (length values) (literals_in ls) → r ≡ false → Answer (Refused 18)
+  refused-18 e t = literals-bad _ _ _ _ s whole_is (fits-as ∙ sym e ∙ t)
 
   module _ (fit : literals_fit (length values) (literals_in ls) ≡ true) where
     -- 19
-    pub refused-19 : {r : Bool} → r ≡ hints_fit (filled.clauses + 1) (numbers_in hs) → not r ≡ true → Answer (Refused 19)
-    refused-19 e t = hints-bad _ _ _ _ s whole_is (fits-as ∙ fit) (known_as ∙ sym e ∙ not-true _ t)
+    pub refused-19 : {r : Bool} → r ≡ hints_fit (filled.clauses + 1) (numbers_in hs) → r ≡ false → Answer (Refused 19)
+    refused-19 e t = hints-bad _ _ _ _ s whole_is (fits-as ∙ fit) (known_as ∙ sym e ∙ t)
 
     module _ (known : hints_fit (filled.clauses + 1) (numbers_in hs) ≡ true) where
       refused-12 : (leb (filled.words + (n + 1)) (length words) && leb (filled.clauses + 1) (length starts)) ≡ false → Answer (Refused 12)
@@ -114,21 +114,19 @@ module _ {filled : Extent} {n h : ℕ} {words : List ℤ} {starts : List ℕ} {v
       few_words e = refused-12 (simp (lt-leb (filled.words + (n + 1)) (length words) (omega (arith, given.ready.words_room))))
 
       -- 12, for want of an entry
-      pub no-entry : eqb (length starts) filled.clauses ≡ true → Answer (Refused 12)
-      no-entry e =
-          let full = eqb-true (length starts) filled.clauses e in
-          refused-12 (simp (lt-leb (filled.clauses + 1) (length starts) (omega (arith, full)), and-false))
+      pub no-entry : length starts ≡ filled.clauses → Answer (Refused 12)
+      no-entry e = refused-12 (simp (lt-leb (filled.clauses + 1) (length starts) (omega arith), and-false))
 
   -- where there is room for the words
   pub words-room : n < length words - filled.words → filled.words + (number_count ls + 1) ≤ length words
   words-room w = omega (arith, in_list)
 
   -- and for the entry
-  pub entry-room : eqb (length starts) filled.clauses ≡ false → filled.clauses < length starts
-  entry-room e = omega (arith, given.ready.starts_room, eqb-false (length starts) filled.clauses e)
+  pub entry-room : (length starts ≡ filled.clauses → ⊥) → filled.clauses < length starts
+  entry-room e = omega (arith, given.ready.starts_room, e)
 
   module _ (fit : literals_fit (length values) (literals_in ls) ≡ true) (known : hints_fit (filled.clauses + 1) (numbers_in hs) ≡ true)
-      (w : n < length words - filled.words) (e : eqb (length starts) filled.clauses ≡ false) where
+      (w : n < length words - filled.words) (e : length starts ≡ filled.clauses → ⊥) where
     fitting : clauses_fit (lent_by (length words) (length starts)) (before ++ one step.literals) ≡ true
     fitting = room_as ∙ simp (
       le-leb (filled.words + (n + 1)) (length words) (omega arith),
@@ -136,11 +134,11 @@ module _ {filled : Extent} {n h : ℕ} {words : List ℤ} {starts : List ℕ} {v
     )
 
     -- 20
-    pub refused-20 : {r : Bool} → r ≡ ruled → not r ≡ true → Answer (Refused 20)
-    refused-20 a t = rule-broken _ _ _ _ s whole_is (fits-as ∙ fit) (known_as ∙ known) fitting (rule-as ∙ sym a ∙ not-true _ t)
+    pub refused-20 : {r : Bool} → r ≡ ruled → r ≡ false → Answer (Refused 20)
+    refused-20 a t = rule-broken _ _ _ _ s whole_is (fits-as ∙ fit) (known_as ∙ known) fitting (rule-as ∙ sym a ∙ t)
 
     -- no fault: the answer, and what the step leaves
-    pub step-proved : {r : Bool} {words' : List ℤ} {starts' : List ℕ} {values' : Bytes} {trail' : List ℕ} → r ≡ ruled → not r ≡ false
+    pub step-proved : {r : Bool} {words' : List ℤ} {starts' : List ℕ} {values' : Bytes} {trail' : List ℕ} → r ≡ ruled → r ≡ true
         → words' ≡ sets words filled.words (literals_in ls ++ one (pos 0)) → starts' ≡ set starts filled.clauses filled.words
         → values' ≡ values → length trail' ≡ length trail → LeftOnTrail (length values) trail trail'
         → Answer (Proved n h) × Leaves (Proved n h) s filled words starts values trail words' starts' values' trail'
@@ -151,7 +149,7 @@ module _ {filled : Extent} {n h : ℕ} {words : List ℤ} {starts : List ℕ} {v
         (from-true (fits-as ∙ fit)) (omega (arith, in_step)) (entry-room e)
         stored' entered) in (
           sym (λ i. Proved ((whole-step s given.whole).1 i) ((whole-step s given.whole).2 i))
-              ∙ proved _ _ _ _ s whole_is (fits-as ∙ fit) (known_as ∙ known) fitting (rule-as ∙ sym a ∙ not-false _ t),
+              ∙ proved _ _ _ _ s whole_is (fits-as ∙ fit) (known_as ∙ known) fitting (rule-as ∙ sym a ∙ t),
           (
             record {
               words_room = omega (arith, ap length stored, length-sets words filled.words (literals_in ls ++ one (pos 0)));

@@ -24,16 +24,16 @@ module _ (c : tie.After-prepare-p) where
 -- the book is accepted
 module _ (c : tie.In-Accepted) where
   abbrev prepared : tie.After-prepare-p
-  prepared = c.before.before.before.before.before.before.before
+  prepared = c.before.before.before.before.before.before
 
-  ready : TablesReady prepared.prepare-p.result prepared.prepare-p.last.1.0 prepared.prepare-p.last.1.1.0
+  ready : TablesReady prepared.prepare-p.result prepared.prepare-p.new.runs prepared.prepare-p.new.meets
   ready = prepared.prepare-p.ensures.1 c.in-Accepted.is
 
 returns : tie.Need-returns-in-Refused
 unfolding list_carriers carriers_output
 returns c =
-    let r = c.before.before.before.before.before.before.before.before in
-    left-stopped _ (stopped _ _ r.prepare-p.ensures.0 (onward r) c.answer-1.given.1)
+    let r = c.before.before.before.before.before.before in
+    left-stopped _ (stopped _ _ r.prepare-p.ensures.0 (onward r) c.in-Refused.is)
 
 returns-2 : tie.Need-returns-in-Accepted
 unfolding list_carriers carriers_output

@@ -27,9 +27,9 @@ module _ (c : tie.After-prepare_chains-p) where
 -- the book is accepted
 module _ (c : tie.In-Accepted) where
   abbrev prepared : tie.After-prepare_chains-p
-  prepared = c.before.before.before.before.before.before.before.before
+  prepared = c.before.before.before.before.before.before.before
 
-  ready : TablesReady prepared.prepare_chains-p.result prepared.prepare_chains-p.last.1.0 prepared.prepare_chains-p.last.1.1.1.0
+  ready : TablesReady prepared.prepare_chains-p.result prepared.prepare_chains-p.new.runs prepared.prepare_chains-p.new.meets
   ready = prepared.prepare_chains-p.ensures.1 c.in-Accepted.is
 
 judge-assignment-requires : tie.Need-judge_assignment-requires
@@ -38,8 +38,8 @@ judge-assignment-requires c κs = let a = c.before.before.before in ((ready a).0
 returns : tie.Need-returns-in-Refused
 unfolding check_assignment read_under and_then
 returns c =
-    let r = c.before.before.before.before.before.before.before.before.before in
-    ap (λ (v : Verdict Instance). answer_of (and_then v (onward r))) (sym (stopped _ _ r.prepare_chains-p.ensures.0 (capped r) c.answer-1.given.1))
+    let r = c.before.before.before.before.before.before.before in
+    ap (λ (v : Verdict Instance). answer_of (and_then v (onward r))) (sym (stopped _ _ r.prepare_chains-p.ensures.0 (capped r) c.in-Refused.is))
 
 returns-2 : tie.Need-returns-in-Accepted
 unfolding check_assignment read_under and_then

@@ -1,6 +1,5 @@
 -- `checking::encode_by` meets its contract: room and the judgement, then the cap, then the assignment. Assumes nothing.
 use borrow.Author.Rules.{rules}
-use borrow.Author.Tests.{not-true, not-false}
 use native.Mathlib.Omega.{arith}
 use mathlib.Core.Path.{◌≡◌, sym, ap, ◌∙◌}
 use mathlib.Core.Option.{Option}
@@ -59,7 +58,7 @@ module _ (a : tie.After-admit_plan-admitted) where
 -- it is accepted
 module _ (c : tie.In-Accepted) where
   abbrev asked : tie.After-admit_plan-admitted
-  asked = c.before.before
+  asked = c.before
 
   accepts : Accepted ≡ answer_of (admit_plan (I asked) (plan asked) (variables (I asked)) (room asked))
   accepts = sym c.in-Accepted.is ∙ answered asked
@@ -83,8 +82,8 @@ returns c = let w = c.before in encoded-over _ _ _ (accepts w.before) (within w 
 
 returns-2 : tie.Need-returns-in-Refused
 returns-2 c =
-    let a = c.before.before.before in
-    encoded-refused _ _ _ (sym c.admitted-1.given.1 ∙ answered a)
+    let a = c.before in
+    encoded-refused _ _ _ (sym c.in-Refused.is ∙ answered a)
 
 write-plan-requires : tie.Need-write_plan-requires
 write-plan-requires c κs =

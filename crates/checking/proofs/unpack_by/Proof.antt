@@ -34,13 +34,13 @@ room c = omega (arith, c.if-out-length.false, need c.before)
 
 returns-2 : tie.Need-returns-in-Refused
 returns-2 c =
-    let j = c.before.before.before in
-    unpacked-refused _ _ _ (room j.before) (sym c.judged-1.given.1 ∙ j.judge_assignment-judged.ensures)
+    let j = c.before in
+    unpacked-refused _ _ _ (room j.before) (sym c.in-Refused.is ∙ j.judge_assignment-judged.ensures)
 
 returns-3 : tie.Need-returns-in-Accepted
 returns-3 c =
     let d = c.before.before.before in
-    let e = d.before.before.before.before in
+    let e = d.before.before.before in
     unpacked-accepted _ _ _ (room e) (sym d.in-Accepted.is ∙ d.judge_assignment-judged.ensures)
     (need e.before ∙ sym (length-decode _ _)) (c.decode.ensures
     ∙ ap (overwrite (start e.before).args.out.now)
@@ -56,7 +56,7 @@ unpack_by_spec =
     (λ c. search rules)
     (λ c. search rules)
     (λ c κs.
-    let e = c.before.before.before.before in
+    let e = c.before.before.before in
     ((start e.before).requires.0.counted, omega (arith, room e, length-same (cap e.before) (own e.before))))
     returns-2
     (λ c. search rules)

@@ -28,9 +28,9 @@ module _ (c : tie.After-prepare_chains-p) where
 -- the book is accepted
 module _ (c : tie.In-Accepted) where
   abbrev prepared : tie.After-prepare_chains-p
-  prepared = c.before.before.before.before.before.before.before.before
+  prepared = c.before.before.before.before.before.before.before
 
-  ready : TablesReady prepared.prepare_chains-p.result prepared.prepare_chains-p.last.1.0 prepared.prepare_chains-p.last.1.1.1.0
+  ready : TablesReady prepared.prepare_chains-p.result prepared.prepare_chains-p.new.runs prepared.prepare_chains-p.new.meets
   ready = prepared.prepare_chains-p.ensures.1 c.in-Accepted.is
 
 unpack-by-requires : tie.Need-unpack_by-requires
@@ -39,8 +39,8 @@ unpack-by-requires c κs = let a = c.before.before.before.before in ((ready a).0
 returns : tie.Need-returns-in-Refused
 unfolding unpack_plan plan_output read_under and_then
 returns c =
-    let r = c.before.before.before.before.before.before.before.before.before in
-    left-stopped _ (ap (λ (v : Verdict Instance). and_then v (onward r)) (stopped _ _ r.prepare_chains-p.ensures.0 (capped r) c.answer-1.given.1))
+    let r = c.before.before.before.before.before.before.before in
+    left-stopped _ (ap (λ (v : Verdict Instance). and_then v (onward r)) (stopped _ _ r.prepare_chains-p.ensures.0 (capped r) c.in-Refused.is))
 
 returns-2 : tie.Need-returns-in-Accepted
 unfolding unpack_plan plan_output read_under and_then

@@ -26,11 +26,11 @@ returns c =
 returns-2 : tie.Need-returns-in-AtMost
 unfolding allows plan_of
 returns-2 c =
-    let k = c.before.before in
+    let k = c.before in
     let a = k.args in
     let I = instance_of (held a.b) in
-    ap (λ (n : ℕ). leb n k.cap-1.given.0.0) c.count_set.ensures
-    ∙ told (set_count I (borders_of a.plan.now)) k.cap-1.given.1
+    ap (λ (n : ℕ). leb n k.in-AtMost.most) c.count_set.ensures
+    ∙ told (set_count I (borders_of a.plan.now)) k.in-AtMost.is
     ∙ sym (within-is (held_cap a.cap) I (plan_of I a.plan.now))
 
 pub within_cap_spec : {M : Type 1} → statement M

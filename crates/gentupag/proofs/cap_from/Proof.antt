@@ -1,8 +1,7 @@
 -- `gentupag::cap_from` meets its contract: no cap where the first number is 0. Assumes nothing.
-use borrow.Author.Rules.{rules}
 use native.Mathlib.Omega.{arith}
 use mathlib.Core.Path.{◌≡◌, refl, sym, ap}
-use mathlib.Core.Option.{Option, some}
+use mathlib.Core.Option.{some}
 use Prim.Native.Nat.{ℕ, zero, suc, ◌<◌}
 use Rattle.gentupag.specs.Answers.{cap_asked}
 use Rattle.gentupag.proofs.cap_from.Statement.{statement}

@@ -11,5 +11,5 @@ output_from_spec =
     (tie.spec
     (λ c. search rules)
     (λ c. search rules)
-    (λ c. sym (ap output_shown c.answer-1.given.1))
-    (λ c. sym (ap output_shown c.answer-in-Refused-1.given.1)))
+    (λ c. sym (ap output_shown c.in-Wrote.is))
+    (λ c. sym (ap output_shown c.in-Refused.is)))

@@ -12,4 +12,4 @@ verdict_from_spec =
     (λ c. search rules)
     (λ c. search rules)
     (λ c. sym (ap verdict_shown c.in-Accepted.is))
-    (λ c. sym (ap verdict_shown c.answer-1.given.1)))
+    (λ c. sym (ap verdict_shown c.in-Refused.is)))

@@ -42,7 +42,7 @@ module _ (a : tie.After-admit_plan-admitted) where
 -- it is accepted
 module _ (c : tie.In-Accepted) where
   abbrev asked : tie.After-admit_plan-admitted
-  asked = c.before.before
+  asked = c.before
 
   accepts : Accepted ≡ answer_of (admit_plan (I asked) (start asked).args.plan.now (page_bytes (I asked)) (room asked))
   accepts = sym c.in-Accepted.is ∙ answered asked
@@ -57,8 +57,8 @@ put-page-requires c κs =
 returns : tie.Need-returns-in-Refused
 unfolding page_for
 returns c =
-    let a = c.before.before.before in
-    left-stopped _ (after-refused _ (start a).args.plan.now _ _ _ (sym c.admitted-1.given.1 ∙ answered a))
+    let a = c.before in
+    left-stopped _ (after-refused _ (start a).args.plan.now _ _ _ (sym c.in-Refused.is ∙ answered a))
 
 returns-2 : tie.Need-returns-in-Accepted
 unfolding page_for

@@ -63,7 +63,7 @@ module _ (c : tie.After-put_pair) where
   abbrev known : tie.After-times_of-times
   known = c.before.before.before
 
-  first : Stored (given known).args.new.now (given known).args.to (little_endian 2 (length (wide known))) c.put_pair.new.0 ((given known).args.to + 2)
+  first : Stored (given known).args.new.now (given known).args.to (little_endian 2 (length (wide known))) c.put_pair.new.buf ((given known).args.to + 2)
   first =
       let e : length (payload known) + known.times_of-times.result.count * 1 ≡ length (wide known) = omega (arith, grown known) in
       stored _ _ _ (ap (λ (k : ℕ). (given known).args.to + k) (sym (length-little_endian 2 _)))
@@ -78,7 +78,7 @@ module _ (c : tie.After-put_pair-2) where
   start = given (known one)
 
   opening : Stored start.args.new.now start.args.to (little_endian 2 (length (wide (known one))) ++ little_endian 2 start.args.kind)
-      c.put_pair-2.new.0 (start.args.to + 4)
+      c.put_pair-2.new.buf (start.args.to + 4)
   opening = stored-behind (first one) (stored _ _ _ (omega (arith, length-little_endian 2 start.args.kind)) c.put_pair-2.ensures)
 
 -- the payload behind both
@@ -89,7 +89,7 @@ module _ (c : tie.After-put_payload) where
   abbrev all : tie.After-times_of-times
   all = known (one two)
 
-  whole : Stored (given all).args.new.now (given all).args.to (frame (given all).args.kind (wide all)) c.put_payload.new.1.1.0
+  whole : Stored (given all).args.new.now (given all).args.to (frame (given all).args.kind (wide all)) c.put_payload.new.new
       ((given all).args.to + 4 + (length (payload all) + all.times_of-times.result.count * 1))
   unfolding frame widened widened_found
   whole =
@@ -97,8 +97,8 @@ module _ (c : tie.After-put_payload) where
       ap (λ (t : Times). widened_at (payload all) t.at t.count) (times-found all)
       ∙ ap (λ (o : Option Kind). widened_found o (payload all)) (sym (given all).requires.1.1) in
       stored-behind (opening two)
-      (stored two.put_pair-2.last.0 ((given all).args.to + 4) (wide all) (omega (arith, grown all))
-      (c.put_payload.ensures ∙ ap (sets two.put_pair-2.last.0 ((given all).args.to + 4)) e))
+      (stored two.put_pair-2.new.buf ((given all).args.to + 4) (wide all) (omega (arith, grown all))
+      (c.put_payload.ensures ∙ ap (sets two.put_pair-2.new.buf ((given all).args.to + 4)) e))
 
 put-pair-requires-2 : tie.Need-put_pair-requires-2
 put-pair-requires-2 c κs =

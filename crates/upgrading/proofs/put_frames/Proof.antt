@@ -42,7 +42,7 @@ module _ (c : tie.In-Cut invariant-loop decreases-loop) where
 -- a whole frame
 module _ (c : tie.In-Whole invariant-loop decreases-loop) where
   abbrev looped : tie.At-loop-at invariant-loop decreases-loop
-  looped = c.before.before.before.before.before
+  looped = c.before.before.before
 
   abbrev start : tie.Start invariant-loop decreases-loop
   start = looped.before.before.before
@@ -50,10 +50,10 @@ module _ (c : tie.In-Whole invariant-loop decreases-loop) where
   inside : looped.loop-at.at < length start.args.old.now
   inside = omega arith
 
-  whole : framed_at (drop looped.loop-at.at start.args.old.now) ≡ Whole c.kind-1.given.0.0 c.kind-1.given.0.1.0
-  whole = sym c.frame_at.ensures.0 ∙ c.kind-1.given.1
+  whole : framed_at (drop looped.loop-at.at start.args.old.now) ≡ Whole c.in-Whole.kind c.in-Whole.len
+  whole = sym c.frame_at.ensures.0 ∙ c.in-Whole.is
 
-  within : looped.loop-at.at + (4 + c.kind-1.given.0.1.0) ≤ length start.args.old.now
+  within : looped.loop-at.at + (4 + c.in-Whole.len) ≤ length start.args.old.now
   within = whole_room start.args.old.now looped.loop-at.at _ _ looped.loop-at.invariant.inside whole
 
 put-frame-requires : tie.Need-put_frame-to-requires invariant-loop decreases-loop

@@ -34,12 +34,12 @@ ahead s = length-take-le _ s.args.p.now (omega (arith, s.requires.0))
 -- it is stored
 module _ (c : tie.After-put_bytes-end invariant-loop decreases-loop) where
   abbrev given : tie.Start invariant-loop decreases-loop
-  given = c.before.before.before.before.before
+  given = c.before.before.before.before
 
   abbrev payload : Bytes
   payload = given.args.p.now
 
-  opened : Stored given.args.new.now given.args.to (take given.args.times.at payload) c.put_bytes-end.new.0 c.put_bytes-end.result
+  opened : Stored given.args.new.now given.args.to (take given.args.times.at payload) c.put_bytes-end.new.buf c.put_bytes-end.result
   opened = stored _ _ _ c.put_bytes-end.ensures.0 c.put_bytes-end.ensures.1
 
 -- and some of the times behind it
@@ -84,7 +84,7 @@ loop-again c =
     )
 
 -- behind the last time: what stands behind the times in the old payload
-module _ (c : tie.After-put-bytes-arg4 invariant-loop decreases-loop) where
+module _ (c : tie.After-put_bytes-arg-3-1 invariant-loop decreases-loop) where
   abbrev done : tie.At-loop-i invariant-loop decreases-loop
   done = c.before.before.before
 
@@ -101,7 +101,7 @@ module _ (c : tie.After-put-bytes-arg4 invariant-loop decreases-loop) where
   length_rest = ap length rest-is ∙ length-drop behind (payload (first done))
 
 put-bytes-requires-2 : tie.Need-put_bytes-requires invariant-loop decreases-loop
-put-bytes-requires-2 c κs = omega (arith, length_rest c, ends (done c), room (done c), (given (first (done c))).requires.0, (given (first (done c))).fits.to)
+put-bytes-requires-2 c κs = omega (arith, length_rest c, ends (done c), room (done c), (given (first (done c))).requires.0, (given (first (done c))).ranges.to.fits)
 
 -- the whole payload
 module _ (c : tie.After-put_bytes invariant-loop decreases-loop) where
@@ -114,7 +114,7 @@ module _ (c : tie.After-put_bytes invariant-loop decreases-loop) where
   abbrev n : ℕ
   n = (given (first looped)).args.times.count
 
-  whole : Stored (given (first looped)).args.new.now (given (first looped)).args.to (widened_at (payload (first looped)) at n) c.put_bytes.new.0
+  whole : Stored (given (first looped)).args.new.now (given (first looped)).args.to (widened_at (payload (first looped)) at n) c.put_bytes.new.buf
       c.put_bytes.result
   unfolding widened_at
   whole =
@@ -133,8 +133,8 @@ put_payload_spec =
     (tie.spec
     invariant-loop
     decreases-loop
-    (λ c. sym (ahead c.before.before.before.before))
-    (λ c κs. let s = c.before.before.before.before in omega (arith, ahead s, s.requires))
+    (λ c. sym (ahead c.before.before.before))
+    (λ c κs. let s = c.before.before.before in omega (arith, ahead s, s.requires))
     (λ c. (omega arith, stored_same (stored-none _ _) (no-times _ _)))
     (λ c. omega arith)
     (λ c. omega arith)

@@ -30,7 +30,7 @@ use Rattle.upgrading.proofs.upgrade_book.Tie as tie
 -- the old book is read
 module _ (c : tie.In-Accepted) where
   abbrev read : tie.After-read_as-read
-  read = c.before.before.before.before
+  read = c.before.before.before
 
   abbrev start : tie.Start
   start = read.before.before.before.before
@@ -74,11 +74,11 @@ returns c =
 returns-2 : tie.Need-returns-in-Refused
 unfolding upgrade_output
 returns-2 c =
-    let r = c.before.before.before.before.before in
+    let r = c.before.before.before in
     let s = r.before.before.before.before in
     left-stopped s.args.new.now
     ((upgrade-refused s.args.old.now (length s.args.new.now) _ _).1
-    (inl (refused-by r.read_as-read.result (read_as old_format s.args.old.now) r.read_as-read.ensures.0 c.answer-1.given.1)))
+    (inl (refused-by r.read_as-read.result (read_as old_format s.args.old.now) r.read_as-read.ensures.0 c.in-Refused.is)))
 
 returns-3 : tie.Need-returns-else-new-n
 unfolding upgrade_output

@@ -14,37 +14,28 @@ use Rattle.writing.proofs.write_formula.Statement.{statement}
 use Rattle.writing.proofs.write_formula.Tie as tie
 
 -- the book is accepted
-module _ (c : tie.In-Accepted) where
-  abbrev prepared : tie.After-prepare_chains-p
-  prepared = c.before.before.before.before.before.before.before.before
-
-  ready : TablesReady prepared.prepare_chains-p.result prepared.prepare_chains-p.last.1.0 prepared.prepare_chains-p.last.1.1.1.0
-  ready = prepared.prepare_chains-p.ensures.1 c.in-Accepted.is
+ready : (c : tie.In-Accepted) → TablesReady c.prepare_chains-p.result c.prepare_chains-p.new.runs c.prepare_chains-p.new.meets
+ready c = c.prepare_chains-p.ensures.1 c.in-Accepted.is
 
 write-by-requires : tie.Need-write_by-requires
 write-by-requires c κs =
-    let a = c.before.before.before.before in
-    ((ready a).0, (prepared a).prepare_chains-p.ensures.2 a.in-Accepted.is, (ready a).2)
+    let r = ready c.before.before.before.before in
+    (r.0, c.prepare_chains-p.ensures.2 c.in-Accepted.is, r.2)
 
 returns : tie.Need-returns-in-Refused
 unfolding write_formula formula_output
 returns c =
-    let r = c.before.before.before.before.before.before.before.before.before in
-    let a = r.args in
-    let cap = held_cap a.cap in
-    let old = a.out.now in
-    let k = stopped-under _ _ r.prepare_chains-p.ensures.0 cap (λ I. written_for I (length old)) c.answer-1.given.1 in
+    let cap = held_cap c.args.cap in
+    let old = c.args.out.now in
+    let k = stopped-under _ _ c.prepare_chains-p.ensures.0 cap (λ I. written_for I (length old)) c.in-Refused.is in
     (stopped-answer k, stopped-output old k)
 
 returns-2 : tie.Need-returns-in-Accepted
 unfolding write_formula formula_output
 returns-2 c =
-    let t = c.before.before.before.before.before.before in
-    let r = prepared t in
-    let a = r.args in
-    let cap = held_cap a.cap in
-    let old = a.out.now in
-    let k = went-under _ _ r.prepare_chains-p.ensures.0 t.in-Accepted.is cap (λ I. written_for I (length old)) in
+    let cap = held_cap c.args.cap in
+    let old = c.args.out.now in
+    let k = went-under _ _ c.prepare_chains-p.ensures.0 c.in-Accepted.is cap (λ I. written_for I (length old)) in
     let w = c.write_by.ensures in
     (w.0 ∙ ap formula_answer k, w.1 ∙ ap (words_after old) k)
 

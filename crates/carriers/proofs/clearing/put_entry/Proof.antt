@@ -114,7 +114,7 @@ module _ (c : tie.After-first_pair-pair) where
   args = start (labelled else)
 
   few : args.args.b.train_count ≤ 8
-  few = args.pre.0.counted.passed.packed.counts.trains
+  few = args.requires.0.counted.passed.packed.counts.trains
 
 returns-2 : tie.Need-returns
 returns-2 c =
@@ -142,6 +142,6 @@ put_entry_spec =
     (λ c. let w = c.first_pair-pair.ensures in omega (arith, w.2, w.3, few c.before))
     (λ c. let w = c.first_pair-pair.ensures in omega (arith, w.3, few c.before.before))
     (λ c. search rules)
-    (λ c κs. let s = args c.before.before.before.before in omega (arith, s.requires.4, s.good))
+    (λ c κs. let s = args c.before.before.before.before in omega (arith, s.requires.4))
     (λ c. search rules)
     returns-2)

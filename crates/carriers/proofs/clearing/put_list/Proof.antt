@@ -44,10 +44,10 @@ module _ (c : tie.After-put_bytes) where
   short : length start.args.plan.now ≤ 4192
   short = plan-few start.args.b start.requires.0.counted.passed start.args.plan.now start.requires.2
 
-  long : length c.put_bytes.new.0 ≡ 4192
+  long : length c.put_bytes.new.buf ≡ 4192
   long = ap length c.put_bytes.ensures.1 ∙ length-sets _ 0 start.args.plan.now
 
-  is-copy : take (length start.args.plan.now) c.put_bytes.new.0 ≡ start.args.plan.now
+  is-copy : take (length start.args.plan.now) c.put_bytes.new.buf ≡ start.args.plan.now
   is-copy = copied 4192 start.args.plan.now _ short c.put_bytes.ensures.1
 
 put-carriers-requires : tie.Need-put_carriers-requires

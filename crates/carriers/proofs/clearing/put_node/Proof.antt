@@ -1,7 +1,7 @@
 -- `clearing::put_node` meets its contract: what is judged is the plan with that border cleared, and setting it again leaves the plan as it
 -- was. Assumes nothing.
 use borrow.Author.Rules.{rules}
-use borrow.Author.Tests.{not-true, not-false, eq-eqb, ne_eqb}
+use borrow.Author.Tests.{eq-eqb, ne_eqb}
 use native.Mathlib.Omega.{arith}
 use mathlib.Core.Path.{◌≡◌, refl, sym, ap, ap₂, ◌∙◌}
 use mathlib.Core.Bool.{Bool, true, false, not, ◌&&◌}
@@ -98,7 +98,7 @@ module _ (c : tie.Else-plan-node-ne1) where
 returns-3 : tie.Need-returns
 unfolding plan_of
 returns-3 c =
-    let e = c.before.before.before.before.before in
+    let e = c.before.before.before.before in
     let s = set-start e in
     let p = plan_of (I s) (plan s) in
     let w = rw (cleared-bytes (I s) (plan s) (node s) (known s) (long s), judged (I s) p (node s) (free e) (eq-eqb _ _ (is_one e)))
@@ -115,9 +115,9 @@ put_node_spec =
     (λ c. let s = start c.before.before in omega (arith, known s, long s))
     returns-2
     (λ c. let s = set-start c in omega (arith, known s, long s))
-    (λ c κs. let e = c.before.before in let s = set-start e in
+    (λ c κs. let e = c.before in let s = set-start e in
     (s.requires.0, s.requires.1, cleared-fits (I s) (plan s) (node s) (known s) (long s) s.requires.2, s.requires.3, s.requires.4 (from-true (free e))))
-    (λ c. let s = set-start c.before.before.before.before.before in rw length-set (omega (arith, known s, long s)))
+    (λ c. let s = set-start c.before.before.before.before in rw length-set (omega (arith, known s, long s)))
     (λ c. search rules)
     (λ c. search rules)
     returns-3)

@@ -25,17 +25,17 @@ module _ (c : tie.After-prepare-p) where
 -- the book is accepted
 module _ (c : tie.In-Accepted) where
   abbrev prepared : tie.After-prepare-p
-  prepared = c.before.before.before.before.before.before
+  prepared = c.before.before.before.before.before
 
-  ready : TablesReady prepared.prepare-p.result prepared.prepare-p.last.1.0 prepared.prepare-p.last.1.1.0
+  ready : TablesReady prepared.prepare-p.result prepared.prepare-p.new.runs prepared.prepare-p.new.meets
   ready = prepared.prepare-p.ensures.1 c.in-Accepted.is
 
 returns : tie.Need-returns-in-Refused
 unfolding label_sections labels_output
 returns c =
     let k = c.before.before in
-    let r = k.before.before.before.before.before.before in
-    left-refused _ (stopped _ _ r.prepare-p.ensures.0 (onward r) k.answer-1.given.1) c.refuse.ensures
+    let r = k.before.before.before.before in
+    left-refused _ (stopped _ _ r.prepare-p.ensures.0 (onward r) c.in-Refused.is) c.refuse.ensures
 
 returns-2 : tie.Need-returns-in-Accepted
 unfolding label_sections labels_output

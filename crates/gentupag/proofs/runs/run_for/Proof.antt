@@ -1,9 +1,13 @@
 -- `gentupag::runs::run_for` meets its contract: the train is not there, or its part of the table is lent. Assumes nothing.
 use borrow.Author.Rules.{rules}
 use native.Mathlib.Omega.{arith}
-use Prim.Native.Nat.{◌+◌, ◌*◌, ◌≤◌, ◌<◌}
+use mathlib.Core.List.{List}
+use Prim.Native.Nat.{ℕ, ◌+◌, ◌*◌, ◌≤◌, ◌<◌}
 use lib.ListN.{length}
+use Rattle.model.specs.declared.Book.{Book as BookStruct}
+use Rattle.spec.specs.Lists.{Bytes}
 use Rattle.listing.specs.Listed.{train_bytes}
+use Rattle.tables.specs.Ready.{RunsReady}
 use Rattle.tables.proofs.Here.{runs-lent}
 use Rattle.gentupag.proofs.Shown.{asked-away}
 use Rattle.gentupag.proofs.runs.run_for.Statement.{statement}
@@ -14,23 +18,19 @@ returns c =
     let s = c.before.before.before.before in
     asked-away s.args.b s.requires.counted.passed _ _ c.if-b-train.true c.without_run.ensures
 
--- the train is there
-module _ (c : tie.Else-b-train) where
-  abbrev start : tie.Start
-  start = c.before.before.before
+-- a train that is there, and its part of the table
+module _ {b : BookStruct} {counts : List ℕ} {runs : Bytes} (r : RunsReady b counts runs) {train : ℕ} (there : train < b.train_count) where
+  few : train < 8
+  few = omega (arith, r.counted.passed.packed.counts.trains)
 
-  few : start.args.train < 8
-  few = omega (arith, c.if-b-train.false, start.requires.counted.passed.packed.counts.trains)
-
-  fits : start.args.train * train_bytes + train_bytes ≤ length start.args.runs.now
-  fits = omega (arith, few, start.requires.long)
+  fits : train * train_bytes + train_bytes ≤ length runs
+  fits = omega (arith, few, r.long)
 
 run-among-requires : tie.Need-run_among-requires
 run-among-requires c κs =
-    let e = c.before in
-    let s = start e in
-    let l = e.if-b-train.false in
-    (s.requires.counted.passed, l, s.requires.counted.runs s.args.train l, runs-lent s.args.train l s.requires)
+    let r = c.requires in
+    let l = c.if-b-train.false in
+    (r.counted.passed, l, r.counted.runs c.args.train l, runs-lent c.args.train l r)
 
 pub run_for_spec : {M : Type 1} → statement M
 run_for_spec =
@@ -38,12 +38,12 @@ run_for_spec =
     (tie.spec
     (λ c κs. search rules)
     returns
-    (λ c. omega (arith, few c))
-    (λ c. omega (arith, few c))
-    (λ c. omega (arith, few c))
-    (λ c. omega (arith, few c))
-    (λ c. omega (arith, few c))
-    (λ c. omega (arith, fits c))
-    (λ c. omega (arith, fits c))
+    (λ c. omega (arith, few c.requires c.if-b-train.false))
+    (λ c. omega (arith, few c.requires c.if-b-train.false))
+    (λ c. omega (arith, few c.requires c.if-b-train.false))
+    (λ c. omega (arith, few c.requires c.if-b-train.false))
+    (λ c. omega (arith, few c.requires c.if-b-train.false))
+    (λ c. omega (arith, fits c.requires c.if-b-train.false))
+    (λ c. omega (arith, fits c.requires c.if-b-train.false))
     run-among-requires
     (λ c. search rules))

@@ -10,13 +10,13 @@ use Rattle.gentupag.proofs.runs.run_of.Tie as tie
 
 -- the book is accepted
 abbrev prepared : tie.In-Accepted → tie.After-prepare_runs-read
-prepared c = c.before.before.before.before.before
+prepared c = c.before.before.before.before
 
 returns : tie.Need-returns-in-Refused
 returns c =
     let k = c.before.before in
-    let r = k.before.before.before.before.before in
-    asked-stopped _ _ r.prepare_runs-read.ensures.0 _ _ k.answer-1.given.1 c.without_run.ensures
+    let r = k.before.before.before in
+    asked-stopped _ _ r.prepare_runs-read.ensures.0 _ _ c.in-Refused.is c.without_run.ensures
 
 returns-2 : tie.Need-returns-in-Accepted
 returns-2 c =

@@ -21,18 +21,18 @@ limit r = held_cap r.args.cap
 -- the book is accepted
 module _ (c : tie.In-Accepted) where
   abbrev prepared : tie.After-prepare_chains-p
-  prepared = c.before.before.before.before.before.before.before.before
+  prepared = c.before.before.before.before.before.before.before
 
-  ready : TablesReady prepared.prepare_chains-p.result prepared.prepare_chains-p.last.1.0 prepared.prepare_chains-p.last.1.1.1.0
+  ready : TablesReady prepared.prepare_chains-p.result prepared.prepare_chains-p.new.runs prepared.prepare_chains-p.new.meets
   ready = prepared.prepare_chains-p.ensures.1 c.in-Accepted.is
 
 returns : tie.Need-returns-in-Refused
 unfolding measure_book
 returns c =
     let k = c.before.before in
-    let r = k.before.before.before.before.before.before.before.before in
+    let r = k.before.before.before.before.before.before in
     c.refused_sizes.ensures
-    ∙ ap sizes_answer (sym (stopped-under _ _ r.prepare_chains-p.ensures.0 (limit r) (λ I. accepted (sizes_of I)) k.answer-1.given.1))
+    ∙ ap sizes_answer (sym (stopped-under _ _ r.prepare_chains-p.ensures.0 (limit r) (λ I. accepted (sizes_of I)) c.in-Refused.is))
 
 returns-2 : tie.Need-returns-in-Accepted
 unfolding measure_book

@@ -141,7 +141,7 @@ returns-2 c =
     let o = known e in
     let l = c.before in
     let next : j e + 1 ≡ suc (j e) = omega arith in
-    ap₂ (λ (n m : ℕ). variable_answer (accepted (counted n m))) (listed e l.list_free.new.1.0 l.list_free.ensures.1) next
+    ap₂ (λ (n m : ℕ). variable_answer (accepted (counted n m))) (listed e l.list_free.new.out l.list_free.ensures.1) next
     ∙ answered (count_at (J o) (own o) (given o).args.at (is-own o) (is-most o) (is-spare o) (from o) e.if-c-spare.false)
 
 pub in_counter_spec : {M : Type 1} → statement M

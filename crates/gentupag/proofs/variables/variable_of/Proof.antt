@@ -25,13 +25,13 @@ limit r = held_cap r.args.cap
 
 -- the book is accepted
 abbrev prepared : tie.In-Accepted → tie.After-prepare_runs-read
-prepared c = c.before.before.before.before.before
+prepared c = c.before.before.before.before
 
 returns : tie.Need-returns-in-Refused
 unfolding ask_variable
 returns c =
-    let r = c.before.before.before.before.before.before in
-    ap variable_answer (sym (stopped-under _ _ r.prepare_runs-read.ensures.0 (limit r) (onward r) c.answer-1.given.1))
+    let r = c.before.before.before.before in
+    ap variable_answer (sym (stopped-under _ _ r.prepare_runs-read.ensures.0 (limit r) (onward r) c.in-Refused.is))
 
 returns-2 : tie.Need-returns-in-Accepted
 unfolding ask_variable

@@ -19,19 +19,19 @@ use Rattle.graph.proofs.cells.cell_of.Tie as tie
 -- the move is a run of the train's
 module _ (c : tie.In-Run) where
   abbrev start : tie.Start
-  start = c.before.before.before.before
+  start = c.before.before
 
   abbrev r : ℕ
-  r = c.m-1.given.0.0
+  r = c.in-Run.r
 
   abbrev runs : Bytes
   runs = start.args.runs.now
 
   known : r < (instance_of (held start.args.b)).runs start.args.train
-  known = below start.requires.0 start.requires.1 c.m-1.given.1
+  known = below start.requires.0 start.requires.1 c.in-Run.is
 
   asks : (r < 256) × (length runs ≡ 4352) × (start.args.l ≤ size_at runs r)
-  asks = run-asks start.requires.0 start.requires.1 c.m-1.given.1
+  asks = run-asks start.requires.0 start.requires.1 c.in-Run.is
 
   some : 1 ≤ size_at runs r
   some = run-some start.requires.0 r known
@@ -66,15 +66,15 @@ returns c =
     let k = c.before.before.before.before.before.before.before in
     c.run_cell.ensures
     ∙ ap cell (shown_read k first.ensures size.ensures.0 c.wide-rear.ensures.0 c.wide-front.ensures.0)
-    ∙ told _ _ k.m-1.given.1
+    ∙ told _ _ k.in-Run.is
 
 returns-2 : tie.Need-returns-in-Absent
 unfolding cell shown_move
-returns-2 c = c.marked.ensures ∙ told _ _ c.in-Absent.is
+returns-2 c = c.marked.ensures ∙ told (instance_of (held c.args.b)) c.args.train c.in-Absent.is
 
 returns-3 : tie.Need-returns-in-Gone
 unfolding cell shown_move
-returns-3 c = c.marked-in-Gone.ensures ∙ told _ _ c.in-Gone.is
+returns-3 c = c.marked-in-Gone.ensures ∙ told (instance_of (held c.args.b)) c.args.train c.in-Gone.is
 
 pub cell_of_spec : {M : Type 1} → statement M
 cell_of_spec =

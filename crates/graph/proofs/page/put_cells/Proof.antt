@@ -61,7 +61,7 @@ module _ (c : tie.After-cell_at-cell invariant-loop decreases-loop) where
 put-bytes-requires : tie.Need-put_bytes-end-requires invariant-loop decreases-loop
 put-bytes-requires c κs =
     let a = c.before.before in
-    omega (arith, room (turn a) a.loop-train-test.true, nine a, (given (turn a)).good)
+    omega (arith, room (turn a) a.loop-train-test.true, nine a, (given (turn a)).well_formed)
 
 loop-again : tie.Need-loop-train-preserved invariant-loop decreases-loop
 loop-again c =

@@ -49,7 +49,7 @@ module _ (c : tie.After-head_of-head) where
 put-bytes-requires : tie.Need-put_bytes-from-requires
 put-bytes-requires c κs =
     let h = c.before.before in
-    omega (arith, four h, (asked h).requires.3, (asked h).well-formed)
+    omega (arith, four h, (asked h).requires.3, (asked h).well_formed)
 
 -- the interval is stored
 module _ (c : tie.After-put_bytes-from) where
@@ -59,7 +59,7 @@ module _ (c : tie.After-put_bytes-from) where
   abbrev given : tie.Start
   given = asked head
 
-  opened : Stored given.args.page.now given.args.at (aligned 3 (t given) ++ one blank) c.put_bytes-from.new.0 c.put_bytes-from.result
+  opened : Stored given.args.page.now given.args.at (aligned 3 (t given) ++ one blank) c.put_bytes-from.new.buf c.put_bytes-from.result
   opened = stored_same (stored _ _ head.head_of-head.result c.put_bytes-from.ensures.0 c.put_bytes-from.ensures.1) head.head_of-head.ensures
 
   from : c.put_bytes-from.result ≡ given.args.at + 4
@@ -82,7 +82,7 @@ module _ (c : tie.After-put_cells-end) where
   abbrev body : Bytes
   body = aligned 3 (t start) ++ (blank ∷ cells (I start) (p start) (t start))
 
-  filled : Stored start.args.page.now start.args.at body c.put_cells-end.new.1.1.1.1.1.0 c.put_cells-end.result
+  filled : Stored start.args.page.now start.args.at body c.put_cells-end.new.page c.put_cells-end.result
   filled =
       let long : c.put_cells-end.result ≡ first.put_bytes-from.result + length (cells (I start) (p start) (t start)) =
       c.put_cells-end.ensures.0 ∙ omega (arith, length-cells (I start) (p start) (t start), trains-is start.args.b start.requires.0.counted.passed) in
@@ -108,13 +108,13 @@ module _ (c : tie.After-put_blanks) where
   abbrev rest : Bytes
   rest = replicate (line.args.at + 80 - second.put_cells-end.result) blank
 
-  padded-out : Stored line.args.page.now line.args.at (body second ++ rest) c.put_blanks.new.0 (line.args.at + 80)
+  padded-out : Stored line.args.page.now line.args.at (body second ++ rest) c.put_blanks.new.page (line.args.at + 80)
   padded-out =
       let k = line.args.at + 80 - second.put_cells-end.result in
       stored-behind (filled second)
       (stored _ _ rest (omega (arith, fits second, length-replicate {A = ℕ} k blank)) c.put_blanks.ensures)
 
-  whole : Stored line.args.page.now line.args.at (page_line (I line) (p line) (t line)) (set c.put_blanks.new.0 (line.args.at + 80) newline)
+  whole : Stored line.args.page.now line.args.at (page_line (I line) (p line) (t line)) (set c.put_blanks.new.page (line.args.at + 80) newline)
       (line.args.at + 80 + 1)
   unfolding page_line padded
   whole =
@@ -129,7 +129,7 @@ put_line_spec =
     (λ c. sym (four c.before.before))
     put-bytes-requires
     put-cells-requires
-    (λ c. let s = start c.before.before in omega (arith, s.requires.3, s.good))
+    (λ c. let s = start c.before.before in omega (arith, s.requires.3, s.well_formed))
     put-blanks-requires
     (λ c. let b = c.before.before in omega (arith, (line b).requires.3, stored-length (padded-out b)))
     (λ c. stored-length (whole c.before.before))

@@ -1,12 +1,12 @@
 -- `counter::counter_below` meets its contract. Assumes nothing.
 use borrow.Author.Rules.{rules}
 use borrow.Author.Tests.{lt-ltb, le-ltb}
-use mathlib.Core.Path.{◌≡◌, refl}
+use mathlib.Core.Path.{◌≡◌}
 use mathlib.Core.Option.{some}
 use mathlib.Core.Bool.{true, false}
 use Prim.Native.Nat.{ℕ, ◌-◌}
 use lib.Dec.{ltb}
-use Rattle.spec.specs.Cap.{Counter, no_counter, counter_for}
+use Rattle.spec.specs.Cap.{no_counter, counter_for}
 use Rattle.layout.proofs.counter.counter_below.Statement.{statement}
 use Rattle.layout.proofs.counter.counter_below.Tie as tie
 

@@ -3,18 +3,17 @@ use borrow.Author.Rules.{rules}
 use native.Mathlib.Nat.{zero-add}
 use native.Mathlib.Omega.{arith}
 use mathlib.Core.Path.{◌≡◌, refl, sym, ap, ◌∙◌}
-use mathlib.Core.Logic.{⊎_elim}
 use mathlib.Core.Bool.{not, ◌&&◌}
-use mathlib.Core.List.{List, ◌++◌}
-use Prim.Native.Nat.{ℕ, ◌+◌, ◌-◌, ◌≤◌}
-use lib.ListN.{length, take, length-append}
-use lib.Seq.{sets, length-take-le}
+use mathlib.Core.List.{List}
+use Prim.Native.Nat.{ℕ, ◌-◌, ◌≤◌}
+use lib.ListN.{length, take}
+use lib.Seq.{length-take-le}
 use Rattle.model.specs.declared.Book.{Book as BookStruct}
-use Rattle.spec.specs.Lists.{up_to, count, one, pick}
+use Rattle.spec.specs.Lists.{up_to, count, pick}
 use Rattle.spec.specs.Book.{denies_border, forces_border}
 use Rattle.spec.specs.Instance.{instance_of, compile, is_free, free_nodes_of}
 use Rattle.spec.specs.Held.{held}
-use Rattle.laws.proofs.Picks.{pick-taken, pick-left, pick-most}
+use Rattle.laws.proofs.Picks.{pick-taken, pick-left}
 use Rattle.laws.proofs.Stores.{Stored, stored-none, stored-byte, stored_same, stored-now, stored-length}
 use Rattle.network.proofs.Held.{kind_at}
 use Rattle.layout.proofs.counter.list_free.Statement.{statement}

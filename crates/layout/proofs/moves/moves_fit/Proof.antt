@@ -2,13 +2,12 @@
 use native.Mathlib.Omega.{arith}
 use mathlib.Core.Path.{◌≡◌, sym, ap, ◌∙◌}
 use mathlib.Core.Bool.{Bool}
-use Prim.Native.Nat.{ℕ, ◌-◌, ◌<◌}
+use Prim.Native.Nat.{ℕ, ◌-◌}
 use Rattle.model.specs.declared.Book.{Book as BookStruct}
 use Rattle.spec.specs.Lists.{Bytes, all, up_to, range}
 use Rattle.spec.specs.Instance.{instance_of}
 use Rattle.spec.specs.Plan.{is_move, plan_of}
 use Rattle.spec.specs.Held.{held}
-use borrow.Author.Tests.{not-true, not-false}
 use Rattle.laws.proofs.Loops.{all_start, all-turn, all-broken, all_done}
 use Rattle.tables.proofs.Small.{trains-is}
 use Rattle.layout.proofs.moves.moves_fit.Statement.{statement}

@@ -10,7 +10,6 @@ use Rattle.spec.specs.Lists.{Bytes, all, up_to, range}
 use Rattle.spec.specs.Instance.{Instance, instance_of}
 use Rattle.spec.specs.Plan.{Move, run, absent, gone, if_run, is_move, plan_of}
 use Rattle.spec.specs.Held.{held}
-use borrow.Author.Tests.{not-true, not-false}
 use Rattle.laws.proofs.Loops.{all_start, all-turn, all-broken, all_done}
 use Rattle.tables.proofs.Small.{intervals-is}
 use Rattle.layout.proofs.moves.train_fits.Statement.{statement}

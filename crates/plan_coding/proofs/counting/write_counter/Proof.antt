@@ -8,7 +8,7 @@ use Prim.Native.Nat.{ℕ, ◌+◌, ◌*◌, ◌≤◌, ◌<◌}
 use lib.ListN.{length, get_or, replicate, length-replicate}
 use lib.Seq.{sets}
 use Rattle.spec.specs.Lists.{Bytes, up_to}
-use Rattle.spec.specs.Instance.{Instance, instance_of, under, is_free, free_nodes_of}
+use Rattle.spec.specs.Instance.{Instance, instance_of, is_free, free_nodes_of}
 use Rattle.spec.specs.Cap.{Counter}
 use Rattle.spec.specs.Held.{held, held_cap}
 use Rattle.laws.proofs.Picks.{pick-most}

@@ -2,7 +2,7 @@
 -- first j listed nodes have a border. Assumes nothing.
 use native.Mathlib.Omega.{arith}
 use mathlib.Core.Path.{◌≡◌, sym}
-use Prim.Native.Nat.{ℕ, ◌+◌, ◌*◌, ◌-◌, ◌≤◌}
+use Prim.Native.Nat.{◌+◌, ◌*◌, ◌-◌, ◌≤◌}
 use lib.ListN.{length}
 use Rattle.plan_coding.specs.Encoded.{set_below, count_bytes}
 use Rattle.plan_coding.proofs.Counts.{set-none, row-length, row_next, row_fits}

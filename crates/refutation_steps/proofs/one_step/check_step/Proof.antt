@@ -1,7 +1,6 @@
 -- `one_step::check_step` meets its contract: 17 where no step stands, and else each way out is an answer of the specification's
 -- table, by what the tests before it gave. Assumes nothing.
 use borrow.Author.Rules.{rules, scaled_Fits}
-use borrow.Author.Tests.{not-false}
 use mathlib.Core.Path.{◌≡◌, refl, sym, ◌∙◌}
 use mathlib.Core.Bool.{true}
 use mathlib.Core.Logic.{⊎_elim}
@@ -19,7 +18,6 @@ use Rattle.refutation_steps.proofs.StepFaults.{is-bad}
 use Rattle.refutation_steps.proofs.StepAnswers.{Given, refused-18, refused-19, few_words, no-entry, words-room, entry-room, refused-20, step-proved}
 use Rattle.refutation_steps.proofs.one_step.check_step.Statement.{statement}
 use Rattle.refutation_steps.proofs.one_step.check_step.Tie as tie
-use Rattle.refutation_steps.proofs.one_step.check_step.Lts.{else-words-used, then-words-used}
 
 -- 17: no step stands there
 says-17 : tie.Need-returns-in-Bad
@@ -28,23 +26,23 @@ says-17 c =
     (is-bad _ _ _ _ _ (bad-step _ (sym found ∙ c.in-Bad.is)), (refl, refl, refl, left_alone))
 
 -- a whole step of so many literals and hints
-module _ (c : tie.In-Whole-2) where
+module _ (c : tie.In-Whole) where
   abbrev start : tie.Start
-  start = c.before.before.before.before.before.before.before
+  start = c.before.before.before.before.before.before
 
   abbrev literals : ℕ
-  literals = c.literals-1.given.0.0
+  literals = c.in-Whole.literals
 
   abbrev hints : ℕ
-  hints = c.literals-1.given.0.1.0
+  hints = c.in-Whole.hints
 
   whole : step_found (drop start.args.at start.args.r.now) ≡ Whole literals hints
-  whole = sym c.step_at.ensures.0 ∙ c.literals-1.given.1
+  whole = sym c.step_at.ensures.0 ∙ c.in-Whole.is
 
 -- its lists are at hand
 module _ (c : tie.After-hints_at-hs) where
-  abbrev step : tie.In-Whole-2
-  step = c.before.before.before
+  abbrev step : tie.In-Whole
+  step = c.before.before
 
   given : let a = (start step).args in
       Given a.filled (literals step) (hints step) a.words.now a.starts.now a.values.now a.trail.now
@@ -84,7 +82,7 @@ says-12 : tie.Need-returns-then-words-used
 says-12 c =
     let k = c.before in
     let l = fitting k in (
-      elim (c.if-words-used.branch) [ then-words-used w ↦ few_words (given (lists l)) (fit l) (known k) w.true | else-words-used w ↦ no-entry (given (lists l)) (fit l) (known k) w.1.true ],
+      ⊎_elim (λ e. few_words (given (lists l)) (fit l) (known k) e) (λ e. no-entry (given (lists l)) (fit l) (known k) e.1) c.then-words-used.either,
       (refl, refl, refl, left_alone),
     )
 
@@ -101,18 +99,18 @@ module _ (c : tie.Else-starts-count) where
 
 slice-aggregate-follows-rule : tie.Need-slice_bounds-follows_rule-end-in-Whole
 slice-aggregate-follows-rule c =
-    let s = first c.before in
+    let s = first c in
     sym (length-take-le s.args.filled.words s.args.words.now s.requires.1.words_room)
 
 slice-aggregate-follows-rule-2 : tie.Need-slice_bounds-follows_rule-end-in-Whole-3
 slice-aggregate-follows-rule-2 c =
-    let s = first c.before.before in
+    let s = first c in
     sym (length-take-le s.args.filled.clauses s.args.starts.now s.requires.1.starts_room)
 
 follows-rule-requires : tie.Need-follows_rule-requires
 follows-rule-requires c κs =
-    let k = named c.before.before.before.before in
-    let s = first c.before.before.before.before in
+    let k = named c.before.before in
+    let s = first c.before.before in
     let r = s.requires.1 in (
       r.kept,
       rw (length-take-le s.args.filled.clauses s.args.starts.now r.starts_room) (from-true (known k)),
@@ -128,7 +126,7 @@ module _ (c : tie.After-slice_known-in-Whole-2-1) where
   tried = c.before.before.before.before
 
   abbrev roomy : tie.Else-starts-count
-  roomy = tried.before.before.before.before.before
+  roomy = tried.before.before.before
 
 says-20 : tie.Need-returns-then-not-follows_rule
 says-20 c =
@@ -152,7 +150,8 @@ module _ (c : tie.After-words-1) where
 mul-starts : tie.Need-offset_bounds-starts-count
 mul-starts c =
     let x = roomy (ruled c).before in
-    scaled_Fits _ _ 8 (entry x) (first x).good.1.1.1.1.0.1
+    let e = entry x in
+    search rules
 
 says-proved : tie.Need-returns-else-not-follows_rule
 says-proved c =
@@ -160,7 +159,7 @@ says-proved c =
     let k = named x in
     let rule = (tried (ruled c).before).follows_rule in
     step-proved (given (lists (fitting k))) (fit (fitting k)) (known k) x.if-words-used.false x.if-starts-count.false rule.ensures.0
-    (ruled c).if-not-follows_rule.false c.store_clause.ensures refl rule.ensures.1 rule.kept.1.1.1.1.1.0 rule.ensures.2
+    (ruled c).if-not-follows_rule.false c.store_clause.ensures refl rule.ensures.1 rule.auto.trail rule.ensures.2
 
 pub check_step_spec : {M : Type 1} → statement M
 check_step_spec =
@@ -169,8 +168,8 @@ check_step_spec =
     (λ c κs. search rules)
     (λ c. search rules)
     (λ c. search rules)
-    (λ c κs. ((start c.before).requires.0, whole c.before))
-    (λ c κs. ((start c.before.before).requires.0, whole c.before.before))
+    (λ c κs. (c.requires.0, whole c))
+    (λ c κs. (c.requires.0, whole c.before))
     (λ c κs. search rules)
     says-18
     (λ c. search rules)

@@ -41,10 +41,10 @@ module _ (c : tie.After-slice_known-in-loop-at-3-1 invariant-loop decreases-loop
   abbrev Says : StepAnswer → Type 0
   Says x =
       let h = head.loop-at in
-      let l = check.check_step.last.1.1.1 in
+      let n = check.check_step.new in
       let s = drop h.at entry.args.r.now in
       (x ≡ step_checked (length h.words) (length h.starts) (length h.values) (clauses_of (take h.filled.words h.words)) s)
-      × Leaves x s h.filled h.words h.starts h.values h.trail l.0 l.1.0 l.1.1.0 l.1.1.1.0
+      × Leaves x s h.filled h.words h.starts h.values h.trail n.words n.starts n.values n.trail
 
   says : {x : StepAnswer} → check.check_step.result ≡ x → Says x
   says told = subst Says told check.check_step.ensures
@@ -52,24 +52,23 @@ module _ (c : tie.After-slice_known-in-loop-at-3-1 invariant-loop decreases-loop
 -- where a step was refused
 returns : tie.Need-returns-in-Refused invariant-loop decreases-loop
 returns c =
-    let n = c.before.before in
-    let s = n.before.before in
-    let said = says s n.number-1.given.1 in
+    let s = c.before.before in
+    let said = says s c.in-Refused.is in
     stopped (head s).loop-at.invariant (some s) c.detail_of.ensures said.0 said.1
 
 -- where it was proved
-module _ (c : tie.In-Proved-2 invariant-loop decreases-loop) where
+module _ (c : tie.In-Proved invariant-loop decreases-loop) where
   abbrev here : tie.After-slice_known-in-loop-at-3-1 invariant-loop decreases-loop
-  here = c.before.before
+  here = c.before
 
   abbrev literals : ℕ
-  literals = c.literals-1.given.0.0
+  literals = c.in-Proved.literals
 
   abbrev hints : ℕ
-  hints = c.literals-1.given.0.1.0
+  hints = c.in-Proved.hints
 
   said : Says here (Proved literals hints)
-  said = says here c.literals-1.given.1
+  said = says here c.in-Proved.is
 
   -- where it ends
   end : (head here).loop-at.at + step_bytes literals hints ≤ length (entry here).args.r.now
@@ -78,37 +77,38 @@ module _ (c : tie.In-Proved-2 invariant-loop decreases-loop) where
   -- its words and its clause stand in the slices
   words-room : (one_more (head here).loop-at.filled literals).words ≤ length (entry here).args.words.now
   words-room =
-      let e : length (check here).check_step.last.1.1.1.0 ≡ length (head here).loop-at.words = search rules in
+      let e : length (check here).check_step.new.words ≡ length (head here).loop-at.words = search rules in
       omega (arith, said.1.0.words_room, e, (head here).loop-at.invariant.words_length)
 
   starts-room : (one_more (head here).loop-at.filled literals).clauses ≤ length (entry here).args.starts.now
   starts-room =
-      let e : length (check here).check_step.last.1.1.1.1.0 ≡ length (head here).loop-at.starts = search rules in
+      let e : length (check here).check_step.new.starts ≡ length (head here).loop-at.starts = search rules in
       omega (arith, said.1.0.starts_room, e, (head here).loop-at.invariant.starts_length)
 
 -- the empty step
 returns-2 : tie.Need-returns-then-at-r invariant-loop decreases-loop
 returns-2 c =
     let e = c.before.before in
-    let p = e.before.before in
+    let p = e.before in
     let s = here p in
     ended (head s).loop-at.invariant (some s) (said p).0 (said p).1 c.if-literals-eq0.true (sym e.step_end-at.ensures ∙ c.if-at-r.true)
 
 returns-3 : tie.Need-returns-else-at-r invariant-loop decreases-loop
 returns-3 c =
     let e = c.before.before in
-    let p = e.before.before in
+    let p = e.before in
     let s = here p in
     trailed (head s).loop-at.invariant (some s) (said p).0 (said p).1 c.if-literals-eq0.true (λ k. c.if-at-r.false (e.step_end-at.ensures ∙ k))
 
 -- a step with literals
-abbrev proved : tie.Else-literals-eq0 invariant-loop decreases-loop → tie.In-Proved-2 invariant-loop decreases-loop
-proved c = c.before.before.before
+abbrev proved : tie.Else-literals-eq0 invariant-loop decreases-loop → tie.In-Proved invariant-loop decreases-loop
+proved c = c.before.before
 
 add-filled-3 : tie.Need-overflow_add-filled-in-Proved-2 invariant-loop decreases-loop
 add-filled-3 c =
     let p = proved c.before.before in
-    omega (arith, starts-room p, (entry (here p)).good.1.1.1.0)
+    let h = starts-room p in
+    search rules
 
 add_step : tie.Need-overflow_add-step invariant-loop decreases-loop
 add_step c =
@@ -148,7 +148,7 @@ check_steps_spec =
     (λ c. search rules)
     returns
     (λ c. search rules)
-    (λ c κs. omega (arith, end c.before))
+    (λ c κs. omega (arith, end c))
     (λ c. search rules)
     (λ c. search rules)
     (λ c. search rules)
