@@ -46,7 +46,7 @@ module _ (t : ℕ) (c : lts.After-slice_known-then-n-lt10-1 (calls t) (given t) 
   abbrev a : lts.Args (calls t) (given t) put-number.Post c.lifetimes
   a = c.args
 
-  single : Stored a.buf.now a.at (decimal a.n) c.put.new.0 (a.at + 1)
+  single : Stored a.buf.now a.at (decimal a.n) c.put.new.buf (a.at + 1)
   single =
       let small : a.n < 10 = omega arith in
       let e : a.n % 10 + 48 ≡ 48 + a.n = omega arith in
@@ -76,7 +76,7 @@ module _ (t : ℕ) (c : lts.After-slice_known-3-1 (calls t) (given t) put-number
   abbrev args : lts.Args (calls t) (given t) put-number.Post tenth.lifetimes
   args = tenth.args
 
-  whole : Stored args.buf.now args.at (decimal args.n) c.put-2.new.0
+  whole : Stored args.buf.now args.at (decimal args.n) c.put-2.new.buf
       (tenth.put_number-end.result + 1)
   whole =
       let k = tenth.put_number-end.ensures in
@@ -93,8 +93,8 @@ returns-2 : (t : ℕ) → lts.Need-returns (calls t) (given t) put-number.Post
 returns-2 t c =
     ((whole t c).ends, omega (arith, (whole t c).ends, decimal-twenty (args t c).n (omega arith)), (whole t c).bytes)
 
-pub +put-number-spec : {M : Type 1} → statement M
-+put-number-spec =
+pub +put_number_spec : {M : Type 1} → statement M
++put_number_spec =
     close μ-put-number λ t. lts.spec (calls t) (given t) put-number.Post
     (cast-last t)
     (add-last t)

@@ -21,13 +21,13 @@ module _ (c : tie.After-slice_known-6-1) where
   opened = first.before.before.before.before.before.before.before.before
 
   abbrev given : tie.Start
-  given = opened.before.before.before.before
+  given = opened.before.before.before.before.before
 
   abbrev second : tie.After-put_number-second
   second = c.before.before.before.before.before.before
 
   line : Stored given.args.buf.now 0 (header_text given.args.variables given.args.clauses)
-      c.put-2.new.0 (second.put_number-second.result + 1)
+      c.put-2.new.buf (second.put_number-second.result + 1)
   unfolding header_text dimacs_opening
   line =
       let a = given.args in
@@ -51,7 +51,6 @@ pub put_header_spec : {M : Type 1} → statement M
 put_header_spec =
     tie.close
     (tie.spec
-    (λ c. search rules)
     (λ c κs. search rules)
     (λ c κs. search rules)
     (λ c κs. search rules)

@@ -24,7 +24,7 @@ module _ (c : tie.After-slice_known-5-1) where
   second = c.before.before.before.before.before.before
 
   line : Stored given.args.buf.now 0 (refusal_line given.args.number given.args.detail)
-      c.put-2.new.0 (second.put_number-second.result + 1)
+      c.put-2.new.buf (second.put_number-second.result + 1)
   unfolding refusal_line
   line =
       let a = given.args in

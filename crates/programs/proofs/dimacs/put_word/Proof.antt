@@ -1,7 +1,6 @@
 -- `dimacs::put_word` meets its contract: a literal is its sign, its figures and a blank. Assumes nothing.
 use borrow.Author.Rules.{rules}
 use mathlib.Core.Path.{ap, ◌∙◌}
-use mathlib.Core.Logic.{⊎_elim}
 use Prim.Native.Nat.{◌+◌}
 use native.Mathlib.Nat.{add_assoc}
 use native.Mathlib.Omega.{arith}
@@ -16,17 +15,18 @@ use Rattle.programs.proofs.Words.{sign, sign_below, sign_above, sign-most, word-
 use Rattle.laws.proofs.Stores.{Stored, stored, stored-none, stored-behind, stored-byte, stored_same, stored-now, stored-length}
 use Rattle.programs.proofs.dimacs.put_word.Statement.{statement}
 use Rattle.programs.proofs.dimacs.put_word.Tie as tie
+use Rattle.programs.proofs.dimacs.put_word.Lts.{then-l-lt0, else-l-lt0}
 
 -- the end of a clause
 module _ (c : tie.After-slice_known-then-l-eq0-2-1) where
   abbrev given : tie.Start
   given = c.before.before.before.before.before.before.before.before.before.before
 
-  closing : Stored given.args.buf.now given.args.at (word_text given.args.l) c.put-then-l-eq0.new.0
+  closing : Stored given.args.buf.now given.args.at (word_text given.args.l) c.put-then-l-eq0.new.buf
       (given.args.at + 1 + 1)
   closing =
       let a = given.args in
-      let z = bits-zero a.l given.fits.l c.if-l-eq0.true in
+      let z = bits-zero a.l given.ranges.l c.if-l-eq0.true in
       let s = stored-byte (stored-none a.buf.now a.at) 48 c.put.ensures in
       stored_same (stored-byte s 10 c.put-then-l-eq0.ensures) (word-closing a.l z)
 
@@ -39,12 +39,13 @@ module _ (c : tie.Joined-l-lt0) where
   signed =
       let a = start.args in
       let none = stored-none a.buf.now a.at in
-      ⊎_elim
-      (λ w.
-      let minus = stored-byte none 45 w.2.ensures in
-      stored-now (stored_same minus (sign_below a.l (below a.l start.fits.l w.0.true))) w.6 w.5)
-      (λ w. stored-now (stored_same none (sign_above a.l (not-below a.l start.fits.l w.0.left))) w.2 w.1)
-      c.if-l-lt0.branch
+      elim c.if-l-lt0.branch [
+        | then-l-lt0 w ↦
+            let minus = stored-byte none 45 w.put-then-l-lt0.ensures in
+            stored-now (stored_same minus (sign_below a.l (below a.l start.ranges.l w.if-l-lt0.true))) w.from-is w.buf-is
+        | else-l-lt0 w ↦
+            stored-now (stored_same none (sign_above a.l (not-below a.l start.ranges.l w.if-l-lt0.false))) w.from-is w.buf-is
+      ]
 
 put-number-requires : tie.Need-put_number-end-requires
 put-number-requires c κs = omega (arith, (signed c.before.before).ends, sign-most c.args.l)
@@ -63,12 +64,12 @@ module _ (c : tie.After-slice_known-3-1) where
   joined = number.before.before.before
 
   literal : Stored (start joined).args.buf.now (start joined).args.at (word_text (start joined).args.l)
-      c.put-2.new.0 (number.put_number-end.result + 1)
+      c.put-2.new.buf (number.put_number-end.result + 1)
   literal =
       let l = (start joined).args.l in
       let m = number.put_number-end.ensures in
       let s = stored-behind (signed joined) (stored _ _ (decimal number.magnitude.result) m.0 m.2) in
-      let n = number.magnitude.ensures ∙ ap nat_abs (to_z-of_z (start joined).fits.l) in
+      let n = number.magnitude.ensures ∙ ap nat_abs (to_z-of_z (start joined).ranges.l) in
       stored_same (stored-byte s 32 c.put-2.ensures)
       (word-literal l n (λ e. joined.if-l-eq0.false (ap (of_z w32) e)))
 

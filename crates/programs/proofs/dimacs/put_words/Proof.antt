@@ -1,7 +1,6 @@
 -- `dimacs::put_words` meets its contract. The loop's invariant: the words from `from` up to `next` stand in the buffer, up to `len`,
 -- and those that are still taken of the others go into the room that is left. Assumes nothing.
 use borrow.Author.Rules.{sfits_of}
-use borrow.Author.Tests.{leb-true, leb-false}
 use mathlib.Core.Path.{ap}
 use mathlib.Core.Logic.{inl, inr}
 use Prim.Native.Nat.{◌-◌}
@@ -28,8 +27,8 @@ loop-again c =
     let k = c.before.before.before.before.before.before.before in
     let l = get_or k.args.words.now k.loop-next.next (pos 0) in
     let e = c.put_word-len.ensures in
-    let back = to_z-of_z (sfits_of c.put_word-arg-in-loop-next-1.given) in
-    let fits = leb-true 24 (length k.loop-next.buf - k.loop-next.len) c.if-buf-len-ge24.true in
+    let back = to_z-of_z {w = w32} (sfits_of c.put_word-arg-in-loop-next-1.given) in
+    let fits = c.if-buf-len-ge24.true in
     let s = stored_same (stored k.loop-next.buf k.loop-next.len (word_text (to_z w32 (of_z w32 l))) e.0 e.2) (ap word_text back) in
     filled_next k.loop-next.invariant (pos 0) c.loop-next-test.true
     (omega (arith, fits, stored-length k.loop-next.invariant.text)) s e.1
@@ -37,7 +36,7 @@ loop-again c =
 returns : tie.Need-returns-else-buf-len-ge24 invariant-loop decreases-loop
 returns c =
     let k = c.loop-next in
-    let full = leb-false 24 (length k.buf - k.len) c.if-buf-len-ge24.false in
+    let full = c.if-buf-len-ge24.false in
     filled-end k.invariant (inr (omega (arith, full, stored-length k.invariant.text)))
 
 pub put_words_spec : {M : Type 1} → statement M

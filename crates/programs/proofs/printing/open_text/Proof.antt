@@ -21,19 +21,17 @@ use Rattle.programs.proofs.printing.open_text.Tie as tie
 
 returns : tie.Need-returns-then-long
 returns c =
-    let then = c.before.before.before.before in
-    let s = then.before.before.before in
-    let h = then.if-long.true in
+    let h = c.if-long.true in
     let e = c.put_refusal.ensures in
-    let line = s.args.line.now in
-    let room = length s.args.words.now in
-    let v = write_formula (held_cap s.args.cap) s.args.book.now room in
+    let line = c.args.line.now in
+    let room = length c.args.words.now in
+    let v = write_formula (held_cap c.args.cap) c.args.book.now room in
     let k = sym (is-long v h) in (
-      ap (λ (l : Bytes). l ++ words_text []) (line-front line (refusal_line 12 0) s.requires e.0 e.1 e.2)
-          ∙ long-text (formula_text (held_cap s.args.cap) s.args.book.now room) h,
+      ap (λ (l : Bytes). l ++ words_text []) (line-front line (refusal_line 12 0) c.requires e.0 e.1 e.2)
+          ∙ long-text (formula_text (held_cap c.args.cap) c.args.book.now room) h,
       e.2 ∙ ap (λ (u : Verdict Written). sets line 0 (first_line u)) k,
       omega (arith, e.1),
-      long-words s.args.words.now v h,
+      long-words c.args.words.now v h,
       omega arith,
       e.0 ∙ ap (λ (u : Verdict Written). length (first_line u)) k,
       ap words_behind k,
@@ -41,21 +39,17 @@ returns c =
 
 returns-2 : tie.Need-returns-in-Refused
 returns-2 c =
-    let place = c.before.before.before.before.before in
-    let call = place.before.before.before in
-    let s = call.before.before.before.before.before in
-    let h = call.if-long.false in
+    let h = c.if-long.false in
     let e = c.put_refusal-in-Refused.ensures in
-    let w = call.write_formula-r.ensures in
-    let cap = held_cap s.args.cap in
-    let book = s.args.book.now in
-    let old = s.args.words.now in
-    let line = s.args.line.now in
-    let g = place.r-1.given in
-    let text = refusal_line g.0.0 g.0.1.0 in
-    let v = answer-refused _ w.0 g.1 in
+    let w = c.write_formula-r.ensures in
+    let cap = held_cap c.args.cap in
+    let book = c.args.book.now in
+    let old = c.args.words.now in
+    let line = c.args.line.now in
+    let text = refusal_line c.in-Refused.number c.in-Refused.detail in
+    let v = answer-refused _ w.0 c.in-Refused.is in
     let k = sym (not-long (write_formula cap book (length old)) h ∙ v) in (
-      ap (λ (l : Bytes). l ++ words_text []) (line-front line text s.requires e.0 e.1 e.2)
+      ap (λ (l : Bytes). l ++ words_text []) (line-front line text c.requires e.0 e.1 e.2)
           ∙ refusal-text cap book _ v
           ∙ ap (λ (u : Verdict Bytes). printed (λ (t : Bytes). t) u) (sym (not-long (formula_text cap book (length old)) h)),
       e.2 ∙ ap (λ (u : Verdict Written). sets line 0 (first_line u)) k,
@@ -68,23 +62,19 @@ returns-2 c =
 
 returns-3 : tie.Need-returns-in-Totals
 returns-3 c =
-    let place = c.before.before.before.before.before in
-    let call = place.before.before.before in
-    let s = call.before.before.before.before.before in
-    let h = call.if-long.false in
+    let h = c.if-long.false in
     let e = c.put_header.ensures in
-    let w = call.write_formula-r.ensures in
-    let cap = held_cap s.args.cap in
-    let book = s.args.book.now in
-    let old = s.args.words.now in
-    let line = s.args.line.now in
-    let g = place.r-in-Totals-1.given in
-    let text = header_text g.0.0 g.0.1.0 in
-    let a = answer-totals (write_formula cap book (length old)) w.0 g.1 in
+    let w = c.write_formula-r.ensures in
+    let cap = held_cap c.args.cap in
+    let book = c.args.book.now in
+    let old = c.args.words.now in
+    let line = c.args.line.now in
+    let text = header_text c.in-Totals.variables c.in-Totals.clauses in
+    let a = answer-totals (write_formula cap book (length old)) w.0 c.in-Totals.is in
     let k = sym (not-long (write_formula cap book (length old)) h ∙ a.1) in
     let same = ap₂ header_text a.2 a.3 in (
       ap₂ (λ (l : Bytes) (ls : List ℤ). l ++ words_text ls)
-          (line-front line text s.requires e.0 e.1 e.2 ∙ same)
+          (line-front line text c.requires e.0 e.1 e.2 ∙ same)
           (ap₂ (λ (n : ℕ) (ls : List ℤ). take n ls) a.4 w.1)
           ∙ formula-text cap book old a.0 a.1
           ∙ ap (λ (u : Verdict Bytes). printed (λ (t : Bytes). t) u) (sym (not-long (formula_text cap book (length old)) h)),

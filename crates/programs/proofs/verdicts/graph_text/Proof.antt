@@ -57,38 +57,27 @@ left old {k} {d} e = ap (λ (u : Verdict Bytes). overwrite old (written u)) e �
 
 returns : tie.Need-returns-then-long
 returns c =
-    let r = c.before.before in
-    let then = r.before.before in
-    let s = then.before.before.before.before in
-    stores_same s.args.out.now (is-long _ then.if-long.true) (stores-line s.args.out.now 12 0 s.requires r.put_refusal.ensures)
+    let old = c.args.out.now in
+    stores_same old (is-long _ c.if-long.true) (stores-line old 12 0 c.requires c.put_refusal.ensures)
 
 returns-2 : tie.Need-returns-in-Wrote
 unfolding page_output
 returns-2 c =
-    let told = c.before in
-    let g = told.before.before.before.before in
-    let else = g.before.before in
-    let s = else.before.before.before.before in
-    let e = g.print_graph-answer.ensures in
-    stores_same s.args.out.now (not-long _ else.if-long.false) (stores-page _ s.args.out.now (sym told.answer-1.given.1 ∙ e.0) e.1)
+    let old = c.args.out.now in
+    let e = c.print_graph-answer.ensures in
+    stores_same old (not-long _ c.if-long.false) (stores-page _ old (sym c.in-Wrote.is ∙ e.0) e.1)
 
 returns-3 : tie.Need-returns-in-Refused
 unfolding page_output
 returns-3 c =
-    let r = c.before.before in
-    let told = r.before.before.before in
-    let g = told.before.before.before.before in
-    let else = g.before.before in
-    let s = else.before.before.before.before in
-    let old = s.args.out.now in
-    let e = g.print_graph-answer.ensures in
-    let f = r.put_refusal-in-Refused.ensures in
-    let v = said-refused _ (sym told.answer-in-Refused-1.given.1 ∙ e.0) in
-    let k = told.answer-in-Refused-1.given.0.0 in
-    let d = told.answer-in-Refused-1.given.0.1.0 in
+    let old = c.args.out.now in
+    let e = c.print_graph-answer.ensures in
+    let f = c.put_refusal-in-Refused.ensures in
+    let k = c.in-Refused in
+    let v = said-refused _ (sym k.is ∙ e.0) in
     let same = e.1 ∙ left old v in
-    stores_same old (not-long _ else.if-long.false ∙ v)
-    (stores-line old k d s.requires (f.0, f.1, f.2 ∙ ap (λ (o : Bytes). sets o 0 (refusal_line k d)) same))
+    stores_same old (not-long _ c.if-long.false ∙ v)
+    (stores-line old k.number k.detail c.requires (f.0, f.1, f.2 ∙ ap (λ (o : Bytes). sets o 0 (refusal_line k.number k.detail)) same))
 
 pub graph_text_spec : {M : Type 1} → statement M
 graph_text_spec =

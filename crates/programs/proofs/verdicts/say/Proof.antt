@@ -29,14 +29,14 @@ returns : tie.Need-returns-in-Wrote
 unfolding accepted_line
 returns c =
     let k = c.before.before in
-    let t = k.answer-1.given.1 in
+    let t = c.in-Wrote.is in
     let e = k.put_bytes.ensures in
     (e.1 ∙ told t _, e.0 ∙ measured t, omega (arith, e.0), answered t, counted t)
 
 returns-2 : tie.Need-returns-in-Refused
 returns-2 c =
     let k = c.before.before in
-    let t = k.answer-in-Refused-1.given.1 in
+    let t = c.in-Refused.is in
     let e = k.put_refusal.ensures in
     (e.2 ∙ told t _, e.0 ∙ measured t, omega (arith, e.1), answered t, counted t)
 
@@ -44,7 +44,6 @@ pub say_spec : {M : Type 1} → statement M
 say_spec =
     tie.close
     (tie.spec
-    (λ c. search rules)
     (λ c. search rules)
     (λ c κs. search rules)
     (λ c. search rules)

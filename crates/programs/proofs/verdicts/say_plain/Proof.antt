@@ -18,7 +18,7 @@ returns : tie.Need-returns-in-Accepted
 returns c = told _ _ _ c.in-Accepted.is c.say.ensures
 
 returns-2 : tie.Need-returns-in-Refused
-returns-2 c = told _ _ _ c.answer-1.given.1 c.say-in-Refused.ensures
+returns-2 c = told _ _ _ c.in-Refused.is c.say-in-Refused.ensures
 
 pub say_plain_spec : {M : Type 1} → statement M
 say_plain_spec =
