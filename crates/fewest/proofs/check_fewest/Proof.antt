@@ -9,17 +9,12 @@ use Rattle.fewest.proofs.check_fewest.Tie as tie
 
 returns : tie.Need-returns
 returns c =
-    let trail = c.before.before in
-    let values = trail.before.before.before.before in
-    let starts = values.before.before.before.before in
-    let words = starts.before.before.before in
-    let r = words.decide-answer in
-    let k = r.auto.1.1.1.1 in (
-      r.ensures,
-      (words.clear_words.ensures ∙ ap (zeroed (pos 0)) k.0),
-      (starts.clear_numbers.ensures ∙ ap (zeroed 0) k.1.0),
-      (values.clear_bytes.ensures ∙ ap (zeroed 0) k.1.1.0),
-      (trail.clear_numbers-2.ensures ∙ ap (zeroed 0) k.1.1.1.0),
+    let k = c.decide-answer.auto in (
+      c.decide-answer.ensures,
+      (c.clear_words.ensures ∙ ap (zeroed (pos 0)) k.words),
+      (c.clear_numbers.ensures ∙ ap (zeroed 0) k.starts),
+      (c.clear_bytes.ensures ∙ ap (zeroed 0) k.values),
+      (c.clear_numbers-2.ensures ∙ ap (zeroed 0) k.trail),
     )
 
 pub check_fewest_spec : {M : Type 1} → statement M

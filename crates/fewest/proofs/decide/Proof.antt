@@ -2,7 +2,6 @@
 use borrow.Author.Rules.{rules}
 use native.Mathlib.Omega.{arith}
 use mathlib.Core.Path.{sym, ap, ◌∙◌}
-use Prim.Native.Nat.{ℕ}
 use lib.Seq.{length-take-le}
 use Rattle.spec.specs.Lists.{Verdict}
 use Rattle.spec.specs.Instance.{Instance}
@@ -27,16 +26,16 @@ module _ (c : tie.After-prepare_chains-p) where
 -- the book is accepted
 module _ (c : tie.In-Accepted) where
   abbrev prepared : tie.After-prepare_chains-p
-  prepared = c.before.before.before.before.before.before.before.before
+  prepared = c.before.before.before.before.before.before.before
 
-  ready : TablesReady prepared.prepare_chains-p.result prepared.prepare_chains-p.last.1.0 prepared.prepare_chains-p.last.1.1.1.0
+  ready : TablesReady prepared.prepare_chains-p.result prepared.prepare_chains-p.new.runs prepared.prepare_chains-p.new.meets
   ready = prepared.prepare_chains-p.ensures.1 c.in-Accepted.is
 
 returns : tie.Need-returns-in-Refused
 unfolding check_fewest
 returns c =
-    let r = c.before.before.before.before.before.before.before.before.before in
-    ap answer_of (sym (stopped _ _ r.prepare_chains-p.ensures.0 (onward r) c.answer-1.given.1))
+    let r = c.before.before.before.before.before.before.before in
+    ap answer_of (sym (stopped _ _ r.prepare_chains-p.ensures.0 (onward r) c.in-Refused.is))
 
 returns-2 : tie.Need-returns-in-Accepted
 unfolding check_fewest

@@ -9,14 +9,11 @@ use Rattle.fewest.proofs.fewest_none.Tie as tie
 
 returns : tie.Need-returns-in-Refused
 returns c lent =
-    let k = c.before.before.before in
-    ap answer_of (sym (counts_some _ _ _ lent (is-refused _ k.judge_count-counted.ensures c.counted-1.given.1)))
+    ap answer_of (sym (counts_some _ _ _ lent (is-refused _ c.judge_count-counted.ensures c.in-Refused.is)))
 
 returns-2 : tie.Need-returns-in-Accepted
 returns-2 c lent =
-    let t = c.before in
-    let k = t.before.before in
-    c.none_below.ensures ∙ ap answer_of (sym (then-empty _ _ _ lent (is-accepted _ k.judge_count-counted.ensures t.in-Accepted.is)))
+    c.none_below.ensures ∙ ap answer_of (sym (then-empty _ _ _ lent (is-accepted _ c.judge_count-counted.ensures c.in-Accepted.is)))
 
 pub fewest_none_spec : {M : Type 1} → statement M
 fewest_none_spec =

@@ -1,13 +1,12 @@
 -- `fewest_some` meets its contract: room, then the assignment and n, then the refutation. Assumes nothing.
 use borrow.Author.Rules.{rules}
-use borrow.Author.Tests.{not-true, not-false}
 use native.Mathlib.Omega.{arith}
-use mathlib.Core.Path.{◌≡◌, refl, sym, ap, ap₂, ◌∙◌, subst}
-use mathlib.Core.Bool.{Bool, true, false}
+use mathlib.Core.Path.{◌≡◌, refl, sym, ap, ap₂, ◌∙◌}
+use mathlib.Core.Bool.{true, false}
 use mathlib.Core.Option.{some}
 use Prim.Native.Nat.{ℕ, suc, ◌-◌}
 use lib.ListN.{length}
-use Rattle.spec.specs.Lists.{Bytes, Verdict, accepted, refused}
+use Rattle.spec.specs.Lists.{Bytes, Verdict}
 use Rattle.spec.specs.Instance.{Instance, instance_of, under}
 use Rattle.spec.specs.Formula.{variables}
 use Rattle.spec.specs.Refutation.{Lent, clauses_fit}
@@ -69,12 +68,12 @@ module _ (h : tie.After-has_room) where
 
   room-is : h.has_room.result ≡ formula_fits (lent load) (J load)
   room-is =
-      let kept = load.load_formula-formula.kept in
-      let words = length load.load_formula-formula.last.1.1.1.1.1.1.0 in
-      let clauses = length load.load_formula-formula.last.1.1.1.1.1.1.1.0 in
+      let kept = load.load_formula-formula.auto in
+      let words = length load.load_formula-formula.new.words in
+      let clauses = length load.load_formula-formula.new.starts in
       h.has_room.ensures
       ∙ ap₂ (λ (e : Extent) (v : ℕ). room_for e v (lent_by load words clauses)) load.load_formula-formula.ensures.0 h.variable_count-variables.ensures.0
-      ∙ ap₂ (λ (w c : ℕ). room_for (extent_of (J load)) (variables (J load)) (lent_by load w c)) kept.1.1.1.1.1.1.0 kept.1.1.1.1.1.1.1.0
+      ∙ ap₂ (λ (w c : ℕ). room_for (extent_of (J load)) (variables (J load)) (lent_by load w c)) kept.words kept.starts
       ∙ room_fits (J load) (lent load)
 
   -- the verdict on suc m is that on n
@@ -104,28 +103,28 @@ module _ (k : tie.After-judge_count-counted) where
 
 check-loaded-requires : tie.Need-check_loaded-requires
 check-loaded-requires c κs =
-    let l = load c.before.before.before.before.before.before.before.before in
+    let l = load c.before.before.before.before.before.before.before in
     let a = (start l).args in
     let e = l.load_formula-formula.ensures in
     ((start l).requires.0.counted, e.0, loaded-stands _ a.words.now a.starts.now e.1 e.2)
 
 returns-2 : tie.Need-returns-in-Refused
 returns-2 c =
-    let k = c.before.before.before in
+    let k = c.before in
     let e = k.before in
     let l = here k in
-    on-n e.before (counts-wrong (I l) (s l) (r l) (lent l) (m l) (fits e) (counted k (is-refused _ k.judge_count-counted.ensures c.counted-1.given.1)))
+    on-n e.before (counts-wrong (I l) (s l) (r l) (lent l) (m l) (fits e) (counted k (is-refused _ k.judge_count-counted.ensures c.in-Refused.is)))
 
 returns-3 : tie.Need-returns-in-Accepted
 returns-3 c =
     let d = c.before.before.before.before.before.before.before in
     let t = d.before.before.before.before.before in
-    let k = t.before.before in
+    let k = t.before in
     let e = k.before in
     let l = here k in
-    let kept = l.load_formula-formula.kept in
+    let kept = l.load_formula-formula.auto in
     d.check_loaded.ensures
-    ∙ ap₂ (λ (w n : ℕ). answer_of (refuted_for (J l) (r l) (lent_by l w n))) kept.1.1.1.1.1.1.0 kept.1.1.1.1.1.1.1.0
+    ∙ ap₂ (λ (w n : ℕ). answer_of (refuted_for (J l) (r l) (lent_by l w n))) kept.words kept.starts
     ∙ on-n e.before (then-refuted (I l) (s l) (r l) (lent l) (m l) (fits e) (counted k (is-accepted _ k.judge_count-counted.ensures t.in-Accepted.is)))
 
 pub fewest_some_spec : {M : Type 1} → statement M

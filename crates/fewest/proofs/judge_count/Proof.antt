@@ -2,8 +2,6 @@
 use borrow.Author.Rules.{rules}
 use native.Mathlib.Omega.{arith}
 use mathlib.Core.Path.{◌≡◌, sym, ap, ◌∙◌}
-use Prim.Native.Nat.{ℕ, ◌≤◌}
-use lib.ListN.{length}
 use Rattle.spec.specs.Lists.{Bytes, accepted}
 use Rattle.spec.specs.Instance.{Instance, instance_of}
 use Rattle.spec.specs.Held.{held}
@@ -36,7 +34,7 @@ module _ (c : tie.After-judge_assignment-judged) where
 -- it is accepted
 module _ (c : tie.In-Accepted) where
   abbrev call : tie.After-judge_assignment-judged
-  call = c.before.before
+  call = c.before
 
   accepts : judge_assignment (I call) (s call) ≡ accepted tt
   accepts = is-accepted _ (judged call) c.in-Accepted.is
@@ -53,8 +51,8 @@ returns c =
 
 returns-2 : tie.Need-returns-in-Refused
 returns-2 c =
-    let k = c.before.before.before in
-    ap answer_of (sym (not-judged (I k) (s k) _ (is-refused _ (judged k) c.judged-1.given.1)))
+    let k = c.before in
+    ap answer_of (sym (not-judged (I k) (s k) _ (is-refused _ (judged k) c.in-Refused.is)))
 
 returns-3 : tie.Need-returns-else-count_set-n
 returns-3 c =

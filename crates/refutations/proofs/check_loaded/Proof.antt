@@ -1,10 +1,9 @@
 -- `refutations::check_loaded` meets its contract: room, then the bytes of the variables are zeroed and the steps are checked. Assumes
 -- nothing.
 use borrow.Author.Rules.{rules}
-use borrow.Author.Tests.{ltb-true, ltb-false}
 use native.Mathlib.Omega.{arith}
 use mathlib.Core.Path.{◌≡◌, refl, sym, ap, ◌∙◌, subst}
-use mathlib.Core.Logic.{inl, inr}
+use mathlib.Core.Logic.{⊎_elim}
 use Prim.Native.Nat.{ℕ, ◌<◌}
 use mathlib.Core.List.{List}
 use lib.ListN.{length, take}
@@ -69,19 +68,14 @@ returns : tie.Need-returns-then-words-formula
 returns c =
     let v = c.before.before in
     short (I v) _ (lent v) λ r.
-    elim c.if-words-formula.branch [
-      | inl x ↦ omega (arith, r.words, x.true, word_count v)
-      | inr x ↦ omega (arith, r.clauses, ltb-true (lent v).clauses (filled v).clauses x.2.true, clause-count v)
-    ]
+    ⊎_elim (λ x. omega (arith, r.words, x, word_count v)) (λ x. omega (arith, r.clauses, x.1, clause-count v)) c.then-words-formula.either
 
 returns-2 : tie.Need-returns-then-values-variables
 returns-2 c =
     let v = c.before.before.before.before.before in
     short (I v) _ (lent v) λ r.
-    elim c.if-values-variables.branch [
-      | inl x ↦ omega (arith, r.values, x.true, variable-count v)
-      | inr x ↦ omega (arith, r.trail, ltb-true (lent v).trail (vars v) x.1.true, variable-count v)
-    ]
+    ⊎_elim (λ x. omega (arith, r.values, x, variable-count v)) (λ x. omega (arith, r.trail, x.1, variable-count v))
+    c.then-values-variables.either
 
 -- what holds once the bytes of the variables are zeroed
 module _ (k : tie.After-clear_bytes) where
@@ -91,17 +85,11 @@ module _ (k : tie.After-clear_bytes) where
   -- the four tests
   room : Room (I known) (lent known)
   room =
-      let fourth = k.before.before in
-      let third = fourth.before in
-      let second = third.before in
-      let first = second.before.before in
-      let clauses = ltb-false (lent known).clauses (filled known).clauses second.if-starts-formula.false in
-      let trail = ltb-false (lent known).trail (vars known) fourth.if-trail-variables.false in
       record {
-        words = omega (arith, first.if-words-formula.false, word_count known);
-        clauses = omega (arith, clauses, clause-count known);
-        values = omega (arith, third.if-values-variables.false, variable-count known);
-        trail = omega (arith, trail, variable-count known);
+        words = omega (arith, k.if-words-formula.false, word_count known);
+        clauses = omega (arith, k.if-starts-formula.false, clause-count known);
+        values = omega (arith, k.if-values-variables.false, variable-count known);
+        trail = omega (arith, k.if-trail-variables.false, variable-count known);
       }
 
   -- the words in front are the formula's, and say its clauses; where each begins stands in front too
@@ -116,10 +104,10 @@ module _ (k : tie.After-clear_bytes) where
 
   -- as many bytes are handed on as there are variables
   abbrev values : List ℕ
-  values = k.clear_bytes.last.0
+  values = k.clear_bytes.new.bytes
 
   handed : length (take (vars known) values) ≡ vars known
-  handed = length-take-le _ values (omega (arith, room.values, variable-count known, k.clear_bytes.kept.0))
+  handed = length-take-le _ values (omega (arith, room.values, variable-count known, k.clear_bytes.auto.bytes))
 
 check-steps-requires : tie.Need-check_steps-requires
 check-steps-requires c κs =

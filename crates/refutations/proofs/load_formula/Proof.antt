@@ -1,10 +1,9 @@
 -- `refutations::load_formula` meets its contract: the first walk measures, the second writes the formula's words, whose clauses are
 -- then found. Assumes nothing.
 use borrow.Author.Rules.{rules}
-use borrow.Author.Tests.{ltb-true, ltb-false}
 use native.Mathlib.Omega.{arith}
 use mathlib.Core.Path.{◌≡◌, refl, sym, ap, ap₂, ◌∙◌}
-use mathlib.Core.Logic.{inl, inr}
+use mathlib.Core.Logic.{⊎_elim}
 use Prim.Native.Nat.{ℕ, ◌≤◌}
 use mathlib.Core.List.{List, ◌++◌}
 use lib.ListN.{length, take}
@@ -42,7 +41,7 @@ module _ (m : tie.After-walk_formula-measured) where
   I = under (held_cap start.args.cap) (instance_of (held start.args.b))
 
   -- nothing was written
-  unwritten : m.walk_formula-measured.last.1.1.1.1.1.1.1.0 ++ start.args.words.now ≡ start.args.words.now
+  unwritten : m.walk_formula-measured.new.out ++ start.args.words.now ≡ start.args.words.now
   unwritten = nothing-ahead m.walk_formula-measured.ensures refl start.args.words.now
 
   -- the totals
@@ -62,13 +61,10 @@ module _ (m : tie.After-walk_formula-measured) where
 returns : tie.Need-returns-then-words-measured
 returns c =
     let m = c.before.before.before in
-    let r = m.walk_formula-measured.result in
     let old = (start m).args in
     let none = no_room (I m) old.words.now old.starts.now (λ fits.
-    elim c.if-words-measured.branch [
-      | inl x ↦ omega (arith, fits.0, x.true, word_count m, ap length (unwritten m))
-      | inr x ↦ omega (arith, fits.1, clause-count m, ltb-true (length old.starts.now) r.clauses x.2.true)
-    ]) in
+    ⊎_elim (λ x. omega (arith, fits.0, x, word_count m, ap length (unwritten m))) (λ x. omega (arith, fits.1, clause-count m, x.1))
+    c.then-words-measured.either) in
     (extent m, unwritten m ∙ sym none.0, sym none.1)
 
 -- what holds once it is written
@@ -77,23 +73,20 @@ module _ (w : tie.After-walk_formula) where
   measured = w.before.before.before.before.before.before.before
 
   abbrev words : List ℤ
-  words = w.walk_formula.last.1.1.1.1.1.1.1.0
+  words = w.walk_formula.new.out
 
   -- the two tests
   words-fit : length (words_of (formula (I measured))) ≤ length (start measured).args.words.now
   words-fit =
-      let first = w.before.before.before.before in
-      omega (arith, first.if-words-measured.false, word_count measured, ap length (unwritten measured))
+      omega (arith, w.if-words-measured.false, word_count measured, ap length (unwritten measured))
 
   clauses-fit : length (formula (I measured)) ≤ length (start measured).args.starts.now
   clauses-fit =
-      let second = w.before.before in
-      let clauses = length (start measured).args.starts.now in
-      omega (arith, ltb-false clauses measured.walk_formula-measured.result.clauses second.if-starts-measured.false, clause-count measured)
+      omega (arith, w.if-starts-measured.false, clause-count measured)
 
   -- the slice is as long as it was
   same_size : length words ≡ length (start measured).args.words.now
-  same_size = w.walk_formula.kept.1.1.1.1.1.1.1.0 ∙ ap length (unwritten measured)
+  same_size = w.walk_formula.auto.out ∙ ap length (unwritten measured)
 
   -- the formula's words were written
   were-written : words ≡ sets (start measured).args.words.now 0 (words_of (formula (I measured)))
@@ -111,13 +104,13 @@ module _ (w : tie.After-walk_formula) where
 
 index-clauses-requires : tie.Need-index_clauses-requires
 index-clauses-requires c κs =
-    let w = c.before.before.before in
+    let w = c.before.before in
     (closed _ _ (ranged (measured w)) (in-front w), omega (arith, clauses-fit w, ap length (are-said w)))
 
 returns-2 : tie.Need-returns
 returns-2 c =
     let i = c.before.before in
-    let w = i.before.before.before.before in
+    let w = i.before.before.before in
     let m = measured w in
     let old = (start m).args in
     let there = room (I m) old.words.now old.starts.now (words-fit w, clauses-fit w) in (
@@ -142,9 +135,9 @@ load_formula_spec =
     (λ c κs. search rules)
     (λ c. search rules)
     (λ c.
-    let w = c.before.before in
+    let w = c.before in
     sym (length-take-le _ (words w) (omega (arith, words-fit w, word_count (measured w), same_size w))))
     index-clauses-requires
-    (λ c. same_size c.before.before.before.before.before.before)
+    (λ c. same_size c.before.before.before.before.before)
     (λ c. search rules)
     returns-2)

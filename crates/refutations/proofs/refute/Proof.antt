@@ -34,9 +34,9 @@ module _ (c : tie.After-prepare_chains-p) where
 -- the book is accepted
 module _ (c : tie.In-Accepted) where
   abbrev prepared : tie.After-prepare_chains-p
-  prepared = c.before.before.before.before.before.before.before.before
+  prepared = c.before.before.before.before.before.before.before
 
-  ready : TablesReady prepared.prepare_chains-p.result prepared.prepare_chains-p.last.1.0 prepared.prepare_chains-p.last.1.1.1.0
+  ready : TablesReady prepared.prepare_chains-p.result prepared.prepare_chains-p.new.runs prepared.prepare_chains-p.new.meets
   ready = prepared.prepare_chains-p.ensures.1 c.in-Accepted.is
 
 load-formula-requires : tie.Need-load_formula-formula-requires
@@ -52,8 +52,8 @@ module _ (l : tie.After-load_formula-formula) where
 returns : tie.Need-returns-in-Refused
 unfolding check_refutation
 returns c =
-    let r = c.before.before.before.before.before.before.before.before.before in
-    ap answer_of (sym (stopped-under _ _ r.prepare_chains-p.ensures.0 (cap r) (onward r) c.answer-1.given.1))
+    let r = c.before.before.before.before.before.before.before in
+    ap answer_of (sym (stopped-under _ _ r.prepare_chains-p.ensures.0 (cap r) (onward r) c.in-Refused.is))
 
 returns-2 : tie.Need-returns-in-Accepted
 unfolding check_refutation
@@ -67,7 +67,7 @@ returns-2 c =
     (λ (m n : ℕ).
     answer_of
     (refuted_for (under (cap r) (instance_of (held (prepared (told l)).prepare_chains-p.result.read.book))) a.r.now (record { words = m; clauses = n; values = length a.values.now; trail = length a.trail.now })))
-    l.load_formula-formula.auto.1.1.1.1.1.1.0 l.load_formula-formula.auto.1.1.1.1.1.1.1.0
+    l.load_formula-formula.auto.words l.load_formula-formula.auto.starts
     ∙ ap answer_of (went-under _ _ r.prepare_chains-p.ensures.0 (told l).in-Accepted.is (cap r) (onward r))
 
 pub refute_spec : {M : Type 1} → statement M

@@ -1,6 +1,6 @@
 -- `one_step::check_step` meets its contract: 17 where no step stands, and else each way out is an answer of the specification's
 -- table, by what the tests before it gave. Assumes nothing.
-use borrow.Author.Rules.{rules, scaled_Fits}
+use borrow.Author.Rules.{rules}
 use mathlib.Core.Path.{◌≡◌, refl, sym, ◌∙◌}
 use mathlib.Core.Bool.{true}
 use mathlib.Core.Logic.{⊎_elim}
