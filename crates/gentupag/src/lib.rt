@@ -1,7 +1,7 @@
-// The library that C or Rust links: the entry points under plain names, and what drawings and tools ask
+// The library that people link, by way of gentupag_c: the entry points under plain names, and what drawings and tools ask
 // of a book, so that nobody states a rule of the core a second time. An answer is a struct: a refusal's
 // number and detail, or 0, 0 and what was asked for. No function has a `requires`. Assumes nothing.
-mod answers;
+pub mod answers;
 mod labels;
 mod runs;
 mod sizes;
@@ -101,8 +101,7 @@ fn cap_from(capped: usize, cap: usize) -> Cap
 }
 
 // Whether the bytes are a book.
-#[unsafe(no_mangle)]
-pub extern "C" fn gentupag_read_book(book: &[u8]) -> Verdict
+pub fn gentupag_read_book(book: &[u8]) -> Verdict
     ensures { result ≡ verdict_of (read_book book.now) }
 {
     let read = read_book(book);
@@ -111,16 +110,14 @@ pub extern "C" fn gentupag_read_book(book: &[u8]) -> Verdict
 }
 
 // The sizes of a book: what it counts, and how much its outputs need.
-#[unsafe(no_mangle)]
-pub extern "C" fn gentupag_measure_book_under(capped: usize, cap: usize, book: &[u8]) -> Sizes
+pub fn gentupag_measure_book_under(capped: usize, cap: usize, book: &[u8]) -> Sizes
     ensures { result ≡ sizes_answer (measure_book (cap_asked capped cap) book.now) }
 {
     measure_book(cap_from(capped, cap), book)
 }
 
 // The formula of a book, written into the output.
-#[unsafe(no_mangle)]
-pub extern "C" fn gentupag_write_formula_under(
+pub fn gentupag_write_formula_under(
     capped: usize,
     cap: usize,
     book: &[u8],
@@ -134,8 +131,7 @@ pub extern "C" fn gentupag_write_formula_under(
 }
 
 // The verdict on an assignment.
-#[unsafe(no_mangle)]
-pub extern "C" fn gentupag_judge_assignment_under(
+pub fn gentupag_judge_assignment_under(
     capped: usize,
     cap: usize,
     book: &[u8],
@@ -148,8 +144,7 @@ pub extern "C" fn gentupag_judge_assignment_under(
 }
 
 // The verdict on an assignment, its plan in the output.
-#[unsafe(no_mangle)]
-pub extern "C" fn gentupag_unpack_plan_under(
+pub fn gentupag_unpack_plan_under(
     capped: usize,
     cap: usize,
     book: &[u8],
@@ -164,8 +159,7 @@ pub extern "C" fn gentupag_unpack_plan_under(
 }
 
 // The verdict on a plan, its assignment in the output.
-#[unsafe(no_mangle)]
-pub extern "C" fn gentupag_check_plan_under(
+pub fn gentupag_check_plan_under(
     capped: usize,
     cap: usize,
     book: &[u8],
@@ -180,8 +174,7 @@ pub extern "C" fn gentupag_check_plan_under(
 }
 
 // The verdict on a refutation; all four slices are zero after it.
-#[unsafe(no_mangle)]
-pub extern "C" fn gentupag_check_refutation_under(
+pub fn gentupag_check_refutation_under(
     capped: usize,
     cap: usize,
     book: &[u8],
@@ -211,8 +204,7 @@ pub extern "C" fn gentupag_check_refutation_under(
 }
 
 // The combined verdict on n; all four slices are zero after it.
-#[unsafe(no_mangle)]
-pub extern "C" fn gentupag_check_fewest(
+pub fn gentupag_check_fewest(
     book: &[u8],
     n: usize,
     assignment: &[u8],
@@ -236,8 +228,7 @@ pub extern "C" fn gentupag_check_fewest(
 }
 
 // The label of each segment's section under a set of borders, in the output.
-#[unsafe(no_mangle)]
-pub extern "C" fn gentupag_label_sections(book: &[u8], borders: &[u8], out: &mut [u8]) -> Output
+pub fn gentupag_label_sections(book: &[u8], borders: &[u8], out: &mut [u8]) -> Output
     ensures { (result ≡ output_of (label_sections book.now borders.now (length out.old)))
         × (out.new ≡ labels_output book.now borders.now out.old) }
 {
@@ -245,16 +236,14 @@ pub extern "C" fn gentupag_label_sections(book: &[u8], borders: &[u8], out: &mut
 }
 
 // A run of a train, by its number in the train's list.
-#[unsafe(no_mangle)]
-pub extern "C" fn gentupag_show_run(book: &[u8], train: usize, run: usize) -> Run
+pub fn gentupag_show_run(book: &[u8], train: usize, run: usize) -> Run
     ensures { result ≡ run_answer (ask_run book.now train run) }
 {
     run_of(book, train, run)
 }
 
 // What a variable stands for, counted from 1 as in the formula's text.
-#[unsafe(no_mangle)]
-pub extern "C" fn gentupag_explain_variable_under(
+pub fn gentupag_explain_variable_under(
     capped: usize,
     cap: usize,
     book: &[u8],
@@ -266,8 +255,7 @@ pub extern "C" fn gentupag_explain_variable_under(
 }
 
 // An old book rewritten in the format in force, in the output.
-#[unsafe(no_mangle)]
-pub extern "C" fn gentupag_upgrade_book(old: &[u8], out: &mut [u8]) -> Output
+pub fn gentupag_upgrade_book(old: &[u8], out: &mut [u8]) -> Output
     ensures { (result ≡ output_of (upgrade_book old.now (length out.old)))
         × (out.new ≡ upgrade_output old.now out.old) }
 {
@@ -276,8 +264,7 @@ pub extern "C" fn gentupag_upgrade_book(old: &[u8], out: &mut [u8]) -> Output
 }
 
 // The train graph of a plan that keeps the rules, as a page in the output.
-#[unsafe(no_mangle)]
-pub extern "C" fn gentupag_print_graph(book: &[u8], plan: &[u8], out: &mut [u8]) -> Output
+pub fn gentupag_print_graph(book: &[u8], plan: &[u8], out: &mut [u8]) -> Output
     ensures { (result ≡ output_of (print_graph book.now plan.now (length out.old)))
         × (out.new ≡ page_output book.now plan.now out.old) }
 {
@@ -286,8 +273,7 @@ pub extern "C" fn gentupag_print_graph(book: &[u8], plan: &[u8], out: &mut [u8])
 }
 
 // The borders that carry a plan that keeps the rules, listed in the output.
-#[unsafe(no_mangle)]
-pub extern "C" fn gentupag_list_carriers(book: &[u8], plan: &[u8], out: &mut [u8]) -> Output
+pub fn gentupag_list_carriers(book: &[u8], plan: &[u8], out: &mut [u8]) -> Output
     ensures { (result ≡ output_of (list_carriers book.now plan.now (length out.old)))
         × (out.new ≡ carriers_output book.now plan.now out.old) }
 {
