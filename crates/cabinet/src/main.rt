@@ -15,6 +15,8 @@
 // rewriter print accepted; every command prints a refusal as its number, a blank and its detail. A slice has at
 // most 64 KiB: longer input is refused by 12 first. An N that is no number of 64 bits is a usage message, and so
 // is a cap for a command that takes none.
+#![tactic(auto)]
+
 mod commands;
 
 ghost use Rattle.std.specs.Prelude.{◌≤◌};

@@ -2,6 +2,8 @@
 // they meet first. `list_carriers` is the entry point: it takes any bytes as a book and as a plan, and
 // answers how long the list is that it wrote, or one numbered refusal, with the output as it was. Assumes
 // nothing.
+#![tactic(auto)]
+
 mod clearing;
 mod meeting;
 

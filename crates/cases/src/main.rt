@@ -13,6 +13,8 @@
 //                                  U  an old book's, rewritten
 //                                  G  a plan's, with its train graph
 //                                  C  a plan's, with its carriers
+#![tactic(auto)]
+
 mod books;
 mod files;
 mod formulas;

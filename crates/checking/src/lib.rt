@@ -3,6 +3,8 @@
 // book and as a plan and writes it as an assignment. Each answers accepted, with its output written, if it
 // has one, or one numbered refusal, with the output as it was. Each is for the formula under a cap, or
 // without one. Assumes nothing.
+#![tactic(auto)]
+
 ghost use Rattle.std.specs.Prelude.{◌≡◌, ◌≤◌, length, T};
 ghost use Rattle.spec.specs.Instance.{instance_of, under};
 ghost use Rattle.spec.specs.Plan.{plan_fits, plan_of};

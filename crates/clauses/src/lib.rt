@@ -3,6 +3,8 @@
 // With an empty output the walk measures and judges; where nobody asks for the judgement, no values
 // are lent. Every family of the formula is one function over this walk. Each function answers the walk
 // after its words. Assumes nothing.
+#![tactic(auto)]
+
 ghost use Rattle.std.specs.Prelude.{◌≡◌, not, ◌&&◌, ◌||◌, cond, ◌∷◌, map, ◌+◌, ◌*◌, ◌-◌, ◌<◌, ◌≤◌, length, set, pos, eqb};
 ghost use Rattle.spec.specs.Lists.{up_to, range, each, only, one};
 ghost use Rattle.spec.specs.Formula.{is, not', words_of};

@@ -1,19 +1,19 @@
 -- What the theorems use of the end of the formula (P7): the cap's clauses ask exactly of a plan that it sets no more nodes of kind 1 than
 -- the cap, and a plan's values of the cap's variables are a byte 0 or 1 each. Assumes nothing.
-use mathlib.Core.Path.{◌≡◌, refl, sym, ap, ap₂, ◌∙◌, subst}
+use mathlib.Core.Path.{◌≡◌, sym, ap, ◌∙◌, subst}
 use mathlib.Core.Logic.{◌↔◌, ◌⊎◌, inl, inr}
-use mathlib.Core.Bool.{Bool, true, false, not, ◌&&◌}
+use mathlib.Core.Bool.{Bool, not, ◌&&◌}
 use mathlib.Core.Option.{Option, none, some}
 use Prim.Native.Nat.{ℕ, ◌+◌, ◌*◌, ◌-◌, ◌≤◌, ◌<◌}
 use native.Mathlib.Omega.{arith}
 use mathlib.Core.List.{List, map}
-use lib.ListN.{length, get_or, take, length-map}
-use lib.Dec.{T, eqb, ltb, leb, T_not}
+use lib.ListN.{length, get_or, length-map}
+use lib.Dec.{T, eqb, ltb, T_not}
 use Rattle.laws.proofs.Tests.{meaning, and-iff, ltb_iff, leb-iff, decide, le-or-lt, true_of, denied-of, up_to-mem, get_or-mem}
 use Rattle.laws.proofs.Rows.{rows}
-use Rattle.laws.proofs.Picks.{pick-map, pick-most, pick-numbers, mem-pick}
-use Rattle.laws.proofs.Parts.{Part, part-behind, part_in, part_at, part-each, length-each, length-up_to, sum-constant, map_at, singles}
-use Rattle.spec.specs.Lists.{all, pick, up_to, each, sum_to}
+use Rattle.laws.proofs.Picks.{pick-map, pick-numbers, mem-pick}
+use Rattle.laws.proofs.Parts.{part_in, part_at, part-each, length-each, length-up_to, sum-constant, map_at, singles}
+use Rattle.spec.specs.Lists.{all, pick, up_to, sum_to}
 use Rattle.spec.specs.Instance.{Instance, is_free, free_nodes_of}
 use Rattle.spec.specs.Plan.{Plan, IsPlan, bit, is_bit}
 use Rattle.spec.specs.Cap.{allows, counter_for, counter_of, set_count, set_among, within_cap, cap_variables, count_var, cap_clauses, cap_values}

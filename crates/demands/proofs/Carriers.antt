@@ -6,14 +6,14 @@ use mathlib.Core.Path.{◌≡◌, refl, sym, ap, ◌∙◌, subst}
 use mathlib.Core.Logic.{◌↔◌, ◌⊎◌}
 use mathlib.Core.Bool.{Bool, not, ◌&&◌, not-not}
 use mathlib.Core.Option.{none}
-use Prim.Native.Nat.{ℕ, zero, suc, ◌+◌, ◌*◌, ◌≤◌, ◌<◌}
+use Prim.Native.Nat.{ℕ, zero, suc, ◌*◌, ◌≤◌, ◌<◌}
 use native.Mathlib.Omega.{arith}
 use mathlib.Core.List.Memᴰ
 use mathlib.Core.List.{List, [], ◌∷◌, ◌++◌, map, Memᴰ}
 use lib.ListN.{length, get_or, take, set, length-set}
 use lib.Seq.{get_or-set_same, get_or-set_other, drop-set-lt}
 use lib.Dec.{T, leb, eqb, eqb_refl}
-use Rattle.spec.specs.Lists.{Bytes, all, up_to, each, pick, one, passes, ◌when◌, Verdict, accepted, refused}
+use Rattle.spec.specs.Lists.{Bytes, all, up_to, each, pick, passes, ◌when◌, Verdict, accepted, refused}
 use Rattle.spec.specs.Numbers.{field, number}
 use Rattle.spec.specs.Book.{Book, node_kind_at, greatest_node_kind, is_exit, denies_border, forces_border}
 use Rattle.spec.specs.Read.{well_formed, read_book}
@@ -27,7 +27,7 @@ use Rattle.laws.proofs.Tests.{and-iff, not_iff, eqb-iff, leb-iff, all-up_to, all
 use Rattle.laws.proofs.Picks.{mem-pick, pick_same, pick-numbers, pick-fewer}
 use Rattle.laws.proofs.Parts.{each_map, length-rows}
 pub use Rattle.demands.specs.Carriers.{Clears, SetKindOne, Carries, Entry, entry_bytes, Listed}
-use Rattle.demands.specs.Claims.{Holds, nothing}
+use Rattle.demands.specs.Claims.{Holds}
 use Rattle.demands.specs.Reasons.{Refusal, of_input, PlanFault, rule_broken, plan_fault, FirstHolds, Within}
 use Rattle.demands.proofs.Wellformed.{parts}
 use Rattle.demands.proofs.RunLists.{up_to-rises, rising-pick, rising-map, rising-same}

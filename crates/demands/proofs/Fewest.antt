@@ -6,7 +6,6 @@ use mathlib.Core.Bool.{not}
 use mathlib.Core.Option.{none, some}
 use Prim.Native.Nat.{ℕ, zero, suc, ◌≤◌}
 use native.Mathlib.Omega.{arith}
-use mathlib.Core.List.{[]}
 use lib.ListN.{length}
 use lib.Dec.{T, eqb, T_not}
 use Rattle.laws.proofs.Tests.{eqb-iff, leb-iff, le-or-lt, up_to-mem, empty-length, nil-of-length, decide}
@@ -20,7 +19,7 @@ use Rattle.spec.specs.Cap.{allows, set_count}
 use Rattle.spec.specs.Formula.{formula, variables}
 use Rattle.spec.specs.Assignment.{assigned, decoded, decode}
 use Rattle.spec.specs.Refutation.{Lent}
-use Rattle.spec.specs.Entry.{demand, read_instance, judge_assignment, check_assignment, formula_fits, fewest_fits, fewer_refuted, fewest_for, check_fewest}
+use Rattle.spec.specs.Entry.{demand, read_instance, judge_assignment, check_assignment, fewest_fits, fewer_refuted, fewest_for, check_fewest}
 pub use Rattle.demands.specs.Claims.{FewerRefuted}
 use Rattle.demands.specs.Reasons.{Refusal, NoRoomBelow, no_room, FewerFault, not_empty, lower_cap, FewestFault, assignment_fault, other_count, refutation_fault, Within}
 use Rattle.demands.proofs.Moves.{fitting}

@@ -12,7 +12,7 @@ use Rattle.spec.specs.Lists.{all, up_to, least_from}
 use Rattle.spec.specs.Book.{Book}
 use Rattle.spec.specs.Read.{well_formed}
 use Rattle.spec.specs.Instance.{Instance, instance_of}
-use Rattle.spec.specs.Sections.{together, share_section}
+use Rattle.spec.specs.Sections.{share_section}
 use Rattle.spec.specs.Plan.{Plan, Move, run, absent, gone, of_run, is_move, IsPlan, trains_meet, apart_in, rule6}
 use Rattle.spec.specs.Carriers.{earliest, meets_higher, lower_train, higher_train}
 use Rattle.laws.proofs.Tests.{meaning, bool-ext, not_iff, eqb-iff, ltb_iff, any-iff, any-range, all-up_to, decide, le-or-lt}

@@ -19,9 +19,9 @@ use Rattle.spec.specs.Instance.{Instance, instance_of, under}
 use Rattle.spec.specs.Plan.{Plan, plan_fits, plan_of, plan_length, broken_rule}
 use Rattle.spec.specs.Cap.{within_cap}
 use Rattle.spec.specs.Formula.{Clause, formula, variables, words_of}
-use Rattle.spec.specs.Assignment.{holds, first_false, assigned, assignment_fits, encode}
+use Rattle.spec.specs.Assignment.{holds, first_false, assigned, assignment_fits}
 use Rattle.spec.specs.Refutation.{Lent, clause_at, step_faults, check_steps, check_file, is_bad}
-use Rattle.spec.specs.Entry.{demand, find_none, read_instance, read_under, write_formula, formula_text, judge_assignment, check_assignment, unpacked_for, unpack_plan, judge_plan, encoded_for, check_plan, check_refutation, refuted_for, formula_fits, written_for}
+use Rattle.spec.specs.Entry.{demand, find_none, read_under, write_formula, formula_text, judge_assignment, check_assignment, unpacked_for, unpack_plan, judge_plan, check_plan, check_refutation, refuted_for, formula_fits, written_for}
 pub use Rattle.demands.specs.Reasons.{Refusal, of_book, of_room, of_input, LeastFalse, AssignmentFault, assignment_unfit, clause_false, PlanFault, plan_unfit, rule_broken, AskedFault, plan_fault, own_fault, OverCap, over_cap, Nothing, StepsTo, first_step, next_step, RefutationFault, step_fault, no_ending, bytes_after, Within}
 use Rattle.demands.proofs.Faults.{passes, FirstHolds, first-none, first_some, first_passes}
 use Rattle.demands.proofs.Reading.{as-refused, refusal-has-reason}

@@ -18,9 +18,9 @@ use Rattle.spec.specs.Instance.{Instance, instance_of, under}
 use Rattle.spec.specs.Plan.{Plan, plan_fits, plan_of, plan_length, rule_faults, broken_rule}
 use Rattle.spec.specs.Cap.{within_cap}
 use Rattle.spec.specs.Formula.{Clause, formula, variables, words_of}
-use Rattle.spec.specs.Assignment.{holds, satisfies, first_false, assigned, assignment_fits, encode}
+use Rattle.spec.specs.Assignment.{holds, satisfies, first_false, assigned, assignment_fits}
 use Rattle.spec.specs.Refutation.{Lent, clause_at, step_faults, step_detail, check_steps, check_file}
-use Rattle.spec.specs.Entry.{demand, find_none, read_instance, write_formula, judge_assignment, check_assignment, unpacked_for, unpack_plan, judge_plan, encoded_for, check_plan, check_refutation, refuted_for, formula_fits, written_for}
+use Rattle.spec.specs.Entry.{demand, find_none, write_formula, judge_assignment, check_assignment, unpacked_for, unpack_plan, judge_plan, check_plan, check_refutation, refuted_for, formula_fits, written_for}
 use Rattle.demands.proofs.Faults.{passes, clear_first, holds-first}
 use Rattle.demands.proofs.Refuting.{step_at, added}
 use Rattle.demands.proofs.Entries.{accepted≢refused, demand-iff, then-goes, no_false, plan-iff, read_at, read_at_lem, under-is, of_plan, plan-checked, own_cap, plan-is}

@@ -4,17 +4,16 @@ use mathlib.Core.Path.{◌≡◌, refl, sym, ap, ◌∙◌}
 use mathlib.Core.Logic.{◌↔◌}
 use mathlib.Core.Bool.{Bool, true, false, ◌||◌}
 use mathlib.Core.Option.{Option, none}
-use Prim.Native.Nat.{ℕ, ◌+◌, ◌*◌, ◌≤◌}
+use Prim.Native.Nat.{ℕ, ◌*◌, ◌≤◌}
 use native.Mathlib.Nat.{mul-le-mul, mul-le-mul_right}
 use native.Mathlib.Omega.{arith}
 use lib.ListN.{length}
 use lib.Dec.{leb}
 use Rattle.laws.proofs.Tests.{and-iff, leb-iff}
 use Rattle.spec.specs.Lists.{Bytes, Verdict, accepted, refused, and_then}
-use Rattle.spec.specs.Frames.{book_format}
 use Rattle.spec.specs.Book.{Book}
-use Rattle.spec.specs.Read.{read_book, between, head_fits, max_nodes, max_trains}
-use Rattle.spec.specs.Instance.{Instance, instance_of, compile, under}
+use Rattle.spec.specs.Read.{read_book, between, head_fits}
+use Rattle.spec.specs.Instance.{instance_of, compile, under}
 use Rattle.spec.specs.Plan.{plan_length}
 use Rattle.spec.specs.Assignment.{decode}
 use Rattle.spec.specs.Entry.{overwrite, written, demand, read_instance, read_under, judge_assignment, check_assignment, unpacked_for, unpack_plan, plan_output}

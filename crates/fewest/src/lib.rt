@@ -1,6 +1,8 @@
 // The combined verdict, P7: this many borders suffice, and fewer never do. `check_fewest` is the entry point: it
 // takes any bytes as a book, as an assignment and as a refutation, any n and any four slices, answers accepted
 // or one numbered refusal, and leaves the slices zero. Assumes nothing.
+#![tactic(auto)]
+
 ghost use Rattle.std.specs.Prelude.{◌≡◌, ◌<◌, length, pos};
 ghost use Rattle.spec.specs.Lists.{empty};
 ghost use Rattle.spec.specs.Instance.{instance_of};

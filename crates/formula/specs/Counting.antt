@@ -1,12 +1,9 @@
 -- The clauses of a cap's counter as the loops pass them: by the counter that the code holds, and by a slice that has the nodes of kind 1 at
 -- its start. That they are those of the specification is a lemma. Assumes nothing.
-use Rattle.std.specs.Prelude.{◌≡◌, ◌&&◌, ℕ, ◌+◌, ◌*◌, ◌-◌, ◌≤◌, ◌<◌, List, ◌∷◌, ◌++◌, length, get_or, ℤ, ltb}
-use Rattle.model.specs.declared.Book.{Book as BookStruct}
+use Rattle.std.specs.Prelude.{◌&&◌, ℕ, ◌+◌, ◌*◌, ◌-◌, ◌≤◌, ◌<◌, List, ◌∷◌, ◌++◌, length, get_or, ℤ, ltb}
 use Rattle.spec.specs.Lists.{up_to, each, only, one}
 use Rattle.spec.specs.Read.{max_nodes}
-use Rattle.spec.specs.Instance.{instance_of, free_nodes_of}
 use Rattle.spec.specs.Formula.{Clause, is, not'}
-use Rattle.spec.specs.Held.{held}
 use Rattle.layout.specs.declared.counter.Counter.{Counter}
 use Rattle.layout.specs.Blocks.{first_most}
 

@@ -3,6 +3,8 @@
 // payload; its constructor `cursor` gives the stretch of a file that the payload's fixed part takes. The
 // Head, Train and Call of an old book have other lengths, so they are types of their own. A time is the
 // Head's T, a train's departure, a call's first or last. Assumes nothing.
+#![tactic(auto)]
+
 pub mod bytes;
 
 ghost use Rattle.std.specs.Prelude.{◌≡◌, ℕ, ◌+◌, ◌*◌, ◌≤◌, ◌<◌, length, drop};

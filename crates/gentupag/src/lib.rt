@@ -1,6 +1,8 @@
 // The library that people link, by way of gentupag_c: the entry points under plain names, and what drawings and tools ask
 // of a book, so that nobody states a rule of the core a second time. An answer is a struct: a refusal's
 // number and detail, or 0, 0 and what was asked for. No function has a `requires`. Assumes nothing.
+#![tactic(auto)]
+
 pub mod answers;
 mod labels;
 mod runs;

@@ -1,6 +1,8 @@
 // The train graph of a plan, which signal engineers pin to the wall: a page of a line an interval, with a
 // cell a train. `print_graph` is the entry point: it takes any bytes as a book and as a plan, and answers
 // how long the page is that it wrote, or one numbered refusal, with the output as it was. Assumes nothing.
+#![tactic(auto)]
+
 mod cells;
 mod page;
 

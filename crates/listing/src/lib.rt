@@ -3,6 +3,8 @@
 // table, an entry a run, so that a run is found by its number at once; at most 256 are kept, and the
 // listing stops at the 257th. A table that is filled once a book has the successors of each directed
 // segment, its fan. Assumes nothing.
+#![tactic(auto)]
+
 ghost use Rattle.std.specs.Prelude.{◌≡◌, ◌++◌, map, ℕ, ◌+◌, ◌*◌, ◌≤◌, ◌<◌, length, T};
 ghost use Rattle.std.proofs.lemmas.List.Edits.{sets};
 ghost use Rattle.spec.specs.Lists.{one, has, last_or};

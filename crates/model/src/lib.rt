@@ -1,6 +1,7 @@
 // The book by value: document 01's records as structs, with counts. The specification's segments,
 // joins and calls are these very structs; a train's place and the book's rows are, there, lists of
 // the length that stands beside the array here. There are no functions, so nothing is to prove.
+#![tactic(auto)]
 
 // The limits of document 01, and T's of document 02, each once in code: the contracts of the functions
 // that test them tie them to the specification's. MAX_CALLS is a train's, MAX_REACH the greatest l and k.

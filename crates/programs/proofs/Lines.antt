@@ -1,6 +1,6 @@
 -- What is said of an answer is what is told of its verdict. Assumes nothing.
 use mathlib.Core.Path.{◌≡◌, refl, sym, ap, ◌∙◌, subst}
-use Prim.Native.Nat.{ℕ, ◌≤◌}
+use Prim.Native.Nat.{ℕ}
 use lib.ListN.{length}
 use lib.Seq.{sets}
 use Rattle.spec.specs.Lists.{Bytes, Verdict, accepted, refused, and_then}

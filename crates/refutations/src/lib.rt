@@ -1,6 +1,8 @@
 // The check of a refutation. `check_refutation` is the entry point: it takes any bytes as a book and as
 // a refutation and any four slices, answers accepted or one numbered refusal, and leaves the slices
 // zero. Assumes nothing.
+#![tactic(auto)]
+
 ghost use Rattle.std.specs.Prelude.{◌≡◌, length, pos};
 ghost use Rattle.spec.specs.Instance.{instance_of, under};
 ghost use Rattle.spec.specs.Held.{held, held_cap};

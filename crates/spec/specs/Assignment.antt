@@ -1,5 +1,5 @@
 -- Assignments: the truth of a literal, judging, decoding, and a plan written as an assignment. Assumes nothing.
-use Rattle.std.specs.Prelude.{Bool, true, false, ◌&&◌, cond, ℕ, zero, suc, ◌+◌, List, [], ◌∷◌, ◌++◌, map, length, get_or, pos, negsuc, eqb}
+use Rattle.std.specs.Prelude.{Bool, true, false, ◌&&◌, cond, ℕ, zero, suc, List, [], ◌∷◌, ◌++◌, map, length, get_or, pos, negsuc, eqb}
 use Rattle.std.proofs.Math.Option.{Option, none, some}
 use Rattle.spec.specs.Lists.{Bytes, any, all, up_to, each}
 use Rattle.spec.specs.Instance.{Instance}

@@ -1,7 +1,7 @@
 -- The entry points, each as ONE definition: what it returns, from the book's bytes, the second input's bytes and the lengths of
 -- the lent slices, and from nothing else; and beside it what each lent slice holds after the call. The rewriter's is in `Upgrade`,
 -- the train graph's in `Page`, that of the list of carriers in `Carriers`. Assumes nothing.
-use Rattle.std.specs.Prelude.{Bool, true, false, ◌&&◌, ℕ, zero, suc, ◌+◌, List, [], ◌++◌, length, drop, replicate, ℤ, leb, eqb}
+use Rattle.std.specs.Prelude.{Bool, true, false, ◌&&◌, ℕ, zero, suc, List, [], ◌++◌, length, drop, replicate, ℤ, leb, eqb}
 use Rattle.std.proofs.Math.Option.{Option, none, some}
 use Rattle.spec.specs.Lists.{Bytes, empty, Verdict, accepted, refused, and_then}
 use Rattle.spec.specs.Read.{read_book}

@@ -2,7 +2,7 @@
 -- turned into these answers in one place, `instance_of`, so a rule of the book (whether a place serves a call, who may be gone; which
 -- node kinds deny a border, in `Book`) is changed there and nowhere else. Assumes nothing.
 use Rattle.std.specs.Prelude.{Bool, not, ◌&&◌, ℕ, ◌-◌, List, [], map, length, get_or}
-use Rattle.std.proofs.Math.Option.{Option, none, some}
+use Rattle.std.proofs.Math.Option.{Option, none}
 use Rattle.spec.specs.Lists.{same, last_or, pick, up_to}
 use Rattle.spec.specs.Book.{Book, Call, node_kind_at, train_at, calls_of, no_call, goal_of}
 use Rattle.spec.specs.Book.{is_exit, denies_border, forces_border, share_node, segment_of, end_node, length_in_segments}

@@ -2,6 +2,8 @@
 // widened and every other field as it was. `upgrade_book` is the entry point: it takes any bytes as an old
 // book, and answers how long the new one is that it wrote, or one numbered refusal, with the output as it
 // was. Assumes nothing.
+#![tactic(auto)]
+
 ghost use Rattle.std.specs.Prelude.{◌≡◌, ◌+◌, ◌≤◌, ◌<◌, length};
 ghost use Rattle.std.proofs.Math.Option.{some};
 ghost use Rattle.std.proofs.lemmas.List.Edits.{sets};

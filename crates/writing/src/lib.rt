@@ -1,6 +1,8 @@
 // Writing a book's formula. `write_formula` is the entry point: it takes any cap, bytes and output, and
 // answers the totals, with the words written, or one numbered refusal, with the output as it was.
 // The words are measured before anything is written. Assumes nothing.
+#![tactic(auto)]
+
 ghost use Rattle.std.specs.Prelude.{◌≡◌, length};
 ghost use Rattle.spec.specs.Instance.{instance_of, under};
 ghost use Rattle.spec.specs.Held.{held, held_cap};

@@ -1,6 +1,5 @@
 -- `fewest_by` meets its contract, by whether n is 0. Assumes nothing.
 use borrow.Author.Rules.{rules}
-use native.Mathlib.Omega.{arith}
 use mathlib.Core.Path.{sym, ap, ◌∙◌}
 use Prim.Native.Nat.{ℕ}
 use Rattle.spec.specs.Instance.{instance_of}

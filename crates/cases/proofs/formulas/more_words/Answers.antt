@@ -9,6 +9,7 @@ loop-from-smaller c =
     omega (arith, c.put_words-piece.ensures.0, piece-some (length c.loop-from.buf) c.args.words.now c.loop-from.from (omega arith) less, less)
 
 pub loop-from-preserved : goal.loop-from-preserved
-loop-from-preserved c =
-    (omega (arith, c.put_words-piece.ensures.0, piece-le (length c.loop-from.buf) c.args.words.now c.loop-from.from c.loop-from.invariant.0),
-      c.more-digest.ensures)
+loop-from-preserved c = (
+  omega (arith, c.put_words-piece.ensures.0, piece-le (length c.loop-from.buf) c.args.words.now c.loop-from.from c.loop-from.invariant.0),
+  c.more-digest.ensures,
+)

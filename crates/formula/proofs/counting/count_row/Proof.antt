@@ -4,7 +4,6 @@ use mathlib.Core.Path.{sym}
 use Prim.Native.Nat.{ℕ, ◌+◌, ◌-◌, ◌<◌}
 use mathlib.Core.List.{List}
 use lib.IntN.{ℤ}
-use lib.ListN.{get_or}
 use Rattle.spec.specs.Lists.{range, each}
 use Rattle.spec.specs.Formula.{words_of}
 use Rattle.layout.specs.declared.counter.Counter.{Counter}

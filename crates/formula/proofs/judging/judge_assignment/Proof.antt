@@ -1,7 +1,6 @@
 -- `judging::judge_assignment` meets its contract: a walk with an empty output finds the least clause that is false. Assumes
 -- nothing.
 use borrow.Author.Rules.{rules}
-use borrow.Author.Tests.{not-true, not-false}
 use mathlib.Core.Path.{◌≡◌, sym, ap, ◌∙◌}
 use mathlib.Core.Bool.{true}
 use Rattle.spec.specs.Lists.{or_zero}

@@ -3,13 +3,11 @@
 use borrow.Author.Rules.{rules}
 use native.Mathlib.Omega.{arith}
 use mathlib.Core.Path.{◌≡◌, refl, sym, ap, ◌∙◌}
-use mathlib.Core.Bool.{Bool, true, false}
-use mathlib.Core.Option.{Option, none, some}
+use mathlib.Core.Bool.{true}
 use Prim.Native.Nat.{ℕ, ◌+◌, ◌*◌, ◌-◌, ◌≤◌, ◌<◌, ◌^◌}
-use mathlib.Core.List.{List, [], ◌∷◌}
+use mathlib.Core.List.{List}
 use lib.ListN.{length, get_or, drop}
-use lib.Dec.{ltb, leb, T}
-use Rattle.programs.specs.Arguments.{is_figure, figures, fitting, number_in}
+use Rattle.programs.specs.Arguments.{is_figure, figures}
 use Rattle.programs.proofs.Figures.{below, above, within, number-none, number-whole, no-figure, read-on, too_large}
 use Rattle.programs.proofs.arguments.number_in.Statement.{statement}
 use Rattle.programs.proofs.arguments.number_in.Tie as tie
