@@ -77,7 +77,8 @@ pub fn label_sections(b: Book, meets: &[u8], borders: &[u8], labels: &mut [usize
     let mut at = 0;
     while at + 2 < end {
         let node = wide(meets[at]);
-        if borders[node] != 1 {
+        let open = borders[node] != 1;
+        if open {
             join(
                 labels,
                 b.segment_count,

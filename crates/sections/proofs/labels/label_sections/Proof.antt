@@ -14,7 +14,7 @@ use Rattle.laws.proofs.Tests.{from-true, from-denied}
 use Rattle.sections.proofs.Labelled.{Labelled, labelled-start, labelled-meets, labelled-border, labelled-open, labelled-end}
 use Rattle.sections.proofs.labels.label_sections.Statement.{statement}
 use Rattle.sections.proofs.labels.label_sections.Tie as tie
-use Rattle.sections.proofs.labels.label_sections.Lts.{then-borders-node-ne1, else-borders-node-ne1}
+use Rattle.sections.proofs.labels.label_sections.Lts.{then-open, else-open}
 
 abbrev invariant-loop : tie.invariant-loop-at
 invariant-loop b meets borders labels₀ end at₀ labels at = (at ≤ end) × Labelled b (borders_of borders) meets at labels₀ labels
@@ -63,11 +63,11 @@ join-requires c κs =
     let d = c.before.before.before.before.before.before.before.before.before in (
       omega (arith, (given d).requires.0.packed.counts.segments, d.loop-at.invariant.1.size),
       omega (arith, (met d).1, c.wide.ensures.0),
-      omega (arith, (met d).2, c.wide-then-borders-node-ne1.ensures.0),
+      omega (arith, (met d).2, c.wide-then-open.ensures.0),
     )
 
 -- a turn joins two sections where the node is no border
-module _ (c : tie.Joined-borders-node-ne1 invariant-loop decreases-loop) where
+module _ (c : tie.Joined-open invariant-loop decreases-loop) where
   abbrev inside : tie.In-loop-at invariant-loop decreases-loop
   inside = c.before.before.before.before
 
@@ -80,18 +80,18 @@ module _ (c : tie.Joined-borders-node-ne1 invariant-loop decreases-loop) where
   node-is x e = rw (← c.wide-node.ensures.0) e
 
   turn : Labelled start.args.b (borders_of start.args.borders.now) (meets inside) (at inside + 3)
-      inside.number_labels.new.labels c.if-borders-node-ne1.labels
+      inside.number_labels.new.labels c.if-open.labels
   turn =
       let i = inside.loop-at.invariant.1 in
       let t = inside.loop-at-test.true in
-      elim (c.if-borders-node-ne1.branch) [
-        | then-borders-node-ne1 w ↦
+      elim (c.if-open.branch) [
+        | then-open w ↦
             labelled-open start.args.b start.requires.0 _ _ start.requires.1 (at inside) _ _ i t
-            (from-denied (node-is _ (ne_eqb _ _ w.if-borders-node-ne1.true))) _ _ _ w.wide.ensures.0
-            w.wide-then-borders-node-ne1.ensures.0 (w.labels-is ∙ w.join.ensures)
-        | else-borders-node-ne1 w ↦
+            (from-denied (node-is _ (ne_eqb _ _ w.if-open.true))) _ _ _ w.wide.ensures.0
+            w.wide-then-open.ensures.0 (w.labels-is ∙ w.join.ensures)
+        | else-open w ↦
             labelled-border start.args.b start.requires.0 _ _ start.requires.1 (at inside) _ _ i t
-            (from-true (node-is _ (eq-eqb _ _ w.if-borders-node-ne1.false))) _ w.labels-is
+            (from-true (node-is _ (eq-eqb _ _ w.if-open.false))) _ w.labels-is
       ]
 
 same_length : tie.Need-shape_of-labels invariant-loop decreases-loop
