@@ -464,5 +464,7 @@ pub fn out_of_order(last: usize, kind: usize, left: usize) -> bool
             return true;
         }
     }
-    rank(kind) < last || kind == EndFrame::KIND && left != 0
+    let place = rank(kind);
+    let goes_down = place < last;
+    goes_down || kind == EndFrame::KIND && left != 0
 }

@@ -57,7 +57,8 @@ fn literal_fits(l: i32, low: usize, variables: usize) -> bool
     if most < l {
         return false;
     }
-    if l < -most {
+    let below = l < -most;
+    if below {
         return false;
     }
     low < variable(l)

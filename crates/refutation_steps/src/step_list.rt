@@ -43,7 +43,8 @@ pub fn check_steps(
             StepAnswer::Refused(number) => return Answer::Refused(number, detail_of(number, step)),
             StepAnswer::Proved { literals, hints } => {
                 at = step_end(at, literals, hints);
-                if literals == 0 {
+                let is_empty = literals == 0;
+                if is_empty {
                     return if at == r.len() {
                         Answer::Accepted
                     } else {

@@ -19,20 +19,17 @@ returns c =
     let e = lt-leb (variable_of s.args.l) s.args.variables (above-range s.args.l s.ranges.l _ s.requires c.if-most-l.true) in
     simp (e, and-false)
 
-sub-if2 : tie.Need-overflow_sub-most
-sub-if2 c = opposite-fits _ c.requires
-
-returns-2 : tie.Need-returns-then-l-most
+returns-2 : tie.Need-returns-then-below
 returns-2 c =
     let s = c.before.before in
-    let e = lt-leb (variable_of s.args.l) s.args.variables (below-range s.args.l s.ranges.l _ s.requires c.if-l-most.true) in
+    let e = lt-leb (variable_of s.args.l) s.args.variables (below-range s.args.l s.ranges.l _ s.requires c.if-below.true) in
     simp (e, and-false)
 
 -- the variable is one of those that there are
-fits : (c : tie.Else-l-most) → variable_of c.args.l ≤ c.args.variables
+fits : (c : tie.Else-below) → variable_of c.args.l ≤ c.args.variables
 fits c =
     let s = c.before.before in
-    in-range s.args.l s.ranges.l _ s.requires c.if-most-l.false c.if-l-most.false
+    in-range s.args.l s.ranges.l _ s.requires c.if-most-l.false c.if-below.false
 
 variable-requires : tie.Need-variable-requires
 variable-requires c κs =
@@ -47,4 +44,4 @@ returns-3 c =
     simp (v, e, and-true)
 
 pub literal_fits_spec : {M : Type 1} → statement M
-literal_fits_spec = tie.close (tie.spec (λ c. search rules) returns sub-if2 returns-2 variable-requires returns-3)
+literal_fits_spec = tie.close (tie.spec (λ c. search rules) returns (λ c. opposite-fits _ c.requires) returns-2 variable-requires returns-3)

@@ -91,17 +91,17 @@ returns-2 c =
     let e = c.before.before in
     let p = e.before in
     let s = here p in
-    ended (head s).loop-at.invariant (some s) (said p).0 (said p).1 c.if-literals-eq0.true (sym e.step_end-at.ensures ∙ c.if-at-r.true)
+    ended (head s).loop-at.invariant (some s) (said p).0 (said p).1 c.if-is_empty.true (sym e.step_end-at.ensures ∙ c.if-at-r.true)
 
 returns-3 : tie.Need-returns-else-at-r invariant-loop decreases-loop
 returns-3 c =
     let e = c.before.before in
     let p = e.before in
     let s = here p in
-    trailed (head s).loop-at.invariant (some s) (said p).0 (said p).1 c.if-literals-eq0.true (λ k. c.if-at-r.false (e.step_end-at.ensures ∙ k))
+    trailed (head s).loop-at.invariant (some s) (said p).0 (said p).1 c.if-is_empty.true (λ k. c.if-at-r.false (e.step_end-at.ensures ∙ k))
 
 -- a step with literals
-abbrev proved : tie.Else-literals-eq0 invariant-loop decreases-loop → tie.In-Proved invariant-loop decreases-loop
+abbrev proved : tie.Else-is_empty invariant-loop decreases-loop → tie.In-Proved invariant-loop decreases-loop
 proved c = c.before.before
 
 add-filled-3 : tie.Need-overflow_add-filled-in-Proved-2 invariant-loop decreases-loop
@@ -125,7 +125,7 @@ loop-again c =
     let x = c.before.before in
     let p = proved x in
     let s = here p in
-    went_on (head s).loop-at.invariant (some s) (said p).0 (said p).1 x.if-literals-eq0.false x.step_end-at.ensures (search rules) (search rules)
+    went_on (head s).loop-at.invariant (some s) (said p).0 (said p).1 x.if-is_empty.false x.step_end-at.ensures (search rules) (search rules)
     (search rules) (search rules)
 
 -- no step is left
