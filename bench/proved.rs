@@ -1,4 +1,4 @@
-// The proved entry points, through the static library that `rt staticlib gentupag` writes. Each answers a refusal's number and detail,
+// The proved entry points, through the static library that `bin/archive` makes. Each answers a refusal's number and detail,
 // or what was written. What is about the formula takes a cap on the borders, or none.
 
 use crate::checks::Lent;

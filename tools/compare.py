@@ -2,7 +2,7 @@
 assignments, plans and refutations for those that pass, without a cap and under one, and as many old books, books whose plans are drawn as train
 graphs, and books whose plans are carried by borders, with the fewest of them. Both sides are asked the same questions, and it prints how many
 answers of each kind agreed, or which did not. A question's answer is a row of numbers: 0 and the result, or the refusal's number and detail. The
-questions become a table of a small crate beside a copy of crates/spec, and the checker (`rt dev`) decides it; a table that it refuses is halved
+questions become a table of a small crate beside a copy of crates/spec, and the checker (`rt check`) decides it; a table that it refuses is halved
 until the question is found.
 
 Exit status: 0 none differs, 1 some differ, or the checker refused a table's form, 2 wrong usage.
@@ -33,13 +33,8 @@ from .repository import ROOT, read_text, write_text
 TABLE_SIZE = 60000
 
 PRELUDE = """
-use mathlib.Core.Path.{_≡_, refl}
-use mathlib.Core.Bool.{Bool, true, false}
-use Prim.Native.Nat.{ℕ, zero, suc, _+_, _*_}
-use mathlib.Core.List.{List, [], _∷_, _++_, map}
-use mathlib.Core.Option.{Option, none, some}
-use lib.ListN.{length, take, drop}
-use lib.IntN.{ℤ, pos, negsuc}
+use Rattle.std.specs.Prelude.{◌≡◌, refl, not, ℕ, zero, suc, ◌+◌, ◌*◌, List, [], ◌∷◌, ◌++◌, map, length, take, drop, ℤ, pos, negsuc}
+use Rattle.std.proofs.Math.Option.{Option, none, some}
 
 answered : {A : Type 0} → Verdict A → (A → List ℕ) → List ℕ
 answered (accepted a) f = 0 ∷ f a
@@ -53,70 +48,70 @@ rows : List (List ℕ) → List ℕ
 rows xs = each xs λ x. length x ∷ x
 
 lists : Bytes → List ℕ
-lists s = answered (readBook s) λ b. length (b .nodes) ∷ length (b .segments) ∷ length (b .joins) ∷ each (runLists b) λ l. length l ∷ rows l
+lists s = answered (read_book s) λ b. length b.nodes ∷ length b.segments ∷ length b.joins ∷ each (run_lists b) λ l. length l ∷ rows l
 
 grouped : Bytes → List ℕ → List ℕ
-grouped s borders = answered (readInstance s) λ I.
-    rows (map (λ t. pick (λ u. together I (λ n. has n borders) t u) (upTo (I .segments))) (upTo (I .segments)))
+grouped s borders = answered (read_instance s) λ I.
+    rows (map (λ t. pick (λ u. together I (λ n. has n borders) t u) (up_to I.segments)) (up_to I.segments))
 
 words : Option ℕ → Bytes → ℕ → List ℕ
-words cap s n = answered (writeFormula cap s n) λ w. w .variableCount ∷ w .clauseCount ∷ w .wordCount ∷ map code (w .words)
+words cap s n = answered (write_formula cap s n) λ w. w.variable_count ∷ w.clause_count ∷ w.word_count ∷ map code w.words
 
-textOf : Option ℕ → Bytes → List ℕ
-textOf cap s = answered (formulaText cap s 1000000) λ t. t
+text_of : Option ℕ → Bytes → List ℕ
+text_of cap s = answered (formula_text cap s 1000000) λ t. t
 
 decoding : Option ℕ → Bytes → Bytes → ℕ → List ℕ
-decoding cap s a n = answered (unpackPlan cap s a n) λ p. p
+decoding cap s a n = answered (unpack_plan cap s a n) λ p. p
 
 judging : Option ℕ → Bytes → Bytes → List ℕ
-judging cap s a = answered (checkAssignment cap s a) λ _. []
+judging cap s a = answered (check_assignment cap s a) λ _. []
 
 encoding : Option ℕ → Bytes → Bytes → ℕ → List ℕ
-encoding cap s p n = answered (checkPlan cap s p n) λ a. a
+encoding cap s p n = answered (check_plan cap s p n) λ a. a
 
-refuting′ : Option ℕ → Bytes → Bytes → ℕ → ℕ → ℕ → ℕ → List ℕ
-refuting′ cap s r w c v t = answered (checkRefutation cap s r (record { words = w; clauses = c; values = v; trail = t })) λ _. []
+refuting' : Option ℕ → Bytes → Bytes → ℕ → ℕ → ℕ → ℕ → List ℕ
+refuting' cap s r w c v t = answered (check_refutation cap s r (record { words = w; clauses = c; values = v; trail = t })) λ _. []
 
 combining : Bytes → ℕ → Bytes → Bytes → ℕ → ℕ → ℕ → ℕ → List ℕ
-combining s n a r w c v t = answered (checkFewest s n a r (record { words = w; clauses = c; values = v; trail = t })) λ _. []
+combining s n a r w c v t = answered (check_fewest s n a r (record { words = w; clauses = c; values = v; trail = t })) λ _. []
 
 rewriting : Bytes → ℕ → List ℕ
-rewriting s n = answered (upgradeBook s n) λ b. b
+rewriting s n = answered (upgrade_book s n) λ b. b
 
 drawing : Bytes → Bytes → ℕ → List ℕ
-drawing s p n = answered (printGraph s p n) λ g. g
+drawing s p n = answered (print_graph s p n) λ g. g
 
-lineDrawn : Bytes → Bytes → ℕ → List ℕ
-lineDrawn s p t = answered (printGraph s p 65536) λ g. length g ∷ take 81 (drop (81 * t) g)
+line_drawn : Bytes → Bytes → ℕ → List ℕ
+line_drawn s p t = answered (print_graph s p 65536) λ g. length g ∷ take 81 (drop (81 * t) g)
 
 listing : Bytes → Bytes → ℕ → List ℕ
-listing s p n = answered (listCarriers s p n) λ l. l
+listing s p n = answered (list_carriers s p n) λ l. l
 
 measuring : Option ℕ → Bytes → List ℕ
-measuring cap s = answered (measureBook cap s) λ z.
-    z .intervals ∷ z .nodes ∷ z .freeNodes ∷ z .segments ∷ z .trains ∷ z .variableCount ∷ z .clauseCount ∷ z .wordCount ∷ z .planBytes ∷ []
+measuring cap s = answered (measure_book cap s) λ z.
+    z.intervals ∷ z.nodes ∷ z.free_nodes ∷ z.segments ∷ z.trains ∷ z.variable_count ∷ z.clause_count ∷ z.word_count ∷ z.plan_bytes ∷ []
 
 labelling : Bytes → Bytes → ℕ → List ℕ
-labelling s b n = answered (labelSections s b n) λ l. l
+labelling s b n = answered (label_sections s b n) λ l. l
 
 showing : RunAsked → List ℕ
-showing noTrain = 1 ∷ []
-showing (noRun n) = 2 ∷ n ∷ []
+showing no_train = 1 ∷ []
+showing (no_run n) = 2 ∷ n ∷ []
 showing (shown n l ds) = 0 ∷ n ∷ l ∷ ds
 
 running : Bytes → ℕ → ℕ → List ℕ
-running s i r = answered (askRun s i r) showing
+running s i r = answered (ask_run s i r) showing
 
 meant : Meaning → List ℕ
-meant noVariable = 0 ∷ []
+meant no_variable = 0 ∷ []
 meant (border n) = 1 ∷ 0 ∷ 0 ∷ n ∷ 0 ∷ []
 meant (run i t r) = 2 ∷ i ∷ t ∷ r ∷ 0 ∷ []
 meant (gone i t) = 3 ∷ i ∷ t ∷ 0 ∷ 0 ∷ []
 meant (claim i t s) = 4 ∷ i ∷ t ∷ s ∷ 0 ∷ []
 meant (counted n j) = 5 ∷ 0 ∷ 0 ∷ n ∷ j ∷ []
 
-meaning′ : Option ℕ → Bytes → ℕ → List ℕ
-meaning′ cap s v = answered (askVariable cap s v) meant
+meaning' : Option ℕ → Bytes → ℕ → List ℕ
+meaning' cap s v = answered (ask_variable cap s v) meant
 
 record Case : Type 0 where
   asked : List ℕ
@@ -124,12 +119,16 @@ record Case : Type 0 where
 
 failing : ℕ → List Case → List ℕ
 failing n [] = []
-failing n (c ∷ cs) = only (mathlib.Core.Bool.not (same (c .asked) (c .answer))) (n ∷ []) ++ failing (suc n) cs
+failing n (c ∷ cs) = only (not (same c.asked c.answer)) (n ∷ []) ++ failing (suc n) cs
 """
-HELPERS = """answered code rows lists grouped words textOf decoding judging encoding refuting′ combining rewriting drawing lineDrawn listing measuring
-    labelling showing running meant meaning′ failing"""
+HELPERS = """answered code rows lists grouped words text_of decoding judging encoding refuting' combining rewriting drawing line_drawn listing measuring
+    labelling showing running meant meaning' failing"""
 # the constructors that the tables name, by the module that has them
-MAKERS = {"Lists": ["accepted", "refused"], "Library": ["noTrain", "noRun", "shown", "border", "run", "gone", "claim", "counted", "noVariable"]}
+MAKERS = {"Lists": ["accepted", "refused"],
+          "Library": ["no_train", "no_run", "shown", "border", "run", "gone", "claim", "counted", "no_variable"]}
+# what the checker says of a table that differs, and where a limit of its own was met
+DIFFERS = "error: `agree`: "
+AT_LIMIT = re.compile(r"stopped at the step limit|outgrew the memory limit|ran out of (stack|the steps|the memory)")
 
 
 def names_of_specs(specs):
@@ -139,7 +138,7 @@ def names_of_specs(specs):
         text = read_text(os.path.join(specs, module + ".antt"))
         functions = re.findall(r"^ *unfoldable pub (?!use )(\S+)", text, re.M)
         types = re.findall(r"^pub (?:data|record) (\S+)", text, re.M) + re.findall(r"^abbrev pub (Bytes)", text, re.M)
-        bring.append("use Rattle·spec.specs.%s.{%s}" % (module, ", ".join(types + MAKERS.get(module, []) + functions)))
+        bring.append("use Rattle.spec.specs.%s.{%s}" % (module, ", ".join(types + MAKERS.get(module, []) + functions)))
         unfold += functions
     return bring, unfold
 
@@ -210,11 +209,11 @@ def formula_questions(rng, data, book, cap):
     given, count = "%s %s" % (option(cap), row(data)), library.measured(book, cap)[9]
     yield "words", "words %s %d" % (given, 10 ** 6), written(data, 10 ** 6, cap)
     yield "short", "words %s %d" % (given, count - 1), written(data, count - 1, cap)
-    yield "text", "textOf %s" % given, [0] + list(reference.dimacs(book, cap))
+    yield "text", "text_of %s" % given, [0] + list(reference.dimacs(book, cap))
     yield "sizes", "measuring %s" % given, list(library.measured(book, cap)[1:])
     last, found = library.meanings(book, cap)
     for variable in (0, last, last + 1, rng.randrange(1, last + 1), rng.randint(reference.Variables(book).count, last)):
-        yield "variable", "meaning′ %s %d" % (given, variable), [0] + list(found.get(variable, (0,)))
+        yield "variable", "meaning' %s %d" % (given, variable), [0] + list(found.get(variable, (0,)))
 
 
 def library_questions(rng, data, book):
@@ -243,7 +242,7 @@ def input_questions(rng, data, book, each, cap=None):
             yield carriers_question(rng, data, book, s)
     for s in list(random_refutations(rng, book, each, cap=cap)):
         lent = lent_about(rng, book, cap)
-        asked = "refuting′ %s %s %d %d %d %d" % (given, row(s), *lent)
+        asked = "refuting' %s %s %d %d %d %d" % (given, row(s), *lent)
         yield "refutation", asked, answer_of(reference.entry_check_refutation(data, s, *lent, cap))
 
 
@@ -316,7 +315,7 @@ def line_questions(data, plan, times):
     """Of a page of many intervals, which is too long for a table, the length and some lines."""
     page = reference.entry_print_graph(data, plan, 65536)[1]
     for t in times:
-        yield "line", "lineDrawn %s %s %d" % (row(data), row(plan), t), [0, len(page), *page[81 * t:81 * t + 81]]
+        yield "line", "line_drawn %s %s %d" % (row(data), row(plan), t), [0, len(page), *page[81 * t:81 * t + 81]]
 
 
 def long_graph(rng, data):
@@ -401,16 +400,15 @@ def module_text(table, names):
 def check_table(scratch, names, table):
     """What the checker prints of one table, or nothing where both sides agree on all of it."""
     folder = os.path.join(scratch, "crates", "probe")
-    shutil.rmtree(folder, ignore_errors=True)
-    write_text(os.path.join(folder, "src", "lib.rt"), "// Questions only.\n")
-    write_text(os.path.join(folder, "specs", "Lib.antt"), "pub mod Questions\n")
-    write_text(os.path.join(folder, "specs", "Questions.antt"), module_text(table, names))
-    done = subprocess.run(["rt", "dev", "probe"], cwd=scratch, capture_output=True, text=True, check=False)
+    write_text(os.path.join(folder, "src", "lib.rt"), "// Questions only.\n#![tactic(auto)]\n")
+    write_text(os.path.join(folder, "proofs", "Lib.antt"), "pub mod Questions\n")
+    write_text(os.path.join(folder, "proofs", "Questions.antt"), module_text(table, names))
+    done = subprocess.run(["rt", "check"], cwd=folder, capture_output=True, text=True, check=False)
     return "" if done.returncode == 0 else done.stdout + done.stderr
 
 
 def run_table(scratch, names, table):
-    """The questions of a table that differ, and those that the checker's limit of steps left undecided, by halving."""
+    """The questions of a table that differ, and those that a limit of the checker left undecided, by halving."""
     text = check_table(scratch, names, table)
     if not text:
         return [], []
@@ -418,10 +416,10 @@ def run_table(scratch, names, table):
         half = len(table) // 2
         first, second = run_table(scratch, names, table[:half]), run_table(scratch, names, table[half:])
         return first[0] + second[0], first[1] + second[1]
-    if "error: `agree`: expected type" in text:
-        return table, []
-    if "stopped at the step limit" in text or "ran out of stack" in text:
+    if AT_LIMIT.search(text):
         return [], table
+    if DIFFERS in text:
+        return table, []
     sys.exit("the checker refused the table's form:\n" + text)
 
 

@@ -1,8 +1,9 @@
 """Reads crates.txt and the sources of each crate. Writes docs/generated/crates.md: the layers, and each crate with its description and the crates
 that it names. In crates.txt the lines directly above a crate that begin with `# ` are its description, and a line that begins with `## ` is
-the heading of the crates below it. With --check nothing is written; it says which entries of crates.txt are missing, and which are not
-needed, a crate needing only what its own src/, specs/ and proofs/ name. A crate is named by `use NAME::..` or `NAME::..` in Rattle, where no
-module of the crate has that name, and by `Rattle·NAME.` in definitions, proofs and ghost uses. std is never listed.
+the heading of the crates below it. A line is `NAME: CRATE ..`, or `NAME staticlib: CRATE ..` for a static library. With --check nothing is
+written; it says which entries of crates.txt are missing, and which are not needed, a crate needing only what its own src/, specs/ and proofs/
+name. A crate is named by `use NAME::..` or `NAME::..` in Rattle, where no module of the crate has that name, and by `Rattle.NAME.` in
+definitions, proofs and ghost uses. std is never listed.
 
 Exit status: 0 written, or every entry is as it should be; 1 --check found one that is not; 2 wrong usage, or a file is missing.
 """
@@ -24,10 +25,11 @@ def arguments(parser):
 
 
 class Listed:
-    """What crates.txt has, in its order: each crate's entries, the remarks directly above it, and its heading, which may be none."""
+    """What crates.txt has, in its order: each crate's entries, the words behind its name, the remarks directly above it, and its heading, which may
+    be none."""
 
     def __init__(self, root=ROOT):
-        self.root, self.entries, self.remarks, self.headings = root, {}, {}, {}
+        self.root, self.entries, self.kinds, self.remarks, self.headings = root, {}, {}, {}, {}
         waiting, heading = [], ""
         for line in read_text(os.path.join(root, "crates.txt")).split("\n"):
             if line.startswith("## "):
@@ -35,10 +37,12 @@ class Listed:
             elif line.startswith("#"):
                 waiting.append(line.lstrip("# "))
             elif line.strip():
-                name, entries = line.split("#")[0].split(":")
-                self.entries[name.strip()] = entries.split()
-                self.remarks[name.strip()] = " ".join(waiting)
-                self.headings[name.strip()] = heading
+                words, entries = line.split("#")[0].split(":")
+                # behind the name a word may stand: `staticlib`
+                name, *kind = words.split()
+                self.entries[name], self.kinds[name] = entries.split(), kind
+                self.remarks[name] = " ".join(waiting)
+                self.headings[name] = heading
                 waiting = []
             else:
                 waiting = []
@@ -88,7 +92,7 @@ def own_modules(texts):
 
 def names_in_rattle(text):
     """The first words of paths, and what is used by itself."""
-    return set(re.findall(r"(?<![\w:.·])([a-z_]\w*)::", text)) | set(re.findall(r"^\s*(?:pub )?use (\w+)(?:;| as )", text, re.M))
+    return set(re.findall(r"(?<![\w:.])([a-z_]\w*)::", text)) | set(re.findall(r"^\s*(?:pub )?use (\w+)(?:;| as )", text, re.M))
 
 
 def named_by(listed, crate):
@@ -97,7 +101,7 @@ def named_by(listed, crate):
     for path in sources(listed.root, crate):
         in_rattle = path.endswith(".rt")
         text = without_comments(read_text(path), "//" if in_rattle else "--")
-        found |= set(re.findall(r"Rattle·(\w+)[.·]", text))
+        found |= set(re.findall(r"(?<![\w.])Rattle\.(\w+)\.", text))
         if in_rattle:
             rattle.append(text)
     possible = {*listed.entries, *KIT} - own_modules(rattle)

@@ -1,7 +1,7 @@
-"""The main job on the example books, or on the BOOKs that are named: proves and builds the program that the job needs and no more (`rt check
-cabinet`), and shows each crate as it is proved; then for each book prints the formula, hands it to the solver script, and gives its answer
-to the proved check. Of an accepted assignment's plan the borders and the train graph are shown (`show` has more of it). Says at the end what
-was decided of each book.
+"""The main job on the example books, or on the BOOKs that are named: proves and builds the program that the job needs and no more (`rt run` in
+crates/cabinet, which also runs it once, without a command), and shows each crate as it is proved; then for each book prints the formula, hands it
+to the solver script, and gives its answer to the proved check. Of an accepted assignment's plan the borders and the train graph are shown (`show`
+has more of it). Says at the end what was decided of each book.
 
 Exit status: 0 every answer was accepted; 1 something was not proved, or refused; 2 wrong usage, or a file or rt is missing.
 """
@@ -14,14 +14,15 @@ import time
 
 from . import reference
 from .crates import Listed, below
-from .program import CABINET
-from .repository import EXAMPLES, PROGRAMS, ROOT, TOOLS, read_bytes, write_bytes
+from .program import CABINET, PROGRAMS
+from .repository import EXAMPLES, ROOT, TOOLS, read_bytes, write_bytes
 from .show import plan_lines
 from .solver import SOLVERS
 from .text import old_words
 
 BOOKS = ("following.book", "uncut.book")
-DONE = re.compile(r"rt: (\w+) proved \((.*)\)$")
+# of each crate the prover names first what is in it, and at last what came of it; a crate of definitions alone may have no name there
+NAMED, DONE = re.compile(r"(?:crate (\w+): modules |(?:fn|struct|enum) (\w+)::)"), re.compile(r"logic=proved ")
 
 
 def arguments(parser):
@@ -37,18 +38,22 @@ def arguments(parser):
 def build(root):
     """Proves and builds the program, a line a crate as it is done; answers whether all was proved."""
     listed = Listed(root)
-    total, done, kept = len(below(listed, CABINET)) + 1, 0, []
+    total, done, kept, name, start = len(below(listed, CABINET)) + 1, 0, [], "", time.monotonic()
     print(f"proving {total} crates, and building the program from them", flush=True)
-    how = {"stdout": subprocess.PIPE, "stderr": subprocess.STDOUT, "text": True, "errors": "replace"}
-    with subprocess.Popen(["rt", "check", CABINET], cwd=root, **how) as prover:
+    how = {"stdin": subprocess.DEVNULL, "stdout": subprocess.PIPE, "stderr": subprocess.STDOUT, "text": True, "errors": "replace"}
+    with subprocess.Popen(["rt", "run"], cwd=os.path.join(root, "crates", CABINET), **how) as prover:
         for line in prover.stdout:
             kept.append(line.rstrip("\n"))
-            found = DONE.match(kept[-1])
-            if found:
-                done += 1
-                print(f"  [{done}/{total}] {found[1]} ({found[2]})", flush=True)
+            if found := NAMED.match(line):
+                name = found[1] or found[2]
+            elif DONE.match(line):
+                done, start, before = done + 1, time.monotonic(), start
+                print(f"  [{done}/{total}] {name or 'definitions'} ({start - before:.0f} s)", flush=True)
+                name = ""
     if prover.returncode:
-        print("\n".join(["not everything is proved; the last lines of rt check:", *kept[-20:]]))
+        print("\n".join(["not everything is proved; the last lines of rt run:", *kept[-20:]]))
+    elif done < total:
+        print(f"  {total - done} of them had been proved before, and have not changed")
     return prover.returncode == 0
 
 

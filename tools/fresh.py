@@ -33,11 +33,11 @@ from .counts import answer_name, line_name, listed
 from .features import features, list_features, on, parallel_tracks
 from .inputs import TooLong, plan_bytes, read_steps, step_frame
 from .passing_books import make_book
-from .program import CABINET, CHECKS, FEWEST, built, cap_words, has_result
+from .program import CABINET, CHECKS, FEWEST, PROGRAMS, built, cap_words, has_result
 from .random_books import book_to_rewrite
 from .random_inputs import (Fewest, assignment_of, damaged_refutation, honest_steps, nearly_assignment, nearly_fewest, nearly_plan, random_cap,
                             set_count, walked_plan)
-from .repository import PROGRAMS, TOOLS, Stop
+from .repository import TOOLS, Stop
 from .solve import Failure
 from .solver import SOLVERS, build_converter
 
@@ -551,7 +551,7 @@ def numbers(only, until):
 def arguments(parser):
     parser.add_argument("seed", metavar="SEED[/BOOK]", help="from which the books are made; with a book's number that book alone")
     parser.add_argument("seconds", metavar="SECONDS", type=float, help="for how long")
-    parser.add_argument("--bin", metavar="DIR", default=PROGRAMS, help="the folder of the program, by default target/bin")
+    parser.add_argument("--bin", metavar="DIR", default=PROGRAMS, help="the folder of the program, by default crates/cabinet/out")
 
 
 def try_books(session, only, seconds):

@@ -1,8 +1,7 @@
 """Writes the pages of docs/generated/. Without --all those that take less than a minute: crates.md (crates and layers), edits.md (the must-fail
 edits that the gate tries), tools.md (the subcommands) and cases.md (how many stored cases there are, by file and by answer; the reference is
-asked each of them again). With --all every page: first gate.md, as `gate` writes it, and then wrong_programs.md, as `wrong` does, which needs
-what the gate has proved. Both take long, and need `rt`: the gate proves every crate from nothing, and each wrong program is held against
-the prover.
+asked each of them again). With --all every page: first gate.md, as `gate` writes it, and then wrong_programs.md, as `wrong` does. Both take
+long, and need `rt`: the gate proves every crate that it has not passed on this machine, and each wrong program is held against the prover.
 
 Exit status: 0 written; 1 a stored answer is not the reference's, or with --all the gate did not pass or a wrong program was not refused;
 2 wrong usage, or a file is missing.

@@ -1,6 +1,6 @@
 """Calls the library from Python and holds it against the reference: every function on BOOKS random books from SEED, some of them damaged,
-with good and spoiled inputs, caps of every kind, and outputs that are too short. It makes the archive (`rt staticlib gentupag`, which proves what is not proved
-yet) and links it into a shared object for this. That include/gentupag.h has the same structs, numbers and functions is asked of a C compiler.
+with good and spoiled inputs, caps of every kind, and outputs that are too short. It makes the archive (by `bin/archive`, which proves what is not
+proved yet) and links it into a shared object for this. That include/gentupag.h has the same structs, numbers and functions is asked of a C compiler.
 
 Exit status: 0 none differs, 1 some differ, 2 wrong usage.
 """
@@ -108,9 +108,9 @@ class Library:
 
 def build():
     """The archive's path; the proofs are run where something changed."""
-    made = subprocess.run(["rt", "staticlib", "gentupag"], cwd=ROOT, capture_output=True, text=True)
+    made = subprocess.run([os.path.join(ROOT, "bin", "archive")], capture_output=True, text=True)
     if made.returncode:
-        raise Stop("rt staticlib gentupag failed:\n" + made.stdout[-2000:] + made.stderr[-2000:])
+        raise Stop("bin/archive failed:\n" + made.stdout[-2000:] + made.stderr[-2000:])
     return os.path.join(ROOT, "target", "staticlib", "libgentupag.a")
 
 

@@ -4,10 +4,11 @@ import os
 from collections import namedtuple
 
 from .reference import MOST_NUMBER
-from .repository import Stop
+from .repository import Stop, out_of
 
-# the program with all commands
+# the program with all commands, and where it is built
 CABINET = "cabinet"
+PROGRAMS = out_of(CABINET)
 
 # A command: its letter in the records of stored cases, how many of its names are inputs, the least and the most names that it takes, and whether
 # it takes a cap, by the option CAP ahead of the names. The name behind the inputs is the result's. Of check_fewest, whose inputs are a book, an
@@ -52,5 +53,5 @@ def built(folder, name):
     """The path of a program that has to be built already."""
     program = os.path.abspath(os.path.join(folder, name))
     if not os.access(program, os.X_OK):
-        raise Stop(f"no program {program}: rt check {name} builds it")
+        raise Stop(f"no program {program}: rt run in crates/{name} builds it")
     return program

@@ -8,8 +8,7 @@ TOOLS = os.path.join(ROOT, "tools")
 CRATES = os.path.join(ROOT, "crates")
 EXAMPLES = os.path.join(ROOT, "examples")
 GENERATED = os.path.join(ROOT, "docs", "generated")
-# what is built: programs, and what the tools build for themselves
-PROGRAMS = os.path.join(ROOT, "target", "bin")
+# what the tools and scripts of the repository put together; each program is in its crate's out/
 FOR_TOOLS = os.path.join(ROOT, "target", "tools")
 
 
@@ -39,6 +38,11 @@ def write_text(name, text):
     os.makedirs(os.path.dirname(os.path.abspath(name)), exist_ok=True)
     with open(name, "w", encoding="utf-8") as file:
         file.write(text)
+
+
+def out_of(crate):
+    """The folder in which a crate's program is built."""
+    return os.path.join(CRATES, crate, "out")
 
 
 def page(name):

@@ -16,8 +16,8 @@ from .inputs import encode_steps, step_frame
 from .known import (ASSIGNMENT_FEWEST, ASSIGNMENT_L, ASSIGNMENT_MORE, ASSIGNMENT_PADDED, BOOK_CARRIED, BOOK_FEWEST, BOOK_GRAPH, BOOK_L, CAPPED,
                     FORMULA_L, LIST_CARRIED, OLD_L, PAGE_GRAPH, PAGE_L, PLAN_CARRIED, PLAN_FEWEST, PLAN_GRAPH, PLAN_L, PLAN_MEETING, PLAN_MORE,
                     PLAN_PADDED, REFUTATION_FEWEST, REFUTATION_M, REFUTATION_PADDED, book_m, chasing, circling, far, outgrowing, padded, standing)
-from .program import CAP, CABINET, CAPPED as TAKE_A_CAP, COMMANDS, FEWEST, built
-from .repository import PROGRAMS, ROOT, write_bytes
+from .program import CAP, CABINET, CAPPED as TAKE_A_CAP, COMMANDS, FEWEST, PROGRAMS, built
+from .repository import ROOT, write_bytes
 
 MOST = reference.LENT_BYTES
 # seconds for one try
@@ -320,14 +320,17 @@ def try_same_names(t):
 
 
 def try_odd_names(t):
-    """Blanks, a dash in front, bytes that are no text, a link, the longest name and one longer than that."""
+    """Blanks, a dash in front, letters that are no ASCII, bytes that are no text, a link, the longest name and one longer than that."""
     check = CHECKS[0]
     good = t.file(check.good)
     os.symlink(t.file(check.book), t.path("link"))
-    for name in ("a book", "-h", "--", b"\xff\xfe", "x" * 255, "./" * 2047 + "b"):
+    for name in ("a book", "-h", "--", "Fl\u00fcelen", "x" * 255, "./" * 2047 + "b"):
         write_bytes(os.path.join(os.fsencode(t.folder), os.fsencode(name)) if len(name) < 256 else t.path("b"), check.book)
         t.verdict(f"{check.program}, book named {name[:20]!r}", ACCEPTED, t.run(check.program, name, good))
     t.verdict(f"{check.program}, book named by a link", ACCEPTED, t.run(check.program, "link", good))
+    # files are opened by names that are text
+    write_bytes(os.path.join(os.fsencode(t.folder), b"\xff\xfe"), check.book)
+    t.no_verdict(f"{check.program}, book named by bytes that are no text", b"\xff\xfe: ", t.run(check.program, b"\xff\xfe", good))
     # such a name must not be cut: it would name another file
     t.no_verdict(f"{check.program}, book with a name of 4,099 bytes", b": ", t.run(check.program, "./" * 2048 + "bad", good))
     answer = t.run(check.program, t.path("link"), good, "a plan")
@@ -760,13 +763,14 @@ def copied_scripts(t):
     if not all(os.access(os.path.join(source, word), os.X_OK) for word in COMMANDS):
         return None
     shutil.copytree(source, os.path.join(copy, "bin"), symlinks=True)
-    os.makedirs(os.path.join(copy, "target", "bin"))
-    shutil.copy(t.program, os.path.join(copy, "target", "bin", CABINET))
+    out = os.path.join(copy, os.path.relpath(PROGRAMS, ROOT))
+    os.makedirs(out)
+    shutil.copy(t.program, os.path.join(out, CABINET))
     return os.path.join(copy, "bin")
 
 
 def try_scripts(t):
-    """Each script of bin/ is its command: by its path from any folder, and through a link."""
+    """Each script of bin/ is its command, by its path from any folder."""
     scripts = copied_scripts(t)
     if scripts is None:
         t.left_out.append("the scripts (bin/ has not all of them)")
@@ -814,7 +818,7 @@ def copied(program, folder):
 
 
 def arguments(parser):
-    parser.add_argument("--bin", metavar="DIR", default=PROGRAMS, help="the folder of the program, by default target/bin")
+    parser.add_argument("--bin", metavar="DIR", default=PROGRAMS, help="the folder of the program, by default crates/cabinet/out")
 
 
 def run(options):

@@ -1,15 +1,15 @@
 """Tries wrong programs: each must be refused by the prover because a fact fails.
 
-crates/NAME/must-fail/wrong_programs.txt lists them, in blocks parted by an empty line: a head line `FUNCTION: what the wrong program does`,
-then one or more pairs of lines `old: ..` and `new: ..`, texts of the function's body that stand there once, and what stands in their place.
+crates/NAME/wrong_programs.txt lists them, in blocks parted by an empty line: a head line `FUNCTION: what the wrong program does`, then one or
+more pairs of lines `old: ..` and `new: ..`, texts of the function's body that stand there once, and what stands in their place.
 FUNCTION is looked for in the list's own crate first and then in all crates and their modules, so that a function that is moved keeps its
 wrong programs; where several have the name, `crate::function` or `crate::module::function` says which. --tidy moves each entry to the list of
 the crate where its function is, and tries nothing.
 
 An edit changes one function's body, and a function is proved by its own contract and its callees' contracts alone, so wrong programs of
-different functions are tried together: a round (`rt dev CRATE`) has at most one of each function. One that is only held up by another of
-its round is tried again by itself. All is done in copies of the repository, which must be proved (`rt check`). The gate tries the edits
-beside the lists one by one; they count here too, where it is asked which public functions have fewer than two.
+different functions are tried together: a round (`rt check` in the crate's folder) has at most one of each function. One that is only held up by
+another of its round is tried again by itself. All is done in copies of the repository, which must be proved (`rt all check`). The gate tries the
+edits crates/NAME/must-fail/*.edit one by one; they count here too, where it is asked which public functions have fewer than two.
 
 Writes docs/generated/wrong_programs.md; where crates are named, only their rows are replaced.
 
@@ -33,9 +33,11 @@ PAGE = "wrong_programs.md"
 # the most characters of the prover's words that are shown
 MOST = 100
 # what the prover says where an edit has only made the proof unfit for the code
-UNFIT = ("that can be named from here", "has no field", "this `×` type has")
+UNFIT = ("that can be named from here", "has no field", "is not a field of", "this `×` type has")
 # what it says of a statement because of another one
-HELD_UP = "was not admitted"
+HELD_UP = ("was not admitted", "was not checked", "were not checked")
+# what it says of a function that no proof was tried of: a goal that is left is a fact, and a missing part of the proof is none
+LEFT_OPEN, MISSING = ("did not prove", "does not close"), ("expected a measure", "expected an invariant", "is not made yet")
 
 # A function: its path from the crate on, whether it is public, whether it promises something, its file, its first line and the one behind its last.
 Function = namedtuple("Function", "path public promises file first end")
@@ -131,7 +133,7 @@ def find(functions, crate, name):
 
 
 def list_path(root, crate):
-    return os.path.join(root, "crates", crate, "must-fail", LIST)
+    return os.path.join(root, "crates", crate, LIST)
 
 
 def read_entry(block, where):
@@ -201,8 +203,10 @@ def tidy(root):
 
 
 def body_start(lines, function):
-    """The line behind the body's opening bracket, which stands alone behind a contract, or at the end of the head."""
-    return 1 + next(at for at in range(function.first, function.end) if lines[at].rstrip().endswith("{"))
+    """The line behind the body's opening bracket, which stands alone behind a contract, under the head, or else at the end of the head."""
+    alone, places = re.match(" *", lines[function.first])[0] + "{", range(function.first, function.end)
+    opened = [at for at in places if lines[at] == alone] or [at for at in places if lines[at].rstrip().endswith("{")]
+    return 1 + opened[0]
 
 
 def edited(text, function, entry):
@@ -234,12 +238,13 @@ def rounds(found):
 
 
 def is_own(function, line):
-    """Whether an error stands in a function's proof or in its source."""
+    """Whether an error stands in a function's proof or in its source; the prover names files from the crate's folder on."""
     module = "/".join(function.path[1:-1])
-    folder = re.search(r"/proofs/(?:%s)(\+?[\w+]+)/" % (re.escape(module) + "/" if module else ""), line)
+    folder = re.search(r"(?:^|/)proofs/(?:%s)(\+?[\w+]+)/" % (re.escape(module) + "/" if module else ""), line)
     if folder and function.path[-1] in folder[1].split("+"):
         return True
-    source = re.search(r"/%s:(\d+):\d+: error: " % re.escape(function.file), line)
+    crate, inside = re.match(r"crates/(\w+)/(.*)", function.file).groups()
+    source = re.match(r"(?:\./|.*/crates/%s/)?%s:(\d+):\d+: error: " % (crate, re.escape(inside)), line)
     return bool(source) and function.first < int(source[1]) <= function.end
 
 
@@ -251,11 +256,16 @@ def verdict(function, output):
         if line == f"fn {name}: proved":
             return "proved", "proved"
         if line.startswith(f"fn {name}: no proof"):
-            return line.split("; ", 1)[-1], "fact"
+            if any(part in line for part in LEFT_OPEN):
+                return line.split("; ", 1)[-1], "fact"
+            if any(part in line for part in MISSING):
+                return line.split(": ", 1)[-1], "unfit"
+            held = held or line.split(": ", 1)[-1]
+            continue
         if ": error: " not in line or not is_own(function, line):
             continue
         words = line.split(": error: ", 1)[1]
-        if HELD_UP in words:
+        if any(part in words for part in HELD_UP):
             held = held or words
             continue
         return words, "unfit" if any(unfit in words for unfit in UNFIT) else "fact"
@@ -271,7 +281,7 @@ def check_round(copy, crate, entries):
             text = read_text(path)
             good.setdefault(path, text)
             write_text(path, edited(text, function, entry))
-        done = subprocess.run(["rt", "dev", crate], cwd=copy, capture_output=True, text=True, check=False, env=dict(os.environ, RT_CUT="0"))
+        done = subprocess.run(["rt", "check"], cwd=os.path.join(copy, "crates", crate), capture_output=True, text=True, check=False)
     finally:
         for path, text in good.items():
             write_text(path, text)
@@ -300,7 +310,7 @@ def try_crate(copy, crate, found):
 def copied(root, folder):
     """A copy of the repository, with what is proved already and without what a trial does not need."""
     copy = os.path.join(folder, "copy")
-    shutil.copytree(root, copy, ignore=shutil.ignore_patterns(".git", "must-fail", "bin", "inc", "*.tmp-*"))
+    shutil.copytree(root, copy, ignore=shutil.ignore_patterns(".git", "must-fail", "bin", "target"))
     return copy
 
 
@@ -412,7 +422,7 @@ def page_text(crates, rows, short):
     tried, refused = (sum(int(parts[at]) for parts in numbers) for at in (1, 2))
     return "\n".join([
         "# Wrong programs", "",
-        "Written by `python3 tools wrong`, which puts each of these into the body of its function; `crates/NAME/must-fail/wrong_programs.txt`",
+        "Written by `python3 tools wrong`, which puts each of these into the body of its function; `crates/NAME/wrong_programs.txt`",
         "has the texts. A wrong program has to be refused because a fact fails; the last column has the prover's first words.", "",
         f"{tried} tried, {refused} refused by a fact, {tried - refused} not.", "",
         "Public functions with a contract that have fewer than two, the gate's edits counted too: "

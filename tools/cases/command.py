@@ -1,8 +1,8 @@
 """Makes the stored cases of crates/cases anew, from seeds that are fixed, so that the files come out byte for byte the same: data/ with a
 file of records a module and the files that the records name, args with the names of the record files, and stdout with the reference's
 answers. Prints how many cases each file has, by answer. With --check nothing is written; it says whether the stored files are what would
-be written. With --run the built program target/bin/cases is run on a copy of data/, and the first case of each file is named whose answer
-is not the stored one. --file takes some of the files alone; the others stay as they are.
+be written. With --run the built program crates/cases/out/cases is run on a copy of data/, and the first case of each file is named whose
+answer is not the stored one. --file takes some of the files alone; the others stay as they are.
 
 Exit status: 0 written, or all is as it should be; 1 --check or --run found a difference; 2 wrong usage, or a file is missing.
 """
@@ -15,7 +15,7 @@ from collections import Counter
 
 from ..counts import listed
 from ..program import built
-from ..repository import CRATES, PROGRAMS, read_bytes, write_bytes
+from ..repository import CRATES, out_of, read_bytes, write_bytes
 from . import FILES
 from .records import answer, split
 
@@ -30,7 +30,7 @@ def arguments(parser):
     how.add_argument("--run", dest="run_program", action="store_true", help="run the built program on the stored files")
     parser.add_argument("--file", nargs="+", metavar="NAME", default=[module.NAME for module in FILES],
                         choices=[module.NAME for module in FILES], help="only these files of records, such as reading.cases")
-    parser.add_argument("--bin", metavar="DIR", default=PROGRAMS, help="with --run, the folder of the program, by default target/bin")
+    parser.add_argument("--bin", metavar="DIR", default=out_of("cases"), help="with --run, the folder of the program, by default crates/cases/out")
 
 
 # ------------------------------------------------------------------ one file

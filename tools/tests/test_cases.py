@@ -261,7 +261,7 @@ class Command(InFolder):
 
     def test_run(self):
         self.run_command()
-        with self.assertRaisesRegex(Stop, "no program .*/bin/cases: rt check cases builds it"):
+        with self.assertRaisesRegex(Stop, "no program .*/bin/cases: rt run in crates/cases builds it"):
             self.run_command(run_program=True)
         script(self.path("bin", "cases"), CASES.format(root=ROOT, fault="pass"))
         status, said = self.run_command(run_program=True)

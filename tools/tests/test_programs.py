@@ -287,15 +287,22 @@ class Example(InFolder):
 
     def test_building(self):
         write_text(self.path("crates.txt"), "low:\nother:\ncabinet: low io\n")
-        script(self.path("bin", "rt"), "import sys\nprint('rt: low proved (3 s)\\nnote\\nrt: cabinet proved (unchanged since it was last proved)')\n"
-                                       "sys.exit(sys.argv[1:] != ['check', 'cabinet'])\n")
+        write_text(self.path("crates", "cabinet", "src", "main.rt"), "// The program.\n")
         self.with_programs()
-        status, said = self.job(built=False)
-        self.assertEqual(status, 0)
-        self.assertIn("  [1/2] low (3 s)\n  [2/2] cabinet (unchanged since it was last proved)\n", said)
-        script(self.path("bin", "rt"), "import sys\nprint('rt: low NOT PROVED (exit 1, 3 s)')\nsys.exit(1)\n")
+        right = "import os, sys\nprint({!r})\nsys.exit(sys.argv[1:] != ['run'] or os.path.basename(os.getcwd()) != 'cabinet')\n"
+        proved, before = "axioms std: none\nlogic=proved functions=2 native=nat", " of them had been proved before, and have not changed\n"
+        low, cabinet = f"fn low::f: proved\n{proved}", f"struct cabinet::A: proved\ncrate cabinet: modules loaded=1 checked=2\n{proved}"
+        for lines, shown in ((f"note\n{low}\n{cabinet}\nusage: ..", r"  \[1/2\] low \(\d+ s\)\n  \[2/2\] cabinet \(\d+ s\)\n(?!  \d)"),
+                             (f"{proved}\n{cabinet}", r"  \[1/2\] definitions \(\d+ s\)\n  \[2/2\] cabinet \(\d+ s\)\n(?!  \d)"),
+                             (cabinet, r"  \[1/2\] cabinet \(\d+ s\)\n  1" + before),
+                             ("rt: nothing has changed since the last proved build", "from them\n  2" + before)):
+            script(self.path("bin", "rt"), right.format(lines))
+            status, said = self.job("following.book", built=False)
+            self.assertEqual(status, 0)
+            self.assertRegex(said, shown)
+        script(self.path("bin", "rt"), "import sys\nprint('logic=not-proved\\nrt: the library low did not build')\nsys.exit(1)\n")
         status, said = self.job("following.book", built=False)
-        self.assertEqual((status, "low NOT PROVED" in said, "decided" in said), (1, True, False))
+        self.assertEqual((status, "the library low did not build" in said, "decided" in said), (1, True, False))
 
 
 class Trials(InFolder):

@@ -13,14 +13,14 @@ TRACK = '''// A library.
 mod scan;
 
 pub fn wide(x: u8) -> usize
-    ensures { λ r. ⌜ r ≡ x ⌝ }
+    ensures { result ≡ x }
 {
     x as usize
 }
 
 impl Frame {
     pub fn cursor(at: usize) -> Cursor
-        ensures { λ r. ⌜ r .at ≡ at ⌝ }
+        ensures { result.at ≡ at }
     {
         Cursor { at: at, end: at + Self::LEN }
     }
@@ -31,7 +31,7 @@ fn plain(x: u8) -> u8 {
 }
 
 pub extern "C" fn first(s: &[u8]) -> u8
-    ensures { λ r. ⌜ r ≡ 0 ⌝ }
+    ensures { result ≡ 0 }
 {
     let a = s[0];
     let b = s[1];
@@ -39,7 +39,7 @@ pub extern "C" fn first(s: &[u8]) -> u8
 }
 '''
 SCAN = '''pub fn find(s: &[u8]) -> usize
-    ensures { λ r. ⌜ r ≡ 0 ⌝ }
+    ensures { result ≡ 0 }
 {
     0
 }
@@ -49,7 +49,7 @@ fn wide(x: u8) -> u8 {
 }
 '''
 OTHER = '''pub fn only(x: u8) -> u8
-    ensures { λ r. ⌜ r ≡ x ⌝ }
+    ensures { result ≡ x }
 {
     x
 }
@@ -82,6 +82,14 @@ class Functions(Repository):
         self.assertEqual(found, {
             "track::wide": (True, True), "track::Frame::cursor": (True, True), "track::plain": (False, False), "track::first": (True, True),
             "track::scan::find": (True, True), "track::scan::wide": (False, False), "other::only": (True, True), "other::plain": (False, False)})
+
+    def test_a_head_of_several_lines(self):
+        """A clause of several lines may end in a bracket, and the body's stands alone."""
+        text = ("pub fn sizes(\n    x: u8,\n) -> Sizes\n    requires { x < 3 }\n    ensures { result ≡ record {\n        least = x;\n    } }\n"
+                "{\n    Sizes { least: x }\n}\n\nfn plain(\n    x: u8,\n) {\n    x;\n}\n")
+        one, two = wrong.functions_in(text, ("track",), "crates/track/src/lib.rt")
+        self.assertEqual((one.first, one.end, one.promises, two.first, two.end, two.promises), (0, 10, True, 11, 16, False))
+        self.assertEqual([wrong.body_start(text.split("\n"), function) for function in (one, two)], [8, 14])
 
     def test_own_crate_first(self):
         self.assertEqual(wrong.full_name(wrong.find(self.functions, "other", "plain")), "other::plain")
@@ -136,7 +144,7 @@ class Tidy(Repository):
         self.assertEqual((moved, why), (2, []))
         self.assertEqual([e.what for e in wrong.read_list(self.folder, "track")], ["one", "moved too"])
         self.assertEqual(read_text(wrong.list_path(self.folder, "other")), "only: moved\nold: x\nnew: 0\n")
-        self.assertFalse(os.path.exists(self.path("crates", "gone", "must-fail")))
+        self.assertFalse(os.path.exists(self.path("crates", "gone")))
         self.assertEqual(wrong.tidy(self.folder), (0, []))
 
     def test_what_is_not_found_stays(self):
@@ -179,17 +187,43 @@ class Verdicts(Repository):
         self.assertEqual(self.says("track::wide", "/x/crates/track/src/lib.rt:40:5: error: does not follow"), "held up")
         self.assertEqual(self.says("track::wide", "fn track::wide: no proof: expected `wide-spec`; `search` does not close `add`"), "fact")
 
+    def test_files_from_the_crate_on(self):
+        """As `rt check` names them, which runs in the crate's folder."""
+        proof = "./proofs/%s/Proof.antt:7:3: error: %s"
+        self.assertEqual(self.says("track::wide", proof % ("wide", "`returns`: the two types differ")), "fact")
+        self.assertEqual(self.says("track::wide", proof % ("scan/wide", "`returns`: the two types differ")), "held up")
+        self.assertEqual(self.says("track::scan::wide", proof % ("scan/wide", "`returns`: the two types differ")), "fact")
+        self.assertEqual(self.says("track::Frame::cursor", "proofs/Frame/cursor/Answers.antt:1:1: error: does not follow"), "fact")
+        self.assertEqual(self.says("track::wide", proof % ("wide", "`if3` is not a field of record `Else`")), "unfit")
+        self.assertEqual(self.says("track::wide", "src/lib.rt:7:5: error: `returns`: `search`: no proof of x"), "fact")
+        self.assertEqual(self.says("track::wide", "src/lib.rt:40:5: error: `returns`: `search`: no proof of x"), "held up")
+        self.assertEqual(self.says("track::wide", "src/scan.rt:7:5: error: `returns`: `search`: no proof of x"), "held up")
+        self.assertEqual(self.says("track::scan::wide", "src/scan.rt:7:5: error: `returns`: `search`: no proof of x"), "fact")
+        self.assertEqual(self.says("track::wide", "src/lib.rt:7:5: error[E0308]: these types differ"), "held up")
+
+    def test_functions_without_a_proof(self):
+        none = "fn track::wide: no proof: "
+        self.assertEqual(self.says("track::wide", none + "expected answers in ./proofs/wide/Answers.antt; `search` did not prove `returns`"), "fact")
+        for why in ("expected a measure in ./proofs/wide/Invariants.antt", "the borrow checker's part in its proof is not made yet: a call of `f`"):
+            self.assertEqual(self.says("track::wide", none + why), "unfit")
+        self.assertEqual(self.says("track::wide", none + "it calls `first`, which is not proved"), "held up")
+        self.assertEqual(self.says("track::wide", "fn track::wide: not proved; it stands on `x`, which antt refuses"), "held up")
+
     def test_a_consequence_is_no_fact(self):
         line = "/x/crates/track/proofs/wide/Proof.antt:9:1: error: `wide-spec`: `close` was not admitted (it has holes), so this cannot be checked"
         self.assertEqual(self.says("track::wide", line), "held up")
         self.assertEqual(self.says("track::wide", line + "\n" + line.replace("`close` was not admitted", "the two types differ")), "fact")
+        for words in ("1 declaration that depends on `close`, which was rejected, was not checked: wide_spec",
+                      "4 declarations that depend on `rest`, which has holes, were not checked: returns-3 and 3 more"):
+            self.assertEqual(self.says("track::wide", f"./proofs/wide/Proof.antt:9:1: error: {words}"), "held up")
 
 
 # a prover that proves what is zero, and is held up by `first` where it looks at `wide`
 PROVER = '''import os, sys
-text = open("crates/track/src/lib.rt").read()
-open("tried", "a").write(repr(("x + 1" in text, "s[9]" in text, "s[0] + 0" in text)))
-here = os.getcwd() + "/crates/track/proofs/"
+if sys.argv[1:] != ["check"] or os.path.basename(os.getcwd()) != "track": sys.exit(2)
+text = open("src/lib.rt").read()
+open("../../tried", "a").write(repr(("x + 1" in text, "s[9]" in text, "s[0] + 0" in text)))
+here = "./proofs/"
 if "s[9]" in text: print(here + "first/Proof.antt:1:1: error: `returns`: the two types differ")
 if "x + 1" in text:
     print(here + "wide/Proof.antt:1:1: error: " + ("`wide-spec`: `close` was not admitted" if "s[9]" in text else "`returns`: x is not x + 1"))

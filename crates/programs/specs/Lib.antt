@@ -3,3 +3,4 @@ pub mod Opening
 pub mod Lines
 pub mod Verdicts
 pub mod Arguments
+pub mod Loaded

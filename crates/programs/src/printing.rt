@@ -9,6 +9,7 @@ ghost use Rattle.spec.specs.Entry.{write_formula, words_after, formula_text};
 ghost use Rattle.spec.specs.Programs.{unless_long, printed};
 ghost use Rattle.programs.specs.Text.{words_text};
 ghost use Rattle.programs.specs.Opening.{first_line, words_behind};
+ghost use Rattle.programs.specs.Loaded.{IsPrefixLen};
 
 use crate::dimacs::{put_header, put_refusal, put_words};
 use crate::system::fail;
@@ -96,7 +97,7 @@ fn fill<R: Read>(input: &mut R, buf: &mut [u8]) -> (usize, Option<Error>)
 // from a failure: an input is too long where it fills the buffer and has a byte more; a byte more behind a
 // buffer that is not full means that a read failed in between.
 pub fn load_or_why<R: Read>(input: &mut R, buf: &mut [u8]) -> (Loaded, Option<Error>)
-    ensures { (result.0.len ≤ length buf.new) × (result.0.long ≡ true → result.0.len ≡ length buf.new) }
+    ensures { (IsPrefixLen result.0.len buf.new) × (result.0.long ≡ true → result.0.len ≡ length buf.new) }
 {
     let (n, why) = fill(input, buf);
     let mut more = [0u8; 1];
@@ -119,7 +120,7 @@ fn held(len: usize, long: bool, read: bool) -> Loaded
 
 // Reads an open input into the buffer.
 pub fn load_from<R: Read>(input: &mut R, buf: &mut [u8]) -> Loaded
-    ensures { (result.len ≤ length buf.new) × (result.long ≡ true → result.len ≡ length buf.new) }
+    ensures { (IsPrefixLen result.len buf.new) × (result.long ≡ true → result.len ≡ length buf.new) }
 {
     load_or_why(input, buf).0
 }
@@ -136,16 +137,14 @@ pub fn print(rt: &HostRuntime, buf: &[u8], n: usize) -> bool {
     false
 }
 
-// Hands bytes to the output. Where it does not take them, standard error says why.
+// Hands bytes to the output, and says nothing where it does not take them.
 pub fn print_text(rt: &HostRuntime, text: &[u8]) {
-    print(rt, text, text.len());
+    let _taken = rt.write_all(text);
 }
 
-// Prints a number in decimal.
+// Prints a number in decimal, likewise.
 pub fn print_decimal(rt: &HostRuntime, n: u64) {
-    if let Err(error) = rt.print(n) {
-        fail(rt, b"standard output", error);
-    }
+    let _taken = rt.print(n);
 }
 
 // Prints the text of words in pieces, a buffer at a time.

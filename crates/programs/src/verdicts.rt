@@ -14,6 +14,7 @@ ghost use Rattle.spec.specs.Programs.{program_lent, unless_long, printed};
 ghost use Rattle.refutations.specs.Lent.{lengths};
 ghost use Rattle.programs.specs.Lines.{plain_answer};
 ghost use Rattle.programs.specs.Verdicts.{bare, verdict_of, has_result, asked_check, Says, Tells};
+ghost use Rattle.programs.specs.Loaded.{IsPrefixLen};
 
 use crate::dimacs::put_refusal;
 use crate::printing::{Loaded, load_or_why, print};
@@ -26,7 +27,7 @@ use graph::print_graph;
 use model::Cap;
 use reader::reading::{Answer, OutputAnswer};
 use refutations::check_refutation;
-use std::io::Write;
+use std::io::{Error, ErrorKind, Write};
 use std::rt::HostRuntime;
 use upgrading::upgrade_book;
 
@@ -281,16 +282,18 @@ pub fn graph_text(book: &[u8], plan: &[u8], long: bool, out: &mut [u8]) -> usize
 
 // Reads the file of this name; where it can't be read, standard error says why.
 fn load(rt: &HostRuntime, name: &[u8], buf: &mut [u8]) -> Loaded
-    ensures { result.len ≤ length buf.new }
+    ensures { IsPrefixLen result.len buf.new }
 {
     match open(rt, name) {
         Ok(file) => {
             let mut input = file;
             let (loaded, why) = load_or_why(&mut input, buf);
-            if let Some(error) = why {
-                if !loaded.read {
-                    fail(rt, name, error);
-                }
+            if !loaded.read {
+                fail(
+                    rt,
+                    name,
+                    why.unwrap_or(Error::from(ErrorKind::UnexpectedEof)),
+                );
             }
             loaded
         }
