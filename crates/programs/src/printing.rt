@@ -102,17 +102,18 @@ pub fn load_or_why<R: Read>(input: &mut R, buf: &mut [u8]) -> (Loaded, Option<Er
     let (n, why) = fill(input, buf);
     let mut more = [0u8; 1];
     match input.read(&mut more) {
-        Ok(0) => (held(n, false, true), None),
+        Ok(0) => (as_loaded(n, false, true), None),
         Ok(_) => if n == buf.len() {
-            (held(n, true, true), None)
+            (as_loaded(n, true, true), None)
         } else {
-            (held(n, false, false), why)
+            (as_loaded(n, false, false), why)
         },
-        Err(error) => (held(n, false, false), Some(error)),
+        Err(error) => (as_loaded(n, false, false), Some(error)),
     }
 }
 
-fn held(len: usize, long: bool, read: bool) -> Loaded
+// The three said together.
+fn as_loaded(len: usize, long: bool, read: bool) -> Loaded
     ensures { result ≡ record { len = len; long = long; read = read } }
 {
     Loaded { len, long, read }
