@@ -78,19 +78,21 @@ def end_of(lines, first, indent):
 
 
 def functions_in(text, path, file):
-    """The functions of one file; a method has its type's name ahead."""
-    found, owner = [], ()
+    """The functions of one file; a method has its type's or its trait's name ahead."""
+    found, owner, shared = [], (), False
     lines = text.split("\n")
     for at, line in enumerate(lines):
-        if line.startswith("impl "):
-            owner = (line.split()[1],)
+        opened = re.match(r"(pub )?(?:impl(?:<[^>]*>)?|(trait)) (?:.* for )?(\w+)", line)
+        if opened:
+            # the functions of a public trait are public
+            owner, shared = (opened[3],), bool(opened[1] and opened[2])
         elif line == "}":
-            owner = ()
+            owner, shared = (), False
         head = re.match(r'( *)(pub(?:\([a-z]+\))? )?(extern "C" )?fn (\w+)', line)
         if head:
             end = end_of(lines, at, head[1])
             promises = any(re.match(r"\s*ensures\b", part) for part in lines[at:end])
-            found.append(Function((*path, *owner, head[4]), head[2] == "pub ", promises, file, at, end))
+            found.append(Function((*path, *owner, head[4]), shared or head[2] == "pub ", promises, file, at, end))
     return found
 
 

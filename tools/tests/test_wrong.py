@@ -91,6 +91,11 @@ class Functions(Repository):
         self.assertEqual((one.first, one.end, one.promises, two.first, two.end, two.promises), (0, 10, True, 11, 16, False))
         self.assertEqual([wrong.body_start(text.split("\n"), function) for function in (one, two)], [8, 14])
 
+    def test_a_type_with_a_lifetime(self):
+        text = "impl<'a> Walk<'a> {\n    pub fn close(&mut self) {\n    }\n}\n\nfn plain() {\n}\n"
+        found = wrong.functions_in(text, ("track",), "crates/track/src/lib.rt")
+        self.assertEqual([wrong.full_name(f) for f in found], ["track::Walk::close", "track::plain"])
+
     def test_own_crate_first(self):
         self.assertEqual(wrong.full_name(wrong.find(self.functions, "other", "plain")), "other::plain")
         self.assertEqual(wrong.full_name(wrong.find(self.functions, "other", "first")), "track::first")

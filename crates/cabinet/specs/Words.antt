@@ -1,8 +1,8 @@
 -- The words of the commands, and which command a word names. Assumes nothing.
-use Rattle.std.specs.Prelude.{◌≡◌, [], ◌∷◌}
+use Rattle.std.specs.Prelude.{◌≡◌, [], ◌∷◌, Option, Some, None}
 use Rattle.spec.specs.Lists.{Bytes}
 use Rattle.cabinet.specs.declared.commands.Command.{Command}
-use Rattle.cabinet.specs.declared.commands.Command.TheVariants.{PrintFormula, CheckAssignment, CheckPlan, CheckRefutation, CheckFewest, UpgradeBook, PrintGraph, ListCarriers, Unknown}
+use Rattle.cabinet.specs.declared.commands.Command.TheVariants.{PrintFormula, CheckAssignment, CheckPlan, CheckRefutation, CheckFewest, UpgradeBook, PrintGraph, ListCarriers}
 
 -- "print_formula"
 abbrev pub print_formula_word : Bytes
@@ -37,15 +37,15 @@ abbrev pub list_carriers_word : Bytes
 list_carriers_word = 108 ∷ 105 ∷ 115 ∷ 116 ∷ 95 ∷ 99 ∷ 97 ∷ 114 ∷ 114 ∷ 105 ∷ 101 ∷ 114 ∷ 115 ∷ []
 
 -- a word names the command that has it, and none where no command has
-abbrev pub Names : Bytes → Command → Type 0
-Names word PrintFormula = word ≡ print_formula_word
-Names word CheckAssignment = word ≡ check_assignment_word
-Names word CheckPlan = word ≡ check_plan_word
-Names word CheckRefutation = word ≡ check_refutation_word
-Names word CheckFewest = word ≡ check_fewest_word
-Names word UpgradeBook = word ≡ upgrade_book_word
-Names word PrintGraph = word ≡ print_graph_word
-Names word ListCarriers = word ≡ list_carriers_word
-Names word Unknown =
+abbrev pub Names : Bytes → Option Command → Type 0
+Names word (Some PrintFormula) = word ≡ print_formula_word
+Names word (Some CheckAssignment) = word ≡ check_assignment_word
+Names word (Some CheckPlan) = word ≡ check_plan_word
+Names word (Some CheckRefutation) = word ≡ check_refutation_word
+Names word (Some CheckFewest) = word ≡ check_fewest_word
+Names word (Some UpgradeBook) = word ≡ upgrade_book_word
+Names word (Some PrintGraph) = word ≡ print_graph_word
+Names word (Some ListCarriers) = word ≡ list_carriers_word
+Names word None =
     (word ≡ print_formula_word → ⊥) × (word ≡ check_assignment_word → ⊥) × (word ≡ check_plan_word → ⊥) × (word ≡ check_refutation_word → ⊥)
     × (word ≡ check_fewest_word → ⊥) × (word ≡ upgrade_book_word → ⊥) × (word ≡ print_graph_word → ⊥) × (word ≡ list_carriers_word → ⊥)

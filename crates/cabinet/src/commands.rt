@@ -1,9 +1,7 @@
 // The commands and their words.
 ghost use Rattle.cabinet.specs.Words.{Names};
 
-use check::same;
-
-#[derive(Clone, Copy)]
+#[derive(Clone, Copy, Debug, PartialEq, Eq)]
 pub enum Command {
     PrintFormula,
     CheckAssignment,
@@ -13,36 +11,21 @@ pub enum Command {
     UpgradeBook,
     PrintGraph,
     ListCarriers,
-    Unknown,
 }
 
-// The command that a word names.
-pub fn named(word: &[u8]) -> Command
+// The command that a word names, if it names one.
+pub fn named(word: &[u8]) -> Option<Command>
     ensures { Names word.now result }
 {
-    if same(word, b"print_formula") {
-        return Command::PrintFormula;
+    match word {
+        b"print_formula" => Some(Command::PrintFormula),
+        b"check_assignment" => Some(Command::CheckAssignment),
+        b"check_plan" => Some(Command::CheckPlan),
+        b"check_refutation" => Some(Command::CheckRefutation),
+        b"check_fewest" => Some(Command::CheckFewest),
+        b"upgrade_book" => Some(Command::UpgradeBook),
+        b"print_graph" => Some(Command::PrintGraph),
+        b"list_carriers" => Some(Command::ListCarriers),
+        _ => None,
     }
-    if same(word, b"check_assignment") {
-        return Command::CheckAssignment;
-    }
-    if same(word, b"check_plan") {
-        return Command::CheckPlan;
-    }
-    if same(word, b"check_refutation") {
-        return Command::CheckRefutation;
-    }
-    if same(word, b"check_fewest") {
-        return Command::CheckFewest;
-    }
-    if same(word, b"upgrade_book") {
-        return Command::UpgradeBook;
-    }
-    if same(word, b"print_graph") {
-        return Command::PrintGraph;
-    }
-    if same(word, b"list_carriers") {
-        return Command::ListCarriers;
-    }
-    Command::Unknown
 }

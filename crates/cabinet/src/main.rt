@@ -19,12 +19,11 @@
 
 mod commands;
 
-ghost use Rattle.std.specs.Prelude.{◌≤◌};
+ghost use Rattle.std.specs.Prelude.{◌≤◌, IfSome};
 
 use check::same;
 use commands::{Command, named};
-use model::Cap;
-use programs::arguments::{Argument, number_in};
+use programs::arguments::number_in;
 use programs::printing::print_formula_from;
 use programs::system::{arg, arg_count, complain};
 use programs::verdicts::{Check, fewest_files, graph_files, judge_files, upgrade_file};
@@ -32,18 +31,17 @@ use std::io::Input;
 use std::rt::HostRuntime;
 
 // The number that the argument in this place is, if it is one.
-fn number_at(rt: &HostRuntime, place: usize) -> Argument {
+fn number_at(rt: &HostRuntime, place: usize) -> Option<usize> {
     let mut word = [0u8; 4096];
     let n = arg(rt, place, &mut word);
     number_in(&word[..n])
 }
 
-// What stands ahead of the names: the cap, where the names begin, and whether the cap is a number.
-#[derive(Clone, Copy)]
+// What stands ahead of the names: the cap, and where the names begin.
+#[derive(Clone, Copy, Debug, PartialEq, Eq)]
 struct Ahead {
-    cap: Cap,
+    cap: Option<usize>,
     names: usize,
-    good: bool,
 }
 
 // Whether a cap stands behind the command.
@@ -53,47 +51,37 @@ fn has_option(rt: &HostRuntime) -> bool {
     same(&word[..n], b"--cap")
 }
 
-// Reads the option behind the command, if it is there.
-fn read_option(rt: &HostRuntime) -> Ahead
-    ensures { result.names ≤ 4 }
+// Reads the option behind the command, if it is there; nothing where its cap is no number.
+fn read_option(rt: &HostRuntime) -> Option<Ahead>
+    ensures { IfSome result (λ a. a.names ≤ 4) }
 {
     if !has_option(rt) {
-        return Ahead {
-            cap: Cap::No,
+        return Some(Ahead {
+            cap: None,
             names: 2,
-            good: true,
-        };
+        });
     }
-    let number = number_at(rt, 3);
-    match number {
-        Argument::Number(most) => Ahead {
-            cap: Cap::AtMost(most),
-            names: 4,
-            good: true,
-        },
-        Argument::Other => Ahead {
-            cap: Cap::No,
-            names: 4,
-            good: false,
-        },
-    }
+    let most = number_at(rt, 3)?;
+    Some(Ahead {
+        cap: Some(most),
+        names: 4,
+    })
 }
 
 fn print_formula(rt: &HostRuntime) {
-    let ahead = read_option(rt);
-    let cap = ahead.cap;
-    if !ahead.good || arg_count(rt) != ahead.names {
-        complain(rt, b"usage: print_formula [--cap N] < BOOK\n");
-        return;
-    }
-    if !print_formula_from(rt, cap, &mut rt.reader()) {
-        complain(rt, b"print_formula: standard input can't be read\n");
+    match read_option(rt) {
+        Some(ahead) if arg_count(rt) == ahead.names => {
+            if print_formula_from(rt, ahead.cap, &mut rt.reader()).is_err() {
+                complain(rt, b"print_formula: standard input can't be read\n");
+            }
+        }
+        _ => complain(rt, b"usage: print_formula [--cap N] < BOOK\n"),
     }
 }
 
 // Judges the files of the names from a place on: the book's, the second input's and, if there is a third, the
 // result's.
-fn judge_names(rt: &HostRuntime, check: Check, cap: Cap, place: usize, named: bool)
+fn judge_names(rt: &HostRuntime, check: Check, cap: Option<usize>, place: usize, named: bool)
     requires { place ≤ 4 }
 {
     let mut book = [0u8; 4096];
@@ -118,15 +106,13 @@ fn judge_names(rt: &HostRuntime, check: Check, cap: Cap, place: usize, named: bo
 fn judge(rt: &HostRuntime, check: Check, least: usize, most: usize, usage: &[u8])
     requires { (least ≤ 3) × (most ≤ 3) }
 {
-    let ahead = read_option(rt);
-    let cap = ahead.cap;
     let words = arg_count(rt);
-    let names = ahead.names;
-    if !ahead.good || words < names + least || names + most < words {
-        complain(rt, usage);
-        return;
+    match read_option(rt) {
+        Some(ahead) if ahead.names + least <= words && words <= ahead.names + most => {
+            judge_names(rt, check, ahead.cap, ahead.names, words == ahead.names + 3);
+        }
+        _ => complain(rt, usage),
     }
-    judge_names(rt, check, cap, names, words == names + 3);
 }
 
 fn carriers(rt: &HostRuntime) {
@@ -134,7 +120,7 @@ fn carriers(rt: &HostRuntime) {
         complain(rt, b"usage: list_carriers BOOK PLAN OUT\n");
         return;
     }
-    judge_names(rt, Check::Carriers, Cap::No, 2, true);
+    judge_names(rt, Check::Carriers, None, 2, true);
 }
 
 // Judges the files of an assignment and of a refutation together.
@@ -149,14 +135,10 @@ fn judge_both(rt: &HostRuntime, n: usize) {
 }
 
 fn fewest(rt: &HostRuntime) {
-    let number = number_at(rt, 3);
-    if arg_count(rt) == 6 && !has_option(rt) {
-        if let Argument::Number(n) = number {
-            judge_both(rt, n);
-            return;
-        }
+    match number_at(rt, 3) {
+        Some(n) if arg_count(rt) == 6 && !has_option(rt) => judge_both(rt, n),
+        _ => complain(rt, b"usage: check_fewest BOOK N ASSIGNMENT REFUTATION\n"),
     }
-    complain(rt, b"usage: check_fewest BOOK N ASSIGNMENT REFUTATION\n");
 }
 
 fn upgrade(rt: &HostRuntime) {
@@ -187,35 +169,34 @@ fn main(rt: HostRuntime) {
     let rt = &rt;
     let mut word = [0u8; 4096];
     let n = arg(rt, 1, &mut word);
-    let command = named(&word[..n]);
-    match command {
-        Command::PrintFormula => print_formula(rt),
-        Command::CheckAssignment => judge(
+    match named(&word[..n]) {
+        Some(Command::PrintFormula) => print_formula(rt),
+        Some(Command::CheckAssignment) => judge(
             rt,
             Check::Assignment,
             2,
             3,
             b"usage: check_assignment [--cap N] BOOK ASSIGNMENT [PLAN]\n",
         ),
-        Command::CheckPlan => judge(
+        Some(Command::CheckPlan) => judge(
             rt,
             Check::Plan,
             2,
             3,
             b"usage: check_plan [--cap N] BOOK PLAN [ASSIGNMENT]\n",
         ),
-        Command::CheckRefutation => judge(
+        Some(Command::CheckRefutation) => judge(
             rt,
             Check::Refutation,
             2,
             2,
             b"usage: check_refutation [--cap N] BOOK REFUTATION\n",
         ),
-        Command::CheckFewest => fewest(rt),
-        Command::UpgradeBook => upgrade(rt),
-        Command::PrintGraph => graph(rt),
-        Command::ListCarriers => carriers(rt),
-        Command::Unknown => {
+        Some(Command::CheckFewest) => fewest(rt),
+        Some(Command::UpgradeBook) => upgrade(rt),
+        Some(Command::PrintGraph) => graph(rt),
+        Some(Command::ListCarriers) => carriers(rt),
+        None => {
             complain(rt, b"usage: cabinet print_formula [--cap N] < BOOK\n");
             complain(
                 rt,

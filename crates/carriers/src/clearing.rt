@@ -101,12 +101,9 @@ fn put_carriers(
         × (result ≡ length (carrier_list (instance_of (held b)) (plan_of (instance_of (held b)) plan.old)))
         × (out.new ≡ overwrite out.old (carrier_list (instance_of (held b)) (plan_of (instance_of (held b)) plan.old))) }
 {
-    let nodes = b.node_count;
     let mut end = 0;
-    let mut node = 0;
-    while node < nodes {
+    for node in 0..b.node_count {
         end = put_node(b, counts, runs, meets, plan, node, out, end);
-        node += 1;
     }
     end
 }
@@ -125,8 +122,8 @@ pub fn put_list(
     ensures { (result ≡ length (carrier_list (instance_of (held b)) (plan_of (instance_of (held b)) plan.now)))
         × (out.new ≡ overwrite out.old (carrier_list (instance_of (held b)) (plan_of (instance_of (held b)) plan.now))) }
 {
-    let length = plan.len();
-    let mut copy = [0u8; MAX_PLAN];
-    put_bytes(&mut copy, 0, plan);
-    put_carriers(b, counts, runs, meets, &mut copy[..length], out)
+    let mut room = [0u8; MAX_PLAN];
+    let copy = &mut room[..plan.len()];
+    copy.copy_from_slice(plan);
+    put_carriers(b, counts, runs, meets, copy, out)
 }

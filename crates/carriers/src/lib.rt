@@ -9,57 +9,48 @@ mod meeting;
 
 ghost use Rattle.std.specs.Prelude.{◌≡◌, length};
 ghost use Rattle.spec.specs.Instance.{instance_of};
+ghost use Rattle.spec.specs.Answers.{told, accepted_as};
 ghost use Rattle.spec.specs.Held.{held};
 ghost use Rattle.spec.specs.Entry.{overwrite, written};
 ghost use Rattle.spec.specs.Carriers.{carriers_for, list_carriers, carriers_output};
-ghost use Rattle.tables.specs.Ready.{RunsReady, MeetsReady};
-ghost use Rattle.reader.specs.OutputAnswers.{output_answer};
 
 use clearing::{CARRIER_BYTES, put_list};
 use listing::TABLE_BYTES;
-use model::{Book, Counts};
+use model::Refusal;
 use network::track::count_free;
 use plan_rules::judging::admit_plan;
-use reader::reading::{Answer, OutputAnswer};
 use tables::meets::MEET_BYTES;
-use tables::preparing::prepare;
+use tables::preparing::{Prepared, prepare};
+use tables::ready::Tables;
 
-// 12, then the verdict on a plan, then its list, by the tables of a book.
-fn list_by(
-    b: Book,
-    counts: Counts,
-    runs: &[u8],
-    meets: &[u8],
-    plan: &[u8],
-    out: &mut [u8],
-) -> OutputAnswer
-    requires { RunsReady b counts runs.now × MeetsReady b meets.now }
-    ensures { (result ≡ output_answer (carriers_for (instance_of (held b)) plan.now (length out.old)))
-        × (out.new ≡ overwrite out.old (written (carriers_for (instance_of (held b)) plan.now (length out.old)))) }
+// 12, then the verdict on a plan, then its list, by the tables of a book; answers how many bytes the list has.
+fn list_by(t: &Tables, plan: &[u8], out: &mut [u8]) -> Result<usize, Refusal>
+    ensures answer { told result ≡ accepted_as length (carriers_for (instance_of (held t.now.book)) plan.now (length out.old)) }
+    ensures output { out.new ≡ overwrite out.old (written (carriers_for (instance_of (held t.now.book)) plan.now (length out.old))) }
 {
-    let room = count_free(b) * CARRIER_BYTES;
-    let admitted = admit_plan(b, counts, runs, meets, plan, room, out.len());
-    match admitted {
-        Answer::Refused(number, detail) => OutputAnswer::Refused(number, detail),
-        Answer::Accepted => OutputAnswer::Wrote(put_list(b, counts, runs, meets, plan, out)),
-    }
+    let room = count_free(t.book) * CARRIER_BYTES;
+    admit_plan(t, plan, room, out.len())?;
+    Ok(put_list(t.book, t.counts, t.runs, t.meets, plan, out))
 }
 
-// An entry point: the borders that carry a plan that keeps the rules for a book.
-pub fn list_carriers(book: &[u8], plan: &[u8], out: &mut [u8]) -> OutputAnswer
-    ensures { (result ≡ output_answer (list_carriers book.now plan.now (length out.old)))
-        × (out.new ≡ carriers_output book.now plan.now out.old) }
+// An entry point: the borders that carry a plan that keeps the rules for a book; answers how many bytes their
+// list has.
+pub fn list_carriers(book: &[u8], plan: &[u8], out: &mut [u8]) -> Result<usize, Refusal>
+    ensures answer { told result ≡ accepted_as length (list_carriers book.now plan.now (length out.old)) }
+    ensures output { out.new ≡ carriers_output book.now plan.now out.old }
 {
     let mut runs = [0u8; TABLE_BYTES];
     let mut meets = [0u8; MEET_BYTES];
-    let p = prepare(book, &mut runs, &mut meets);
-    let end = p.meet_bytes;
-    let read = p.read;
-    let b = read.book;
-    let counts = read.counts;
-    let answer = read.answer;
-    match answer {
-        Answer::Refused(number, detail) => OutputAnswer::Refused(number, detail),
-        Answer::Accepted => list_by(b, counts, &runs, &meets[..end], plan, out),
-    }
+    let Prepared {
+        book,
+        counts,
+        meet_bytes,
+    } = prepare(book, &mut runs, &mut meets)?;
+    let t = Tables {
+        book,
+        counts,
+        runs: &runs,
+        meets: &meets[..meet_bytes],
+    };
+    list_by(&t, plan, out)
 }

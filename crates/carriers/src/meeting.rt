@@ -13,7 +13,7 @@ use model::{Book, Counts, MAX_SEGMENTS};
 use plan_rules::apart::{mark, stretch_of, touches};
 
 // Two trains that meet.
-#[derive(Clone, Copy)]
+#[derive(Clone, Copy, Debug, PartialEq, Eq)]
 pub struct Pair {
     pub lower: usize,
     pub higher: usize,
@@ -32,19 +32,15 @@ fn higher_train(
     requires { PlanLabelled b counts runs.now labels.now plan.now × (interval < b.intervals) × (lower < b.train_count) }
     ensures { result ≡ higher_train (instance_of (held b)) (plan_of (instance_of (held b)) plan.now) interval lower }
 {
-    let trains = b.train_count;
     let own = stretch_of(move_at(b, plan, lower, interval), runs, lower);
     let mut marks = [0u8; MAX_SEGMENTS];
     mark(own, runs, labels, &mut marks);
-    let mut higher = lower + 1;
-    while higher < trains {
-        let stretch = stretch_of(move_at(b, plan, higher, interval), runs, higher);
-        if touches(stretch, runs, labels, &marks) {
-            return higher;
-        }
-        higher += 1;
-    }
-    higher
+    (lower + 1..b.train_count)
+        .find(|&higher| {
+            let stretch = stretch_of(move_at(b, plan, higher, interval), runs, higher);
+            touches(stretch, runs, labels, &marks)
+        })
+        .unwrap_or(b.train_count)
 }
 
 // The first pair that meets in an interval in which trains meet.
@@ -62,17 +58,15 @@ pub fn first_pair(
         × (result.higher ≡ higher_train (instance_of (held b)) (plan_of (instance_of (held b)) plan.now) interval result.lower)
         × (result.lower < result.higher) × (result.higher < b.train_count) }
 {
-    let trains = b.train_count;
-    let mut lower = 0;
-    while lower < trains {
+    for lower in 0..b.train_count {
         let higher = higher_train(b, counts, runs, labels, plan, interval, lower);
-        if higher < trains {
+        if higher < b.train_count {
             return Pair { lower, higher };
         }
-        lower += 1;
     }
+    // not reached: some trains meet
     Pair {
-        lower: trains,
-        higher: trains,
+        lower: b.train_count,
+        higher: b.train_count,
     }
 }

@@ -3,11 +3,10 @@ ghost use Rattle.std.specs.Prelude.{◌≡◌, ◌<◌, length};
 ghost use Rattle.listing.specs.Listed.{table_bytes};
 ghost use Rattle.tables.specs.Tables.{all_chains};
 
-use frames::bytes::wide;
 use listing::{ENTRY_BYTES, TABLE_BYTES};
-use model::{Counts, MAX_RUNS, MAX_TRAINS};
+use model::{Counts, MAX_RUNS, MAX_TRAINS, Refusal};
 use programs::printing::{print_decimal, print_text};
-use reader::reading::{Answer, read_book};
+use reader::reading::read_book;
 use std::rt::HostRuntime;
 use tables::chains::{ALL_CHAINS, chain_trains};
 use tables::preparing::prepare_runs;
@@ -19,18 +18,16 @@ fn print_number(rt: &HostRuntime, n: usize, end: u8) {
     print_text(rt, &behind);
 }
 
-fn print_refusal(rt: &HostRuntime, number: usize, detail: usize) {
-    print_number(rt, number, b' ');
-    print_number(rt, detail, b'\n');
+fn print_refusal(rt: &HostRuntime, refusal: Refusal) {
+    print_number(rt, refusal.number(), b' ');
+    print_number(rt, refusal.detail(), b'\n');
 }
 
 // How many nodes, segments, joins, trains and calls a book has, or its refusal.
 pub fn print_counts(rt: &HostRuntime, s: &[u8]) {
-    let r = read_book(s);
-    let answer = r.answer;
-    let b = r.book;
-    match answer {
-        Answer::Accepted => {
+    match read_book(s) {
+        Ok(read) => {
+            let b = read.book;
             print_text(rt, b"accepted ");
             print_number(rt, b.node_count, b' ');
             print_number(rt, b.segment_count, b' ');
@@ -38,16 +35,14 @@ pub fn print_counts(rt: &HostRuntime, s: &[u8]) {
             print_number(rt, b.train_count, b' ');
             print_number(rt, b.call_count, b'\n');
         }
-        Answer::Refused(number, detail) => print_refusal(rt, number, detail),
+        Err(refusal) => print_refusal(rt, refusal),
     }
 }
 
 // A path of n directed segments.
 fn print_path(rt: &HostRuntime, path: &[u8], n: usize) {
-    let mut i = 0;
-    while i < path.len() && i < n {
-        print_number(rt, wide(path[i]), b' ');
-        i += 1;
+    for d in path.iter().take(n) {
+        print_number(rt, usize::from(*d), b' ');
     }
 }
 
@@ -57,7 +52,11 @@ fn print_run(rt: &HostRuntime, at: usize, runs: &[u8], chains: &[usize])
     requires { (at < 2048) × (length runs.now ≡ table_bytes) × (length chains.now ≡ all_chains) }
 {
     let entry = at * ENTRY_BYTES;
-    print_path(rt, &runs[entry + 1..entry + ENTRY_BYTES], wide(runs[entry]));
+    print_path(
+        rt,
+        &runs[entry + 1..entry + ENTRY_BYTES],
+        usize::from(runs[entry]),
+    );
     print_text(rt, b"| ");
     print_number(rt, chains[2 * at], b' ');
     print_number(rt, chains[2 * at + 1], b'\n');
@@ -76,10 +75,8 @@ fn print_train(rt: &HostRuntime, train: usize, n: usize, runs: &[u8], chains: &[
     requires { (train < 8) × (length runs.now ≡ table_bytes) × (length chains.now ≡ all_chains) }
 {
     print_head(rt, train, n);
-    let mut run = 0;
-    while run < MAX_RUNS && run < n {
+    for run in 0..n.min(MAX_RUNS) {
         print_run(rt, train * MAX_RUNS + run, runs, chains);
-        run += 1;
     }
 }
 
@@ -87,10 +84,8 @@ fn print_train(rt: &HostRuntime, train: usize, n: usize, runs: &[u8], chains: &[
 fn print_trains(rt: &HostRuntime, n: usize, counts: Counts, runs: &[u8], chains: &[usize])
     requires { (length runs.now ≡ table_bytes) × (length chains.now ≡ all_chains) }
 {
-    let mut i = 0;
-    while i < MAX_TRAINS && i < n {
-        print_train(rt, i, counts[i], runs, chains);
-        i += 1;
+    for train in 0..n.min(MAX_TRAINS) {
+        print_train(rt, train, counts[train], runs, chains);
     }
 }
 
@@ -98,15 +93,11 @@ fn print_trains(rt: &HostRuntime, n: usize, counts: Counts, runs: &[u8], chains:
 pub fn print_runs(rt: &HostRuntime, s: &[u8]) {
     let mut runs = [0u8; TABLE_BYTES];
     let mut chains = [0usize; ALL_CHAINS];
-    let read = prepare_runs(s, &mut runs);
-    let b = read.book;
-    let counts = read.counts;
-    let answer = read.answer;
-    match answer {
-        Answer::Accepted => {
-            chain_trains(b, counts, &runs, &mut chains);
-            print_trains(rt, b.train_count, counts, &runs, &chains);
+    match prepare_runs(s, &mut runs) {
+        Ok(read) => {
+            chain_trains(read.book, read.counts, &runs, &mut chains);
+            print_trains(rt, read.book.train_count, read.counts, &runs, &chains);
         }
-        Answer::Refused(number, detail) => print_refusal(rt, number, detail),
+        Err(refusal) => print_refusal(rt, refusal),
     }
 }

@@ -2,14 +2,18 @@
 ghost use Rattle.std.specs.Prelude.{◌≡◌, ◌<◌, ◌≤◌, length};
 
 use crate::lent::lent;
-use frames::bytes::wide;
-use model::Cap;
 use programs::dimacs::put_words;
 use programs::printing::{Opened, open_text, print, print_decimal, print_text, print_words};
 use std::rt::HostRuntime;
 
 // The first line in `line`, and the words behind it, with as many words lent as the numbers say.
-fn opened(cap: Cap, book: &[u8], numbers: &[u8], words: &mut [i32], line: &mut [u8]) -> Opened
+fn opened(
+    cap: Option<usize>,
+    book: &[u8],
+    numbers: &[u8],
+    words: &mut [i32],
+    line: &mut [u8],
+) -> Opened
     requires { length line.old ≡ 64 }
     ensures { result.words ≤ length words.old }
 {
@@ -18,7 +22,7 @@ fn opened(cap: Cap, book: &[u8], numbers: &[u8], words: &mut [i32], line: &mut [
 }
 
 // What print_formula prints.
-pub fn print_formula(rt: &HostRuntime, cap: Cap, book: &[u8], numbers: &[u8]) {
+pub fn print_formula(rt: &HostRuntime, cap: Option<usize>, book: &[u8], numbers: &[u8]) {
     let mut words = [0i32; 16384];
     let mut line = [0u8; 64];
     let text = opened(cap, book, numbers, &mut words, &mut line);
@@ -28,7 +32,7 @@ pub fn print_formula(rt: &HostRuntime, cap: Cap, book: &[u8], numbers: &[u8]) {
 }
 
 // How many bytes were passed, and their checksum.
-#[derive(Clone, Copy)]
+#[derive(Clone, Copy, Debug, PartialEq, Eq)]
 struct Digest {
     len: u64,
     sum: usize,
@@ -39,15 +43,14 @@ fn more(d: Digest, bytes: &[u8], n: usize) -> Digest
     requires { d.sum < 1000000007 }
     ensures { result.sum < 1000000007 }
 {
+    let passed = &bytes[..n.min(bytes.len())];
     let mut sum = d.sum;
-    let mut i = 0;
-    while i < bytes.len() && i < n {
-        sum = (sum * 257 + wide(bytes[i]) + 1) % 1000000007;
-        i += 1;
+    for x in passed {
+        sum = (sum * 257 + usize::from(*x) + 1) % 1000000007;
     }
     Digest {
-        len: d.len.wrapping_add(i as u64),
-        sum: sum,
+        len: d.len.wrapping_add(passed.len() as u64),
+        sum,
     }
 }
 
@@ -58,6 +61,7 @@ fn more_words(d: Digest, words: &[i32]) -> Digest
     let mut buf = [0u8; 65536];
     let mut digest = d;
     let mut from = 0;
+    // a `while`: each turn goes on by the words of a whole piece
     while from < words.len() {
         let piece = put_words(&mut buf, words, from);
         digest = more(digest, &buf, piece.len);
@@ -67,7 +71,7 @@ fn more_words(d: Digest, words: &[i32]) -> Digest
 }
 
 // The length and the checksum of what print_formula prints.
-pub fn print_digest(rt: &HostRuntime, cap: Cap, book: &[u8], numbers: &[u8]) {
+pub fn print_digest(rt: &HostRuntime, cap: Option<usize>, book: &[u8], numbers: &[u8]) {
     let mut words = [0i32; 16384];
     let mut line = [0u8; 64];
     let text = opened(cap, book, numbers, &mut words, &mut line);

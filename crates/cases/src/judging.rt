@@ -4,18 +4,17 @@ ghost use Rattle.std.specs.Prelude.{◌≡◌, length};
 use crate::lent::lent;
 use fewest::check_fewest;
 use graph::print_graph;
-use model::Cap;
+use model::Refusal;
 use programs::printing::{print, print_text};
 use programs::verdicts::{
     Check, Said, refutation_text, say, say_plain, upgrade_text, verdict_text,
 };
-use reader::reading::OutputAnswer;
 use std::rt::HostRuntime;
 
 // The verdict of a check, with as much of the output lent as the numbers say.
 fn verdict(
     check: Check,
-    cap: Cap,
+    cap: Option<usize>,
     book: &[u8],
     second: &[u8],
     numbers: &[u8],
@@ -31,13 +30,22 @@ fn verdict(
 // A verdict's line and, where it is accepted, its result on a line.
 fn print_said(rt: &HostRuntime, said: Said, line: &[u8], out: &[u8]) {
     print(rt, line, said.len);
-    if 0 < said.result {
-        print(rt, out, said.result);
-        print_text(rt, b"\n");
+    if let Some(n) = said.result {
+        if 0 < n {
+            print(rt, out, n);
+            print_text(rt, b"\n");
+        }
     }
 }
 
-pub fn judge(rt: &HostRuntime, check: Check, cap: Cap, book: &[u8], second: &[u8], numbers: &[u8]) {
+pub fn judge(
+    rt: &HostRuntime,
+    check: Check,
+    cap: Option<usize>,
+    book: &[u8],
+    second: &[u8],
+    numbers: &[u8],
+) {
     let mut out = [7u8; 65536];
     let mut line = [0u8; 64];
     let said = verdict(check, cap, book, second, numbers, &mut out, &mut line);
@@ -45,13 +53,19 @@ pub fn judge(rt: &HostRuntime, check: Check, cap: Cap, book: &[u8], second: &[u8
 }
 
 // The verdict on an assignment that is unpacked, then on the same one judged alone.
-pub fn judge_assignment(rt: &HostRuntime, cap: Cap, book: &[u8], second: &[u8], numbers: &[u8]) {
+pub fn judge_assignment(
+    rt: &HostRuntime,
+    cap: Option<usize>,
+    book: &[u8],
+    second: &[u8],
+    numbers: &[u8],
+) {
     judge(rt, Check::Unpacking, cap, book, second, numbers);
     judge(rt, Check::Assignment, cap, book, second, numbers);
 }
 
 // The answer to a plan whose train graph is asked for, with as much of the output lent as the numbers say.
-fn drawn(book: &[u8], plan: &[u8], numbers: &[u8], out: &mut [u8]) -> OutputAnswer {
+fn drawn(book: &[u8], plan: &[u8], numbers: &[u8], out: &mut [u8]) -> Result<usize, Refusal> {
     let n = lent(numbers, 0, out.len());
     print_graph(book, plan, &mut out[..n])
 }
@@ -83,7 +97,7 @@ pub fn upgrade(rt: &HostRuntime, old: &[u8], numbers: &[u8]) {
 // The verdict on a refutation, with as much of the slices lent as the numbers say.
 fn refutation(
     rt: &HostRuntime,
-    cap: Cap,
+    cap: Option<usize>,
     book: &[u8],
     r: &[u8],
     numbers: &[u8],
@@ -111,7 +125,7 @@ fn refutation(
 }
 
 // The verdict's line.
-pub fn refute(rt: &HostRuntime, cap: Cap, book: &[u8], r: &[u8], numbers: &[u8]) {
+pub fn refute(rt: &HostRuntime, cap: Option<usize>, book: &[u8], r: &[u8], numbers: &[u8]) {
     let mut words = [-7i32; 16384];
     let mut starts = [9usize; 8192];
     let mut values = [2u8; 65536];

@@ -10,6 +10,5 @@ pub fn lent(numbers: &[u8], place: usize, most: usize) -> usize
     if numbers.len() / 4 <= place {
         return most;
     }
-    let n = number_at(numbers, place);
-    if n < most { n } else { most }
+    number_at(numbers, place).min(most)
 }

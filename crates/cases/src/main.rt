@@ -23,7 +23,6 @@ mod lent;
 
 ghost use Rattle.std.specs.Prelude.{◌<◌};
 
-use model::Cap;
 use programs::printing::{print_text, read_full};
 use programs::system::{arg, arg_count, open};
 use programs::verdicts::{Check, fewest_files, graph_files};
@@ -32,10 +31,10 @@ use std::io::Read;
 use std::rt::HostRuntime;
 
 // What a record asks: its letter, and its cap, or n.
-#[derive(Clone, Copy)]
+#[derive(Clone, Copy, Debug, PartialEq, Eq)]
 struct Question {
     letter: u8,
-    cap: Cap,
+    cap: Option<usize>,
     n: usize,
 }
 
@@ -69,26 +68,13 @@ fn answer(rt: &HostRuntime, q: Question, first: &[u8], second: &[u8], third: &[u
     }
 }
 
-// The answer to the first n, m and k bytes of three buffers.
-fn answer_parts(
-    rt: &HostRuntime,
-    question: Question,
-    first: &[u8],
-    n: usize,
-    second: &[u8],
-    m: usize,
-    third: &[u8],
-    k: usize,
-) {
-    if n <= first.len() && m <= second.len() && k <= third.len() {
-        answer(rt, question, &first[..n], &second[..m], &third[..k]);
+// Reads the next n bytes, as far as the buffer has room for them: nothing where it has not.
+fn read_part<'a, R: Read>(input: &mut R, buf: &'a mut [u8], n: usize) -> Option<&'a [u8]> {
+    if buf.len() < n {
+        return None;
     }
-}
-
-fn read_part<R: Read>(input: &mut R, buf: &mut [u8], n: usize) {
-    if n <= buf.len() {
-        read_full(input, &mut buf[..n]);
-    }
+    let _read = read_full(input, &mut buf[..n]);
+    Some(&buf[..n])
 }
 
 // The question of a record's letter, its byte about the cap, and the two halves of the cap.
@@ -96,19 +82,21 @@ fn question_of(letter: u8, capped: u8, low: usize, high: usize) -> Question
     requires { (low < 4294967296) × (high < 4294967296) }
 {
     let n = low + high * 4294967296;
-    let cap = if capped == 0 { Cap::No } else { Cap::AtMost(n) };
-    Question {
-        letter: letter,
-        cap: cap,
-        n: n,
-    }
+    let cap = if capped == 0 { None } else { Some(n) };
+    Question { letter, cap, n }
+}
+
+// Fills a buffer; answers whether the input has so many bytes.
+fn filled<R: Read>(input: &mut R, buf: &mut [u8]) -> bool {
+    let most = buf.len();
+    matches!(read_full(input, buf), Ok(n) if n == most)
 }
 
 // One case; answers whether there was one.
 fn one_case<R: Read>(rt: &HostRuntime, input: &mut R) -> bool {
     let mut head = [0u8; 2];
     let mut numbers = [0u8; 20];
-    if read_full(input, &mut head) != 2 || read_full(input, &mut numbers) != 20 {
+    if !filled(input, &mut head) || !filled(input, &mut numbers) {
         return false;
     }
     let low = number_at(&numbers, 0);
@@ -117,21 +105,21 @@ fn one_case<R: Read>(rt: &HostRuntime, input: &mut R) -> bool {
     let mut first = [0u8; 65536];
     let mut second = [0u8; 65536];
     let mut third = [0u8; 65536];
-    let n = number_at(&numbers, 2);
-    let m = number_at(&numbers, 3);
-    let k = number_at(&numbers, 4);
-    read_part(input, &mut first, n);
-    read_part(input, &mut second, m);
-    read_part(input, &mut third, k);
-    answer_parts(rt, question, &first, n, &second, m, &third, k);
+    let first = read_part(input, &mut first, number_at(&numbers, 2));
+    let second = read_part(input, &mut second, number_at(&numbers, 3));
+    let third = read_part(input, &mut third, number_at(&numbers, 4));
+    if let (Some(first), Some(second), Some(third)) = (first, second, third) {
+        answer(rt, question, first, second, third);
+    }
     true
 }
 
 // The cases of a file, a million at most.
 fn all_cases<R: Read>(rt: &HostRuntime, input: &mut R) {
-    let mut left = 1000000usize;
-    while 0 < left && one_case(rt, input) {
-        left -= 1;
+    for _ in 0..1000000 {
+        if !one_case(rt, input) {
+            break;
+        }
     }
 }
 
@@ -141,17 +129,14 @@ fn answer_file(rt: &HostRuntime, argument: usize) {
     let n = arg(rt, argument, &mut name);
     print_text(rt, &name[..n]);
     print_text(rt, b"\n");
-    if let Ok(file) = open(rt, &name[..n]) {
-        let mut input = file;
-        all_cases(rt, &mut input);
+    if let Ok(mut file) = open(rt, &name[..n]) {
+        all_cases(rt, &mut file);
     }
 }
 
 fn main(rt: HostRuntime) {
     let rt = &rt;
-    let mut i = 1;
-    while i < 1000 && i < arg_count(rt) {
-        answer_file(rt, i);
-        i += 1;
+    for argument in 1..arg_count(rt).min(1000) {
+        answer_file(rt, argument);
     }
 }

@@ -1,21 +1,21 @@
 -- Clauses of two literals whose first literal is true: passing them one by one, into an output without room, is passing them at
 -- once. Assumes nothing.
 use mathlib.Core.Path.{◌≡◌, refl, sym, ap, ◌∙◌}
-use mathlib.Core.Bool.{Bool, true, false, not, ◌||◌, ◌&&◌}
+use mathlib.Core.Bool.{Bool, true, false, not, ◌||◌}
 use Prim.Native.Nat.{ℕ, zero, suc, ◌+◌, ◌*◌, ◌-◌, ◌≤◌, ◌<◌}
 use native.Mathlib.Omega.{arith}
 use mathlib.Core.List.{List, ◌∷◌, map}
-use lib.ListN.{length, set}
+use lib.ListN.{set}
 use lib.IntN.{ℤ, pos}
-use lib.Dec.{eqb}
-use Rattle.laws.proofs.Tests.{and-false}
+use Rattle.std.specs.Prelude.{Option}
 use Rattle.spec.specs.Lists.{Bytes, count, range, each, one}
 use Rattle.spec.specs.Formula.{not', words_of}
 use Rattle.spec.specs.Assignment.{assigned}
 use Rattle.demands.proofs.Meaning.{denied'}
+use Rattle.clauses.specs.declared.Tally.{Tally}
 use Rattle.clauses.specs.declared.Walk.{Walk}
-use Rattle.clauses.specs.Walked.{more, holding, literal, closed_by, closed, word, walked, stored, skipped, most, Walks}
-use Rattle.clauses.proofs.Laws.{walked-append, flag-back, more-more, empty-stored, stored-three}
+use Rattle.clauses.specs.Walked.{more, literal, closed_by, closed, word, walked, stored, skipped, most, Passes}
+use Rattle.clauses.proofs.Laws.{walked-append, more-more, stored-three}
 use Rattle.clauses.proofs.Turns.{range-next, range-end}
 
 -- some true literal
@@ -27,18 +27,15 @@ any-true true = refl
 any-true false = refl
 
 -- a clause that holds leaves the first wrong one as it is
-closed-held : (w : Walk) → holding w ≡ true
-    → closed w ≡ record { words = more w.words 1; clauses = more w.clauses 1; holds = 0; wrong = w.wrong }
+closed-held : (w : Tally) → w.holds ≡ true
+    → closed w ≡ record { words = more w.words 1; clauses = more w.clauses 1; holds = false; wrong = w.wrong }
 unfolding closed closed_by
-closed-held w e =
-    let h : (eqb w.wrong 0 && not (holding w)) ≡ false =
-    ap (λ (t : Bool). eqb w.wrong 0 && not t) e ∙ and-false (eqb w.wrong 0) in
-    simp h
+closed-held w e = ap (λ (h : Bool). closed_by 1 h w) e
 
-three : (words clauses wrong : ℕ)
-    → ◌≡◌ {A = Walk}
-    (record { words = more (more (more words 1) 1) 1; clauses = more clauses 1; holds = 0; wrong = wrong })
-    (record { words = more words 3; clauses = more clauses 1; holds = 0; wrong = wrong })
+three : (words clauses : ℕ) (wrong : Option ℕ)
+    → ◌≡◌ {A = Tally}
+    (record { words = more (more (more words 1) 1) 1; clauses = more clauses 1; holds = false; wrong = wrong })
+    (record { words = more words 3; clauses = more clauses 1; holds = false; wrong = wrong })
 three words clauses wrong =
     let e : more (more (more words 1) 1) 1 ≡ more words 3 =
     ap (λ (n : ℕ). more n 1) (more-more words 1 1 2 refl) ∙ more-more words 2 1 3 refl in
@@ -46,16 +43,16 @@ three words clauses wrong =
 
 module _ (values : Bytes) (u : ℕ) (no : assigned values u ≡ false) where
   -- one clause
-  one-pair : (v : ℕ) (w : Walk) → walked values (words_of (one (not' u ∷ one (not' v)))) w ≡ skipped 1 w
+  one-pair : (v : ℕ) (w : Tally) → walked values (words_of (one (not' u ∷ one (not' v)))) w ≡ skipped 1 w
   unfolding words_of each walked word literal skipped
   one-pair v w =
-      let h : holding (literal values (not' u) w) ≡ true =
-      flag-back _ ∙ ap (λ (t : Bool). holding w || t) (denied' (assigned values) u ∙ ap not no) ∙ any-true (holding w) in
-      closed-held (literal values (not' v) (literal values (not' u) w)) (flag-back _ ∙ or-true _ _ h)
+      let h : (literal values (not' u) w).holds ≡ true =
+      ap (λ (t : Bool). w.holds || t) (denied' (assigned values) u ∙ ap not no) ∙ any-true w.holds in
+      closed-held (literal values (not' v) (literal values (not' u) w)) (or-true _ _ h)
       ∙ three w.words w.clauses w.wrong
 
   -- and more of them
-  more-pairs : (k : ℕ) (w : Walk) → skipped k (skipped 1 w) ≡ skipped (suc k) w
+  more-pairs : (k : ℕ) (w : Tally) → skipped k (skipped 1 w) ≡ skipped (suc k) w
   unfolding skipped
   more-pairs zero w = refl
   more-pairs (suc k) w =
@@ -64,7 +61,7 @@ module _ (values : Bytes) (u : ℕ) (no : assigned values u ≡ false) where
       simp (e, f)
 
   -- k clauses
-  all-pairs : (from a k : ℕ) (w : Walk)
+  all-pairs : (from a k : ℕ) (w : Tally)
       → walked values (words_of (map (λ j. not' u ∷ one (not' (from + j))) (count a k))) w ≡ skipped k w
   unfolding words_of each count walked skipped
   all-pairs from a zero w = refl
@@ -78,21 +75,22 @@ module _ (values : Bytes) (u : ℕ) (no : assigned values u ≡ false) where
       clause j = not' u ∷ one (not' (from + j))
 
   -- a row of them, whatever the output
-  pub counted-pairs : (from m n : ℕ) (w w' : Walk) (out out' : List ℤ) → w' ≡ skipped (n - m - 1) w
-      → out' ≡ stored w.words (words_of (map (λ k. not' u ∷ one (not' (from + k))) (range (m + 1) n))) out
-      → Walks values (words_of (map (λ k. not' u ∷ one (not' (from + k))) (range (m + 1) n))) w out w' out'
+  pub counted-pairs : (from m n : ℕ) {w : Walk} {tally : Tally} {out : List ℤ} → tally ≡ skipped (n - m - 1) w.tally
+      → out ≡ stored w.tally.words (words_of (map (λ k. not' u ∷ one (not' (from + k))) (range (m + 1) n))) w.out.now
+      → w.values.now ≡ values
+      → Passes (words_of (map (λ k. not' u ∷ one (not' (from + k))) (range (m + 1) n))) w
+      (record w { out = record w.out { now = out }; tally = tally })
   unfolding range
-  counted-pairs from m n w w' out out' h o =
+  counted-pairs from m n {w} h o e =
       let k : n - m - 1 ≡ n - (m + 1) = omega arith in
       record {
-        walk = h ∙ ap (λ (j : ℕ). skipped j w) k ∙ sym (all-pairs from (m + 1) (n - (m + 1)) w);
-        output = o;
+        same_output = refl;
+        same_values = refl;
+        walks = record {
+          walk = h ∙ ap (λ (j : ℕ). skipped j w.tally) k ∙ sym (rw e (all-pairs from (m + 1) (n - (m + 1)) w.tally));
+          output = o;
+        };
       }
-
-  -- into an output without room
-  pub skipped-pairs : (from m n : ℕ) (w w' : Walk) (out : List ℤ) → length out ≡ 0 → w' ≡ skipped (n - m - 1) w
-      → Walks values (words_of (map (λ k. not' u ∷ one (not' (from + k))) (range (m + 1) n))) w out w' out
-  skipped-pairs from m n w w' out e h = counted-pairs from m n w w' out out h (empty-stored _ _ out e)
 
 -- ---- storing a row of them
 

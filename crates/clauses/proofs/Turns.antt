@@ -1,18 +1,18 @@
--- Loops over the walk: `Ahead` says that what is left to pass gives what the whole would give. A loop over a range passes, at
--- each turn, the words of one number. Assumes nothing.
-use mathlib.Core.Path.{◌≡◌, refl, sym, ap, ap₂, ◌∙◌, subst}
-use Prim.Native.Nat.{ℕ, suc, ◌+◌, ◌-◌, ◌≤◌, ◌<◌}
+-- Loops over the walk. A loop over a range passes, at each turn, the words of one number. For a loop that goes another way `Ahead` says
+-- that passing what is left comes to passing the whole. Assumes nothing.
+use mathlib.Core.Path.{◌≡◌, refl, sym, ap, ap₂, ◌∙◌}
+use Prim.Native.Nat.{ℕ, zero, suc, ◌+◌, ◌-◌, ◌≤◌, ◌<◌}
 use native.Mathlib.Omega.{arith}
 use native.Mathlib.Nat.{sub-zero}
 use mathlib.Core.List.{List, [], ◌∷◌, ◌++◌, map, append-nil}
-use lib.ListN.{length}
 use lib.IntN.{ℤ, pos}
-use Rattle.spec.specs.Lists.{Bytes, count, up_to, range, each, one}
+use Rattle.spec.specs.Lists.{count, up_to, range, each, one}
 use Rattle.spec.specs.Formula.{Clause, words_of}
+use Rattle.laws.proofs.Parts.{each_append}
 use Rattle.demands.proofs.Words.{words_append}
 use Rattle.clauses.specs.declared.Walk.{Walk}
-use Rattle.clauses.specs.Walked.{walked, stored, Walks}
-use Rattle.clauses.proofs.Laws.{walked-append, stored-append, length-stored}
+use Rattle.clauses.specs.Walked.{Passes}
+use Rattle.clauses.proofs.Laws.{passes_same, passes-behind, passes-nothing}
 
 -- ---- ranges
 
@@ -30,6 +30,21 @@ range-next a z h =
 pub range-end : (a z : ℕ) → z ≤ a → range a z ≡ []
 unfolding range count
 range-end a z h = let e : z - a ≡ 0 = omega arith in ap (count a) e
+
+-- one number more
+count-last : (a n : ℕ) → count a (suc n) ≡ count a n ++ one (a + n)
+unfolding count
+count-last a zero = let e : a ≡ a + 0 = omega arith in ap one e
+count-last a (suc n) =
+    let e : suc a + n ≡ a + suc n = omega arith in
+    ap (λ (ks : List ℕ). a ∷ ks) (count-last (suc a) n) ∙ ap (λ (k : ℕ). a ∷ (count (suc a) n ++ one k)) e
+
+range-last : (a k : ℕ) → a ≤ k → range a (k + 1) ≡ range a k ++ one k
+unfolding range
+range-last a k h =
+    let e : k + 1 - a ≡ suc (k - a) = omega arith in
+    let f : a + (k - a) ≡ k = omega arith in
+    ap (count a) e ∙ count-last a (k - a) ∙ ap (λ (n : ℕ). count a (k - a) ++ one n) f
 
 -- ---- the words of rows of clauses
 
@@ -60,50 +75,48 @@ words_row f n = sym (words-map f (up_to n) ∙ ap (λ (ks : List ℕ). each ks (
 pub words-rows : (f : ℕ → List Clause) (n : ℕ) → each (range 0 n) (λ k. words_of (f k)) ≡ words_of (each (up_to n) f)
 words-rows f n = sym (words-each f (up_to n) ∙ ap (λ (ks : List ℕ). each ks (λ k. words_of (f k))) (up_to-range n))
 
--- ---- what is ahead
-
--- passing `rest` from here gives what passing `all` from the start gives
-pub record Ahead (values : Bytes) (all rest : List ℤ) (w₀ : Walk) (out₀ : List ℤ) (w : Walk) (out : List ℤ) : Type 0 where
-  pub walk : walked values all w₀ ≡ walked values rest w
-  pub output : stored w₀.words all out₀ ≡ stored w.words rest out
-  pub size : length out ≡ length out₀
-
-pub ahead-start : (values : Bytes) (all : List ℤ) (w : Walk) (out : List ℤ) → Ahead values all all w out w out
-ahead-start values all w out = record { walk = refl; output = refl; size = refl }
-
--- words that are the same
-pub ahead-same : {values : Bytes} {all rest rest' : List ℤ} {w₀ w : Walk} {out₀ out : List ℤ} → rest ≡ rest'
-    → Ahead values all rest w₀ out₀ w out → Ahead values all rest' w₀ out₀ w out
-ahead-same {values} {all} {w₀ = w₀} {w} {out₀} {out} e h = subst (λ (ls : List ℤ). Ahead values all ls w₀ out₀ w out) e h
-
--- a part was passed
-pub ahead-pass : {values : Bytes} {all part rest : List ℤ} {w₀ w w' : Walk} {out₀ out out' : List ℤ}
-    → Ahead values all (part ++ rest) w₀ out₀ w out → Walks values part w out w' out' → Ahead values all rest w₀ out₀ w' out'
-ahead-pass {values} {all} {part} {rest} {w₀} {w} {w'} {out₀} {out} {out'} h k = record {
-  walk = h.walk ∙ walked-append values part rest w ∙ ap (walked values rest) (sym k.walk);
-  output =
-      h.output
-      ∙ stored-append values part rest w out
-      ∙ ap₂ (λ (n : ℕ) (o : List ℤ). stored n rest o) (ap (λ (x : Walk). x.words) (sym k.walk)) (sym k.output);
-  size = ap length k.output ∙ length-stored w.words part out ∙ h.size;
-}
-
--- nothing is left
-pub ahead-done : {values : Bytes} {all : List ℤ} {w₀ w : Walk} {out₀ out : List ℤ}
-    → Ahead values all [] w₀ out₀ w out → Walks values all w₀ out₀ w out
-unfolding walked stored
-ahead-done h = record { walk = sym h.walk; output = sym h.output }
-
 -- ---- loops over a range
 
-module _ {values : Bytes} {all : List ℤ} {w₀ w : Walk} {out₀ out : List ℤ} (f : ℕ → List ℤ) (i z : ℕ) where
+-- before the first turn
+pub turn-none : (f : ℕ → List ℤ) (a : ℕ) {w : Walk} → Passes (each (range a a) f) w w
+unfolding each
+turn-none f a = passes-nothing (ap (λ (ks : List ℕ). each ks f) (range-end a a (omega arith)))
+
+module _ (f : ℕ → List ℤ) {w w' : Walk} where
   -- a turn
-  pub turn : Ahead values all (each (range i z) f) w₀ out₀ w out → i < z → {w' : Walk} {out' : List ℤ}
-      → Walks values (f i) w out w' out' → Ahead values all (each (range (i + 1) z) f) w₀ out₀ w' out'
+  pub turn : (a k : ℕ) → a ≤ k → {w'' : Walk} → Passes (each (range a k) f) w w' → Passes (f k) w' w''
+      → Passes (each (range a (k + 1)) f) w w''
   unfolding each
-  turn h l k = ahead-pass (ahead-same (ap (λ (xs : List ℕ). each xs f) (range-next i z l)) h) k
+  turn a k l h j = passes_same (sym longer) (passes-behind h j)
+    where
+      longer : each (range a (k + 1)) f ≡ each (range a k) f ++ f k
+      longer =
+          ap (λ (ks : List ℕ). each ks f) (range-last a k l)
+          ∙ each_append (range a k) (one k) f
+          ∙ ap (λ (ls : List ℤ). each (range a k) f ++ ls) (append-nil (f k))
 
   -- after the last
-  pub turned : Ahead values all (each (range i z) f) w₀ out₀ w out → z ≤ i → Walks values all w₀ out₀ w out
-  unfolding each
-  turned h l = ahead-done (ahead-same (ap (λ (xs : List ℕ). each xs f) (range-end i z l)) h)
+  pub turned : (a k z : ℕ) → k ≡ z → Passes (each (range a k) f) w w' → Passes (each (range a z) f) w w'
+  turned a k z e h = passes_same (ap (λ (n : ℕ). each (range a n) f) e) h
+
+-- ---- what is ahead
+
+-- passing `rest` from here is passing `all` from the start
+pub record Ahead (all rest : List ℤ) (w₀ w : Walk) : Type 0 where
+  pub goes_on : {w' : Walk} → Passes rest w w' → Passes all w₀ w'
+
+module _ {all rest : List ℤ} {w₀ w : Walk} where
+  -- words that are the same
+  pub ahead-same : {rest' : List ℤ} → rest ≡ rest' → Ahead all rest w₀ w → Ahead all rest' w₀ w
+  ahead-same e h = record { goes_on = λ k. h.goes_on (passes_same (sym e) k) }
+
+  -- a part was passed
+  pub ahead-pass : {part : List ℤ} {w' : Walk} → Ahead all (part ++ rest) w₀ w → Passes part w w' → Ahead all rest w₀ w'
+  ahead-pass h k = record { goes_on = λ j. h.goes_on (passes-behind k j) }
+
+pub ahead-start : (all : List ℤ) (w : Walk) → Ahead all all w w
+ahead-start all w = record { goes_on = λ k. k }
+
+-- nothing is left
+pub ahead-done : {all : List ℤ} {w₀ w : Walk} → Ahead all [] w₀ w → Passes all w₀ w
+ahead-done h = h.goes_on (passes-nothing refl)

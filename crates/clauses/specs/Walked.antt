@@ -1,10 +1,14 @@
 -- A walk over clauses, word by word, a clause closed by 0: the words are counted, stored where the output has room, and judged
 -- by the values of the variables. Measuring, writing and judging are the same walk. Assumes nothing.
-use Rattle.std.specs.Prelude.{◌≡◌, Bool, not, ◌&&◌, ◌||◌, cond, ℕ, zero, suc, ◌+◌, ◌*◌, min, List, [], ◌∷◌, length, set, ℤ, pos, negsuc, eqb}
-use Rattle.spec.specs.Lists.{Bytes, or_zero}
+use Rattle.std.specs.Prelude.{◌≡◌, Bool, false, ◌||◌, cond, ℕ, zero, suc, ◌+◌, ◌*◌, min, List, [], ◌∷◌, length, set, ℤ, pos, negsuc, Option, Some, None, T, leb}
+use Rattle.std.specs.Option.{option_or}
+use Rattle.std.proofs.Math.Option as maybe
+use Rattle.std.specs.Borrow.{MutBor}
+use Rattle.spec.specs.Lists.{Bytes, all}
 use Rattle.spec.specs.Formula.{Clause, words_of}
-use Rattle.spec.specs.Plan.{bit}
-use Rattle.spec.specs.Assignment.{is_true, assigned, first_false}
+use Rattle.spec.specs.Assignment.{is_true, holds, assigned, first_false}
+use Rattle.spec.specs.Refutation.{variable_of}
+use Rattle.clauses.specs.declared.Tally.{Tally}
 use Rattle.clauses.specs.declared.Walk.{Walk}
 
 -- variables are numbered below this, so that each literal is an i32
@@ -23,38 +27,34 @@ unfoldable pub more : ℕ → ℕ → ℕ
 more n k = min most (n + k)
 
 -- before the first clause
-unfoldable pub start : Walk
-start = record { words = 0; clauses = 0; holds = 0; wrong = 0 }
-
--- whether the clause that a walk is in holds so far
-abbrev pub holding : Walk → Bool
-holding w = eqb w.holds 1
+unfoldable pub start : Tally
+start = record { words = 0; clauses = 0; holds = false; wrong = None }
 
 -- after a literal: whether the clause holds so far
-unfoldable pub literal : Bytes → ℤ → Walk → Walk
+unfoldable pub literal : Bytes → ℤ → Tally → Tally
 literal values l w = record
-    { words = more w.words 1; clauses = w.clauses; holds = bit (holding w || is_true (assigned values) l); wrong = w.wrong }
+    { words = more w.words 1; clauses = w.clauses; holds = w.holds || is_true (assigned values) l; wrong = w.wrong }
 
 -- after n words, of which the last closes a clause, which holds or not: the first clause that does not hold is kept
-unfoldable pub closed_by : ℕ → Bool → Walk → Walk
-closed_by n holds w = record {
+unfoldable pub closed_by : ℕ → Bool → Tally → Tally
+closed_by n h w = record {
   words = more w.words n;
   clauses = more w.clauses 1;
-  holds = 0;
-  wrong = cond (eqb w.wrong 0 && not holds) (more w.clauses 1) w.wrong;
+  holds = false;
+  wrong = cond h w.wrong (option_or w.wrong (Some (more w.clauses 1)));
 }
 
 -- after a clause's closing 0
-unfoldable pub closed : Walk → Walk
-closed w = closed_by 1 (holding w) w
+unfoldable pub closed : Tally → Tally
+closed w = closed_by 1 w.holds w
 
-unfoldable pub word : Bytes → ℤ → Walk → Walk
+unfoldable pub word : Bytes → ℤ → Tally → Tally
 word values (pos zero) w = closed w
 word values (pos (suc v)) w = literal values (pos (suc v)) w
 word values (negsuc v) w = literal values (negsuc v) w
 
 -- the walk after words
-unfoldable pub walked : Bytes → List ℤ → Walk → Walk
+unfoldable pub walked : Bytes → List ℤ → Tally → Tally
 walked values [] w = w
 walked values (l ∷ ls) w = walked values ls (word values l w)
 
@@ -64,23 +64,46 @@ stored at [] out = out
 stored at (l ∷ ls) out = stored (more at 1) ls (set out at l)
 
 -- the walk after k clauses of two literals that hold
-unfoldable pub skipped : ℕ → Walk → Walk
+unfoldable pub skipped : ℕ → Tally → Tally
 skipped zero w = w
 skipped (suc k) w = record
-    { words = more w.words (3 * suc k); clauses = more w.clauses (suc k); holds = 0; wrong = w.wrong }
+    { words = more w.words (3 * suc k); clauses = more w.clauses (suc k); holds = false; wrong = w.wrong }
 
--- What a function over clauses promises: the walk after their words, and the output.
-pub record Walks (values : Bytes) (ls : List ℤ) (w : Walk) (out : List ℤ) (w' : Walk) (out' : List ℤ) : Type 0 where
+-- What the words of a walk come to: its tally, and the output.
+pub record Walks (values : Bytes) (ls : List ℤ) (w : Tally) (out : List ℤ) (w' : Tally) (out' : List ℤ) : Type 0 where
   pub walk : w' ≡ walked values ls w
   pub output : out' ≡ stored w.words ls out
 
+-- a walk that begins, by these values and into this output
+pub record Begins (values : Bytes) (out : MutBor (List ℤ)) (w : Walk) : Type 0 where
+  pub same_output : w.out.ghost_name ≡ out.ghost_name
+  pub same_values : w.values.now ≡ values
+  pub output : w.out.now ≡ out.now
+  pub tally : w.tally ≡ start
+
+-- What a function over clauses promises: the walk has passed these words, and is still by its values and into its output.
+pub record Passes (ls : List ℤ) (w w' : Walk) : Type 0 where
+  pub same_output : w'.out.ghost_name ≡ w.out.ghost_name
+  pub same_values : w'.values.now ≡ w.values.now
+  pub walks : Walks w.values.now ls w.tally w.out.now w'.tally w'.out.now
+
+-- literals, none of them the 0 behind a clause, and whether one of them is true
+pub record Judged (values : Bytes) (ls : Clause) (h : Bool) : Type 0 where
+  pub proper : T (all (λ l. leb 1 (variable_of l)) ls)
+  pub judged : h ≡ holds (assigned values) ls
+
 -- ---- a walk over whole clauses
 
+-- the first clause that does not hold, as the code tells it
+unfoldable pub first_told : maybe.Option ℕ → Option ℕ
+first_told maybe.none = None
+first_told (maybe.some n) = Some n
+
 -- the totals of clauses, and the first of them that does not hold
-unfoldable pub totals : Bytes → List Clause → Walk
+unfoldable pub totals : Bytes → List Clause → Tally
 totals values cs = record {
   words = length (words_of cs);
   clauses = length cs;
-  holds = 0;
-  wrong = or_zero (first_false (assigned values) 1 cs);
+  holds = false;
+  wrong = first_told (first_false (assigned values) 1 cs);
 }

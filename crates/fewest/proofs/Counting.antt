@@ -1,44 +1,21 @@
 -- The first half of the combined verdict by its parts, and what an accepted assignment's bytes are. Assumes nothing.
 use borrow.Author.Tests.{eq-eqb, ne_eqb}
-use mathlib.Core.Path.{◌≡◌, refl, sym, ap, ◌∙◌}
+use mathlib.Core.Path.{◌≡◌, refl, sym}
 use mathlib.Core.Logic.{◌≢◌}
-use mathlib.Core.Bool.{true, false}
 use Prim.Native.Nat.{ℕ, ◌≤◌}
 use native.Mathlib.Omega.{arith}
 use lib.ListN.{length}
-use lib.Dec.{eqb, leb}
+use lib.Dec.{eqb}
 use Rattle.laws.proofs.Tests.{and-iff, eqb-iff}
-use Rattle.spec.specs.Lists.{Bytes, Verdict, accepted, refused, and_then}
+use Rattle.spec.specs.Lists.{Bytes, accepted, refused, and_then}
 use Rattle.spec.specs.Instance.{Instance}
 use Rattle.spec.specs.Plan.{borders_of}
 use Rattle.spec.specs.Cap.{set_count}
 use Rattle.spec.specs.Formula.{border_var, first_var, own_variables, variables}
 use Rattle.spec.specs.Assignment.{assigned, assignment_fits, decoded}
-use Rattle.spec.specs.Refutation.{Lent}
 use Rattle.spec.specs.Entry.{demand, judge_assignment}
 use Rattle.demands.proofs.Entries.{assignment-iff}
-use Rattle.reader.specs.declared.reading.Answer.{Answer}
-use Rattle.reader.specs.declared.reading.Answer.TheVariants.{Accepted, Refused}
-use Rattle.reader.specs.BookAnswers.{answer_of}
-use Rattle.refutation_steps.specs.declared.one_step.Extent.{Extent}
-use Rattle.fewest.specs.Counted.{counted_for, room_for}
-
--- ---- what an answer says of a verdict
-
-accepted≢ : {n d : ℕ} {X : Type 0} → Accepted ≡ Refused n d → X
-accepted≢ p = let z : ◌≡◌ {A = ℕ} 0 1 = cc in let no' : ⊥ = omega arith in absurd no'
-
-pub is-refused : (v : Verdict (Unit {0})) {a : Answer} {n d : ℕ} → a ≡ answer_of v → a ≡ Refused n d → v ≡ refused n d
-is-refused (accepted u) e h = accepted≢ (sym e ∙ h)
-is-refused (refused m c) {n = n} {d} e h =
-    let f : Refused m c ≡ Refused n d = sym e ∙ h in
-    let k : m ≡ n = cc in
-    let l : c ≡ d = cc in
-    ap (λ (i : ℕ). refused i c) k ∙ ap (refused n) l
-
-pub is-accepted : (v : Verdict (Unit {0})) {a : Answer} → a ≡ answer_of v → a ≡ Accepted → v ≡ accepted tt
-is-accepted (accepted u) e h = refl
-is-accepted (refused m c) e h = accepted≢ (sym h ∙ e)
+use Rattle.fewest.specs.Counted.{counted_for}
 
 module _ (I : Instance) (s : Bytes) where
   -- an accepted assignment has a byte a node at least
@@ -67,22 +44,3 @@ module _ (I : Instance) (s : Bytes) where
     pub right-count : c ≡ n → counted_for I n s ≡ accepted tt
     unfolding counted_for and_then demand
     right-count h = rw (e, and_then, sym same_count, sym f, eq-eqb _ _ h, demand) refl
-
--- ---- room
-
-module _ (f : Extent) (v : ℕ) (l : Lent) where
-  pub short-words : leb f.words l.words ≡ false → false ≡ room_for f v l
-  unfolding room_for
-  short-words h = rw h refl
-
-  pub short-clauses : leb f.words l.words ≡ true → leb f.clauses l.clauses ≡ false → false ≡ room_for f v l
-  unfolding room_for
-  short-clauses h k = rw (h, k) refl
-
-  pub short-values : leb f.words l.words ≡ true → leb f.clauses l.clauses ≡ true → leb v l.values ≡ false → false ≡ room_for f v l
-  unfolding room_for
-  short-values h k m = rw (h, k, m) refl
-
-  pub by-trail : leb f.words l.words ≡ true → leb f.clauses l.clauses ≡ true → leb v l.values ≡ true → leb v l.trail ≡ room_for f v l
-  unfolding room_for
-  by-trail h k m = rw (h, k, m) refl

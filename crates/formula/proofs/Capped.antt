@@ -2,6 +2,7 @@
 use mathlib.Core.Path.{◌≡◌, refl, sym, ap, ◌∙◌, subst}
 use mathlib.Core.Bool.{◌&&◌}
 use mathlib.Core.Option.{Option}
+use Rattle.std.specs.Prelude.{Option as Maybe}
 use Prim.Native.Nat.{ℕ, ◌+◌, ◌*◌, ◌-◌, ◌≤◌, ◌<◌}
 use native.Mathlib.Nat.{zero-add}
 use native.Mathlib.Omega.{arith}
@@ -10,7 +11,6 @@ use lib.ListN.{length, get_or}
 use lib.Seq.{sets, length-sets}
 use lib.Dec.{ltb}
 use Rattle.model.specs.declared.Book.{Book as BookStruct}
-use Rattle.model.specs.declared.Cap.{Cap}
 use Rattle.laws.proofs.Picks.{pick-most}
 use Rattle.laws.proofs.Parts.{each_same, length-up_to}
 use Rattle.laws.proofs.Stores.{get_or-sets-in}
@@ -121,7 +121,7 @@ module _ (c : Counter) (first : ℕ) where
           ∷ only (ltb j m.most && ltb 0 k) (one (not' (first + (j * m.spare + (k - 1))) ∷ one (is (first + (j * m.spare + k)))))
 
 -- of a cap in a book that passed; the slice was filled with the nodes of kind 1 from its start on
-module _ (b : BookStruct) (p : Passed b) (k : Cap) (c : Counter) (h : CounterOf b k c) (old nodes : List ℕ) (long : length old ≡ 96)
+module _ (b : BookStruct) (p : Passed b) (k : Maybe ℕ) (c : Counter) (h : CounterOf b k c) (old nodes : List ℕ) (long : length old ≡ 96)
     (filled : nodes ≡ sets old 0 (free_nodes_of (instance_of (held b)))) where
   abbrev I : Instance
   I = instance_of (held b)

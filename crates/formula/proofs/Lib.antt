@@ -4,7 +4,6 @@ pub mod Chain
 pub mod Shapes
 pub mod Capped
 pub mod Size
-pub mod Trains
+pub mod Calls
 pub mod Totals
-pub mod Groups
 pub mod Judged

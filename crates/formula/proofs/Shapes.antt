@@ -10,8 +10,7 @@ use Rattle.spec.specs.Instance.{Instance}
 use Rattle.spec.specs.Formula.{Clause, not', width, base, claim_var, clauses_b, clauses_i, clauses_d, clauses_e, clauses_g, clauses_h, family_b, family_c, family_d, family_e, family_f, family_g, family_h, family_i}
 use Rattle.laws.proofs.Parts.{each-mem-same, each_same, map_same}
 use Rattle.clauses.proofs.Turns.{up_to-range, range-next, range-end}
-use Rattle.formula.specs.declared.walk.Family.TheVariants.{B, C, D, E, G, H}
-use Rattle.formula.specs.Families.{train_clauses, family_clauses, call_runs, call_clauses, pairs_behind}
+use Rattle.formula.specs.Families.{B, C, D, E, G, H, train_clauses, family_clauses, call_runs, call_clauses, pairs_behind}
 
 module _ (I : Instance) where
   -- the next interval's first variable

@@ -16,9 +16,7 @@ use Rattle.laws.proofs.Tests.{up_to-mem}
 use Rattle.laws.proofs.Parts.{length-count, length-up_to}
 use Rattle.clauses.specs.Walked.{most}
 use Rattle.demands.proofs.Words.{words_append}
-use Rattle.formula.specs.declared.walk.Family.{Family}
-use Rattle.formula.specs.declared.walk.Family.TheVariants.{B, C, D, E, G, H}
-use Rattle.formula.specs.Families.{from_by, to_by, block_clauses, train_clauses, family_clauses, call_runs, call_clauses, pairs_behind}
+use Rattle.formula.specs.Families.{Family, B, C, D, E, G, H, from_by, to_by, block_clauses, train_clauses, family_clauses, call_runs, call_clauses, pairs_behind}
 use Rattle.tables.proofs.Small.{Few}
 use Rattle.formula.proofs.Capped.{counter-few}
 use Rattle.formula.proofs.Shapes.{shape-b, shape-c, shape-d, shape-e, shape-f, shape-g, shape-h, shape-i}

@@ -15,7 +15,7 @@ use Rattle.spec.specs.Formula.{formula, words_of, variables}
 use Rattle.spec.specs.Held.{held}
 use Rattle.demands.proofs.Words.{formula-in-range, range-proper, proper}
 use Rattle.demands.proofs.Wellformed.{sound, sound-under}
-use Rattle.clauses.specs.declared.Walk.{Walk}
+use Rattle.clauses.specs.declared.Tally.{Tally}
 use Rattle.clauses.specs.Walked.{start, totals, Walks, most}
 use Rattle.clauses.proofs.Laws.{walks-length}
 use Rattle.clauses.proofs.Totals.{totals-walked}
@@ -25,12 +25,12 @@ use Rattle.formula.proofs.Capped.{few-under}
 use Rattle.formula.proofs.Size.{formula-small}
 
 -- an output without room leaves nothing behind
-pub nothing-ahead : {values : Bytes} {ls out out' : List ℤ} {w w' : Walk} → Walks values ls w out w' out' → length out ≡ 0
+pub nothing-ahead : {values : Bytes} {ls out out' : List ℤ} {w w' : Tally} → Walks values ls w out w' out' → length out ≡ 0
     → (xs : List ℤ) → out' ++ xs ≡ xs
 nothing-ahead {out' = out'} h e xs = ap (λ (o : List ℤ). o ++ xs) (nil-of-length out' (walks-length h ∙ e))
 
 -- the same output, by another name
-pub walks_from : {values : Bytes} {ls out out₂ out' : List ℤ} {w w' : Walk} → out ≡ out₂ → Walks values ls w out w' out'
+pub walks_from : {values : Bytes} {ls out out₂ out' : List ℤ} {w w' : Tally} → out ≡ out₂ → Walks values ls w out w' out'
     → Walks values ls w out₂ w' out'
 walks_from {values} {ls} {out' = out'} {w} {w'} e h = subst (λ (o : List ℤ). Walks values ls w o w' out') e h
 
@@ -48,13 +48,13 @@ module _ (b : BookStruct) (p : Passed b) (cap : Option ℕ) where
   is-small = formula-small I (few-under cap (instance_of (held b)) (passed-few b p))
 
   -- the walk's totals
-  pub walk-totals : {values : Bytes} {out out' : List ℤ} {w : Walk} → Walks values words start out w out' → w ≡ totals values (formula I)
+  pub walk-totals : {values : Bytes} {out out' : List ℤ} {w : Tally} → Walks values words start out w out' → w ≡ totals values (formula I)
   walk-totals {values} h = h.walk ∙ totals-walked values (formula I) is-proper is-small
 
-  pub walk-words : {values : Bytes} {out out' : List ℤ} {w : Walk} → Walks values words start out w out' → w.words ≡ length words
+  pub walk-words : {values : Bytes} {out out' : List ℤ} {w : Tally} → Walks values words start out w out' → w.words ≡ length words
   unfolding totals
-  walk-words h = ap (λ (w : Walk). w.words) (walk-totals h)
+  walk-words h = ap (λ (w : Tally). w.words) (walk-totals h)
 
-  pub walk-clauses : {values : Bytes} {out out' : List ℤ} {w : Walk} → Walks values words start out w out' → w.clauses ≡ length (formula I)
+  pub walk-clauses : {values : Bytes} {out out' : List ℤ} {w : Tally} → Walks values words start out w out' → w.clauses ≡ length (formula I)
   unfolding totals
-  walk-clauses h = ap (λ (w : Walk). w.clauses) (walk-totals h)
+  walk-clauses h = ap (λ (w : Tally). w.clauses) (walk-totals h)

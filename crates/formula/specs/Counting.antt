@@ -5,14 +5,6 @@ use Rattle.spec.specs.Lists.{up_to, each, only, one}
 use Rattle.spec.specs.Read.{max_nodes}
 use Rattle.spec.specs.Formula.{Clause, is, not'}
 use Rattle.layout.specs.declared.counter.Counter.{Counter}
-use Rattle.layout.specs.Blocks.{first_most}
-
--- what j and k of a counter have to be; `first` is its first variable
-pub record InCounter (c : Counter) (first j k : ℕ) : Type 0 where
-  pub start : first ≤ first_most
-  pub few : c.most + c.spare ≤ max_nodes
-  pub row : j ≤ c.most
-  pub place : k < c.spare
 
 module _ (c : Counter) (first : ℕ) where
   -- the variable of j and k

@@ -5,8 +5,15 @@ use Rattle.std.specs.Prelude.{not, ℕ, ◌+◌, ◌-◌, List, ℤ}
 use Rattle.spec.specs.Lists.{up_to, range, each, only, one}
 use Rattle.spec.specs.Instance.{Instance, in_window, served_at_departure}
 use Rattle.spec.specs.Formula.{Clause, width, base, claim_var, clauses_b, clauses_c, clauses_d, clauses_e, servers_f, clauses_g, clauses_h, clauses_i}
-use Rattle.formula.specs.declared.walk.Family.{Family}
-use Rattle.formula.specs.declared.walk.Family.TheVariants.{B, C, D, E, G, H}
+
+-- the families that go by train and interval
+pub data Family : Type 0 where
+  B : Family
+  C : Family
+  D : Family
+  E : Family
+  G : Family
+  H : Family
 
 -- the first interval, and the one behind the last, of a train that departs in d, of T intervals
 abbrev pub from_by : Family → ℕ → ℕ

@@ -1,4 +1,3 @@
 pub mod Chained
 pub mod Counting
 pub mod Families
-pub mod Ready

@@ -1,3 +1,3 @@
 pub mod Places
 pub mod Order
-pub mod Drops
+pub mod Bridges

@@ -9,10 +9,13 @@ use native.Mathlib.Decide.{ℕ_discrete}
 use mathlib.Core.List.{List, [], ◌∷◌}
 use lib.ListN.{length}
 use lib.Dec.{T, ltb, eqb}
-use Rattle.laws.proofs.Tests.{false_of, true_of, denied-of, eqb-iff, and-iff, not_iff}
+use Rattle.laws.proofs.Tests.{decide, false_of, true_of, denied-of, eqb-iff, and-iff, not_iff}
 use Rattle.spec.specs.Lists.{all}
 use Rattle.spec.specs.Frames.{Kind, head_kind, node_kind, segment_kind, join_kind, train_kind, call_kind, unbreakable_kind, end_kind, rank, rank_in, kind_order, kind_number, find_kind}
 use Rattle.spec.specs.Read.{is_head, is_end}
+use Rattle.std.specs.Prelude.{Some, None}
+use Rattle.std.specs.Prelude.{Option as CodeOption}
+use Rattle.frames.specs.declared.Kind.{Kind as KindCase}
 use Rattle.frames.specs.Framed.{kind_said, kind_in, place_of, out_of_order_by}
 
 -- two numbers that differ, or not, as a test
@@ -49,8 +52,12 @@ found-other n a b c d e f g h =
     found_none n kind_order (simp (and-iff, not_iff, eqb-iff) (a, (b, (c, (d, (e, (f, (g, (h, tt)))))))))
 
 -- the rank of a number is the place of the kind that it says
+abbrev pub place_said : CodeOption KindCase → ℕ
+place_said (Some k) = place_of k
+place_said None = 9
+
 abbrev PlacedBy : ℕ → Type 0
-PlacedBy n = rank n ≡ place_of (kind_said (find_kind n kind_order))
+PlacedBy n = rank n ≡ place_said (kind_said (find_kind n kind_order))
 
 -- one number after the other
 here-or : (n k : ℕ) → PlacedBy k → (n ≢ k → PlacedBy n) → PlacedBy n
@@ -61,19 +68,41 @@ unfolding rank rank_in kind_order kind_number find_kind
 rank-placed n =
     here-or n 1 refl λ a. here-or n 2 refl λ b. here-or n 3 refl λ c. here-or n 4 refl λ d.
     here-or n 5 refl λ e. here-or n 6 refl λ f. here-or n 7 refl λ g. here-or n 8 refl λ h.
-    rank-other n a b c d e f g h ∙ sym (ap (λ o. place_of (kind_said o)) (found-other n a b c d e f g h))
+    rank-other n a b c d e f g h ∙ sym (ap (λ o. place_said (kind_said o)) (found-other n a b c d e f g h))
 
 -- a kind's case stands for the kind
-pub in-said : (o : Option Kind) → kind_in (kind_said o) ≡ o
-in-said (some head_kind) = refl
-in-said (some node_kind) = refl
-in-said (some segment_kind) = refl
-in-said (some join_kind) = refl
-in-said (some train_kind) = refl
-in-said (some call_kind) = refl
-in-said (some unbreakable_kind) = refl
-in-said (some end_kind) = refl
-in-said none = refl
+abbrev kind_back : CodeOption KindCase → Option Kind
+kind_back (Some k) = some (kind_in k)
+kind_back None = none
+
+said-back : (o : Option Kind) → kind_back (kind_said o) ≡ o
+said-back (some head_kind) = refl
+said-back (some node_kind) = refl
+said-back (some segment_kind) = refl
+said-back (some join_kind) = refl
+said-back (some train_kind) = refl
+said-back (some call_kind) = refl
+said-back (some unbreakable_kind) = refl
+said-back (some end_kind) = refl
+said-back none = refl
+
+pub in-said : (o : Option Kind) {k : KindCase} → Some k ≡ kind_said o → o ≡ some (kind_in k)
+in-said o e = sym (ap kind_back e ∙ said-back o)
+
+-- and its number finds it, and no other does
+number-found : (n : ℕ) (ks : List Kind) {k : Kind} → find_kind n ks ≡ some k → n ≡ kind_number k
+unfolding find_kind
+number-found n [] e = cc
+number-found n (j ∷ js) {k} e = decide (eqb n (kind_number j))
+    (λ t. let q : some j ≡ some k = rw (true_of (eqb n (kind_number j)) t, find_kind) at e in (eqb-iff n (kind_number j)).0 t ∙ (cc))
+    (λ f. number-found n js (rw (denied-of (eqb n (kind_number j)) f, find_kind) at e))
+
+module _ (n : ℕ) {k : KindCase} (said : Some k ≡ kind_said (find_kind n kind_order)) where
+  pub said-number : n ≡ kind_number (kind_in k)
+  said-number = number-found n kind_order (in-said (find_kind n kind_order) said)
+
+  pub said-other : {m : ℕ} {j : KindCase} → kind_said (find_kind m kind_order) ≡ Some j → k ≢ j → n ≢ m
+  said-other f h e = h (cc)
 
 -- the Head stands first, and nowhere else
 abbrev pub HeadFirst : ℕ → ℕ → Type 0

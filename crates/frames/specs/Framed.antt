@@ -1,5 +1,7 @@
 -- The frame at the start of some bytes, as the code answers it. Assumes nothing.
 use Rattle.std.specs.Prelude.{Bool, true, false, not, ◌&&◌, ◌||◌, ℕ, ltb, eqb}
+use Rattle.std.specs.Prelude.{Some, None}
+use Rattle.std.specs.Prelude.{Option as CodeOption}
 use Rattle.std.proofs.Math.Option.{Option, none, some}
 use Rattle.spec.specs.Lists.{Bytes}
 use Rattle.spec.specs.Frames.{Kind, head_kind, node_kind, segment_kind, join_kind, train_kind, call_kind, unbreakable_kind, end_kind}
@@ -8,52 +10,50 @@ use Rattle.spec.specs.Read.{is_head, is_end}
 use Rattle.frames.specs.declared.Format.{Format as FormatCase}
 use Rattle.frames.specs.declared.Format.TheVariants.{Now, Old}
 use Rattle.frames.specs.declared.Kind.{Kind as KindCase}
-use Rattle.frames.specs.declared.Kind.TheVariants.{Head, Node, Segment, Join, Train, Call, Unbreakable, End, Unknown}
-use Rattle.frames.specs.declared.Framed.{Framed}
-use Rattle.frames.specs.declared.Framed.TheVariants.{Whole, Cut}
+use Rattle.frames.specs.declared.Kind.TheVariants.{Head, Node, Segment, Join, Train, Call, Unbreakable, End}
+use Rattle.frames.specs.declared.Frame.{Frame}
 
 -- the format that a case stands for
 abbrev pub format_of : FormatCase → Format
 format_of Now = book_format
 format_of Old = old_format
 
-abbrev pub whole_or : Bool → Framed → Framed
-whole_or true f = Cut
-whole_or false f = f
+abbrev pub whole_or : Bool → Frame → CodeOption Frame
+whole_or true f = None
+whole_or false f = Some f
 
-unfoldable pub framed_at : Bytes → Framed
-framed_at s = whole_or (cut_short s) (Whole (kind_field s) (payload_length s))
+unfoldable pub framed_at : Bytes → CodeOption Frame
+framed_at s = whole_or (cut_short s) (record { kind = kind_field s; len = payload_length s })
 
 -- document 01's number for each case, in a file whose table of refusals calls a cut frame n: 1 in a book, 17 in a refutation
-abbrev pub framed_refusal : ℕ → Framed → Option ℕ
-framed_refusal n Cut = some n
-framed_refusal n (Whole kind len) = none
+abbrev pub framed_refusal : ℕ → CodeOption Frame → Option ℕ
+framed_refusal n None = some n
+framed_refusal n (Some f) = none
 
 -- the code's case for a kind, or for a number that is no kind's
-abbrev pub kind_said : Option Kind → KindCase
-kind_said (some head_kind) = Head
-kind_said (some node_kind) = Node
-kind_said (some segment_kind) = Segment
-kind_said (some join_kind) = Join
-kind_said (some train_kind) = Train
-kind_said (some call_kind) = Call
-kind_said (some unbreakable_kind) = Unbreakable
-kind_said (some end_kind) = End
-kind_said none = Unknown
+abbrev pub kind_said : Option Kind → CodeOption KindCase
+kind_said (some head_kind) = Some Head
+kind_said (some node_kind) = Some Node
+kind_said (some segment_kind) = Some Segment
+kind_said (some join_kind) = Some Join
+kind_said (some train_kind) = Some Train
+kind_said (some call_kind) = Some Call
+kind_said (some unbreakable_kind) = Some Unbreakable
+kind_said (some end_kind) = Some End
+kind_said none = None
 
 -- the kind that a case stands for
-abbrev pub kind_in : KindCase → Option Kind
-kind_in Head = some head_kind
-kind_in Node = some node_kind
-kind_in Segment = some segment_kind
-kind_in Join = some join_kind
-kind_in Train = some train_kind
-kind_in Call = some call_kind
-kind_in Unbreakable = some unbreakable_kind
-kind_in End = some end_kind
-kind_in Unknown = none
+abbrev pub kind_in : KindCase → Kind
+kind_in Head = head_kind
+kind_in Node = node_kind
+kind_in Segment = segment_kind
+kind_in Join = join_kind
+kind_in Train = train_kind
+kind_in Call = call_kind
+kind_in Unbreakable = unbreakable_kind
+kind_in End = end_kind
 
--- its place in the order of kinds, from 1; a number that is no kind's stands behind them all
+-- its place in the order of kinds, from 1
 abbrev pub place_of : KindCase → ℕ
 place_of Head = 1
 place_of Node = 2
@@ -63,7 +63,6 @@ place_of Train = 5
 place_of Call = 6
 place_of Unbreakable = 7
 place_of End = 8
-place_of Unknown = 9
 
 -- 3, by the frame's kind and how many bytes stand behind it
 unfoldable pub out_of_order_by : ℕ → ℕ → ℕ → Bool

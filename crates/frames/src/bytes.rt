@@ -17,14 +17,7 @@ pub fn all_below(p: &[u8], from: usize, limit: usize) -> bool
     requires { from ≤ length p.now }
     ensures { result ≡ lists.all (λ d. ltb d limit) (drop from p.now) }
 {
-    let mut i = from;
-    while i < p.len() {
-        if limit <= wide(p[i]) {
-            return false;
-        }
-        i += 1;
-    }
-    true
+    p[from..].iter().all(|x| usize::from(*x) < limit)
 }
 
 // The bytes from `from` on, at most eight, in an array.
@@ -33,15 +26,11 @@ pub fn place_of(p: &[u8], from: usize) -> [u8; 8]
     ensures { result ≡ padded 8 0 (drop from p.now) }
 {
     let mut place = [0u8; 8];
-    let mut i = from;
-    while i < p.len() {
-        place[i - from] = p[i];
-        i += 1;
-    }
+    place[..p.len() - from].copy_from_slice(&p[from..]);
     place
 }
 
-// Stores a byte where the buffer has room.
+// Stores a byte where the buffer has room. By `get_mut` a proof would know only the buffer's length behind it.
 pub fn put(buf: &mut [u8], at: usize, x: u8)
     ensures { buf.new ≡ set buf.old at x }
 {
@@ -55,12 +44,10 @@ pub fn put_bytes(buf: &mut [u8], at: usize, s: &[u8]) -> usize
     requires { at + length s.now < 0x1_0000_0000_0000_0000 }
     ensures { (result ≡ at + length s.now) × (buf.new ≡ sets buf.old at s.now) }
 {
-    let mut i = 0;
-    while i < s.len() {
-        put(buf, at + i, s[i]);
-        i += 1;
+    for (i, x) in s.iter().enumerate() {
+        put(buf, at + i, *x);
     }
-    at + i
+    at + s.len()
 }
 
 // Stores a number in two bytes from a place on, the lower one first.

@@ -1,8 +1,8 @@
 // Frames: the number and the payload length of each kind, the numbers in a file, and the frame at a
-// place of a file. Each kind is a type whose associated constants are its number and the length of its
-// payload; its constructor `cursor` gives the stretch of a file that the payload's fixed part takes. The
-// Head, Train and Call of an old book have other lengths, so they are types of their own. A time is the
-// Head's T, a train's departure, a call's first or last. Assumes nothing.
+// place of a file. Each kind is a type with the trait `FrameKind`: its associated constants are its number
+// and the length of its payload, and the constructor `cursor` gives the stretch of a file that the payload's
+// fixed part takes. The Head, Train and Call of an old book have other lengths, so they are types of their
+// own. A time is the Head's T, a train's departure, a call's first or last. Assumes nothing.
 #![tactic(auto)]
 
 pub mod bytes;
@@ -48,87 +48,74 @@ pub struct Cursor {
     pub end: usize,
 }
 
-#[derive(Clone, Copy)]
-pub struct HeadFrame {}
+// A kind of frame: its number, and the length of its payload or of the payload's fixed part, which proofs
+// know by the same name.
+pub trait FrameKind {
+    ghost LEN: { ℕ };
 
-impl HeadFrame {
-    pub const KIND: usize = 1;
+    const KIND: usize;
 
-    // Where T stands.
-    pub const TIMES_AT: usize = 4;
+    const LEN: usize;
 
-    pub const LEN: usize = HeadFrame::TIMES_AT + TIME;
-
-    // The payload's stretch, from its place on.
-    pub fn cursor(at: usize) -> Cursor
-        requires { at + HeadFrame.LEN < 0x1_0000_0000_0000_0000 }
-        ensures { (result.at ≡ at) × (result.end ≡ at + HeadFrame.LEN) }
+    // The stretch of the payload, or of its fixed part, from the payload's place on.
+    fn cursor(at: usize) -> Cursor
+        requires { at + LEN < 0x1_0000_0000_0000_0000 }
+        ensures { (result.at ≡ at) × (result.end ≡ at + LEN) }
     {
         Cursor {
             at,
             end: at + Self::LEN,
         }
     }
+}
+
+#[derive(Clone, Copy)]
+pub struct HeadFrame {}
+
+impl HeadFrame {
+    // Where T stands.
+    pub const TIMES_AT: usize = 4;
+}
+
+impl FrameKind for HeadFrame {
+    ghost LEN = { frames.times_at frames.head_kind + frames.book_format.time_width };
+
+    const KIND: usize = 1;
+
+    const LEN: usize = HeadFrame::TIMES_AT + TIME;
 }
 
 #[derive(Clone, Copy)]
 pub struct NodeFrame {}
 
-impl NodeFrame {
-    pub const KIND: usize = 2;
+impl FrameKind for NodeFrame {
+    ghost LEN = { 1 };
 
-    pub const LEN: usize = 1;
+    const KIND: usize = 2;
 
-    // The payload's stretch, from its place on.
-    pub fn cursor(at: usize) -> Cursor
-        requires { at + NodeFrame.LEN < 0x1_0000_0000_0000_0000 }
-        ensures { (result.at ≡ at) × (result.end ≡ at + NodeFrame.LEN) }
-    {
-        Cursor {
-            at,
-            end: at + Self::LEN,
-        }
-    }
+    const LEN: usize = 1;
 }
 
 #[derive(Clone, Copy)]
 pub struct SegmentFrame {}
 
-impl SegmentFrame {
-    pub const KIND: usize = 3;
+impl FrameKind for SegmentFrame {
+    ghost LEN = { 3 };
 
-    pub const LEN: usize = 3;
+    const KIND: usize = 3;
 
-    // The payload's stretch, from its place on.
-    pub fn cursor(at: usize) -> Cursor
-        requires { at + SegmentFrame.LEN < 0x1_0000_0000_0000_0000 }
-        ensures { (result.at ≡ at) × (result.end ≡ at + SegmentFrame.LEN) }
-    {
-        Cursor {
-            at,
-            end: at + Self::LEN,
-        }
-    }
+    const LEN: usize = 3;
 }
 
 #[derive(Clone, Copy)]
 pub struct JoinFrame {}
 
-impl JoinFrame {
-    pub const KIND: usize = 4;
+impl FrameKind for JoinFrame {
+    ghost LEN = { 3 };
 
-    pub const LEN: usize = 3;
+    const KIND: usize = 4;
 
-    // The payload's stretch, from its place on.
-    pub fn cursor(at: usize) -> Cursor
-        requires { at + JoinFrame.LEN < 0x1_0000_0000_0000_0000 }
-        ensures { (result.at ≡ at) × (result.end ≡ at + JoinFrame.LEN) }
-    {
-        Cursor {
-            at,
-            end: at + Self::LEN,
-        }
-    }
+    const LEN: usize = 3;
 }
 
 // LEN is the fixed part; n directed segments stand behind it.
@@ -136,149 +123,90 @@ impl JoinFrame {
 pub struct TrainFrame {}
 
 impl TrainFrame {
-    pub const KIND: usize = 5;
-
     // Where the departure stands.
     pub const TIMES_AT: usize = 4;
+}
 
-    pub const LEN: usize = TrainFrame::TIMES_AT + TIME + 1;
+impl FrameKind for TrainFrame {
+    ghost LEN = { frames.train_fixed frames.book_format };
 
-    // The stretch of the payload's fixed part, from the payload's place on.
-    pub fn cursor(at: usize) -> Cursor
-        requires { at + TrainFrame.LEN < 0x1_0000_0000_0000_0000 }
-        ensures { (result.at ≡ at) × (result.end ≡ at + TrainFrame.LEN) }
-    {
-        Cursor {
-            at,
-            end: at + Self::LEN,
-        }
-    }
+    const KIND: usize = 5;
+
+    const LEN: usize = TrainFrame::TIMES_AT + TIME + 1;
 }
 
 #[derive(Clone, Copy)]
 pub struct CallFrame {}
 
 impl CallFrame {
-    pub const KIND: usize = 6;
-
     // Where first and last stand.
     pub const TIMES_AT: usize = 2;
+}
 
-    pub const LEN: usize = CallFrame::TIMES_AT + 2 * TIME;
+impl FrameKind for CallFrame {
+    ghost LEN = { frames.times_at frames.call_kind + 2 * frames.book_format.time_width };
 
-    // The payload's stretch, from its place on.
-    pub fn cursor(at: usize) -> Cursor
-        requires { at + CallFrame.LEN < 0x1_0000_0000_0000_0000 }
-        ensures { (result.at ≡ at) × (result.end ≡ at + CallFrame.LEN) }
-    {
-        Cursor {
-            at,
-            end: at + Self::LEN,
-        }
-    }
+    const KIND: usize = 6;
+
+    const LEN: usize = CallFrame::TIMES_AT + 2 * TIME;
 }
 
 #[derive(Clone, Copy)]
 pub struct UnbreakableFrame {}
 
-impl UnbreakableFrame {
-    pub const KIND: usize = 7;
+impl FrameKind for UnbreakableFrame {
+    ghost LEN = { 1 };
 
-    pub const LEN: usize = 1;
+    const KIND: usize = 7;
 
-    // The payload's stretch, from its place on.
-    pub fn cursor(at: usize) -> Cursor
-        requires { at + UnbreakableFrame.LEN < 0x1_0000_0000_0000_0000 }
-        ensures { (result.at ≡ at) × (result.end ≡ at + UnbreakableFrame.LEN) }
-    {
-        Cursor {
-            at,
-            end: at + Self::LEN,
-        }
-    }
+    const LEN: usize = 1;
 }
 
 #[derive(Clone, Copy)]
 pub struct EndFrame {}
 
-impl EndFrame {
-    pub const KIND: usize = 8;
+impl FrameKind for EndFrame {
+    ghost LEN = { 0 };
 
-    pub const LEN: usize = 0;
+    const KIND: usize = 8;
 
-    // The payload's stretch, from its place on.
-    pub fn cursor(at: usize) -> Cursor
-        requires { at + EndFrame.LEN < 0x1_0000_0000_0000_0000 }
-        ensures { (result.at ≡ at) × (result.end ≡ at + EndFrame.LEN) }
-    {
-        Cursor {
-            at,
-            end: at + Self::LEN,
-        }
-    }
+    const LEN: usize = 0;
 }
 
 // The Head of an old book.
 #[derive(Clone, Copy)]
 pub struct OldHeadFrame {}
 
-impl OldHeadFrame {
-    pub const KIND: usize = HeadFrame::KIND;
+impl FrameKind for OldHeadFrame {
+    ghost LEN = { frames.times_at frames.head_kind + frames.old_format.time_width };
 
-    pub const LEN: usize = HeadFrame::TIMES_AT + OLD_TIME;
+    const KIND: usize = HeadFrame::KIND;
 
-    // The stretch of the payload, from the payload's place on.
-    pub fn cursor(at: usize) -> Cursor
-        requires { at + OldHeadFrame.LEN < 0x1_0000_0000_0000_0000 }
-        ensures { (result.at ≡ at) × (result.end ≡ at + OldHeadFrame.LEN) }
-    {
-        Cursor {
-            at,
-            end: at + Self::LEN,
-        }
-    }
+    const LEN: usize = HeadFrame::TIMES_AT + OLD_TIME;
 }
 
 // A Train of an old book.
 #[derive(Clone, Copy)]
 pub struct OldTrainFrame {}
 
-impl OldTrainFrame {
-    pub const KIND: usize = TrainFrame::KIND;
+impl FrameKind for OldTrainFrame {
+    ghost LEN = { frames.train_fixed frames.old_format };
 
-    pub const LEN: usize = TrainFrame::TIMES_AT + OLD_TIME + 1;
+    const KIND: usize = TrainFrame::KIND;
 
-    // The stretch of the payload's fixed part, from the payload's place on.
-    pub fn cursor(at: usize) -> Cursor
-        requires { at + OldTrainFrame.LEN < 0x1_0000_0000_0000_0000 }
-        ensures { (result.at ≡ at) × (result.end ≡ at + OldTrainFrame.LEN) }
-    {
-        Cursor {
-            at,
-            end: at + Self::LEN,
-        }
-    }
+    const LEN: usize = TrainFrame::TIMES_AT + OLD_TIME + 1;
 }
 
 // A Call of an old book.
 #[derive(Clone, Copy)]
 pub struct OldCallFrame {}
 
-impl OldCallFrame {
-    pub const KIND: usize = CallFrame::KIND;
+impl FrameKind for OldCallFrame {
+    ghost LEN = { frames.times_at frames.call_kind + 2 * frames.old_format.time_width };
 
-    pub const LEN: usize = CallFrame::TIMES_AT + 2 * OLD_TIME;
+    const KIND: usize = CallFrame::KIND;
 
-    // The stretch of the payload, from the payload's place on.
-    pub fn cursor(at: usize) -> Cursor
-        requires { at + OldCallFrame.LEN < 0x1_0000_0000_0000_0000 }
-        ensures { (result.at ≡ at) × (result.end ≡ at + OldCallFrame.LEN) }
-    {
-        Cursor {
-            at,
-            end: at + Self::LEN,
-        }
-    }
+    const LEN: usize = CallFrame::TIMES_AT + 2 * OLD_TIME;
 }
 
 // Where a Head's payload ends that begins at a place, by its format.
@@ -318,21 +246,12 @@ pub fn call_end(format: Format, at: usize) -> usize
 #[derive(Clone, Copy)]
 pub struct StepFrame {}
 
-impl StepFrame {
-    pub const KIND: usize = 20;
+impl FrameKind for StepFrame {
+    ghost LEN = { frames.step_fixed };
 
-    pub const LEN: usize = 2;
+    const KIND: usize = 20;
 
-    // The stretch of the payload's fixed part, from the payload's place on.
-    pub fn cursor(at: usize) -> Cursor
-        requires { at + StepFrame.LEN < 0x1_0000_0000_0000_0000 }
-        ensures { (result.at ≡ at) × (result.end ≡ at + StepFrame.LEN) }
-    {
-        Cursor {
-            at,
-            end: at + Self::LEN,
-        }
-    }
+    const LEN: usize = 2;
 }
 
 // The number in the two bytes from `at` on.
@@ -356,35 +275,34 @@ pub fn time(format: Format, s: &[u8], at: usize) -> usize
     }
 }
 
-// What stands at a place of a file: a whole frame, with its kind and its payload's length, or no
-// whole one.
-#[derive(Clone, Copy)]
-pub enum Framed {
-    Whole { kind: usize, len: usize },
-    Cut,
+// A whole frame of a file: its kind's number, and its payload's length.
+#[derive(Clone, Copy, Debug, PartialEq, Eq)]
+pub struct Frame {
+    pub kind: usize,
+    pub len: usize,
 }
 
-// The frame at a place. A cut one is refused by the number n that its file's table gives it: 1 in a
-// book, 17 in a refutation.
-pub fn frame_at(s: &[u8], at: usize) -> Framed
+// The whole frame at a place. Where there is none, the frame is refused by the number n that its file's
+// table gives a cut one: 1 in a book, 17 in a refutation.
+pub fn frame_at(s: &[u8], at: usize) -> Option<Frame>
     requires { at ≤ length s.now }
-    ensures { (result ≡ framed_at (drop at s.now))
-        × ((n : ℕ) → framed_refusal n result ≡ first_fault (one (n when frames.cut_short (drop at s.now)))) }
+    ensures found { result ≡ framed_at (drop at s.now) }
+    ensures refusal { (n : ℕ) → framed_refusal n result ≡ first_fault (one (n when frames.cut_short (drop at s.now))) }
 {
     if s.len() - at < OPENING {
-        return Framed::Cut;
+        return None;
     }
     let len = pair(s, at);
     let kind = pair(s, at + 2);
     if s.len() - at - OPENING < len {
-        Framed::Cut
+        None
     } else {
-        Framed::Whole { kind, len }
+        Some(Frame { kind, len })
     }
 }
 
-// The kinds of a book's frames, and what a number that is no kind's stands for.
-#[derive(Clone, Copy)]
+// The kinds of a book's frames, in their order.
+#[derive(Clone, Copy, Debug, PartialEq, Eq, PartialOrd, Ord)]
 pub enum Kind {
     Head,
     Node,
@@ -394,58 +312,35 @@ pub enum Kind {
     Call,
     Unbreakable,
     End,
-    Unknown,
 }
 
 // The kind that a number says.
-pub fn kind_of(number: usize) -> Kind
+pub fn kind_of(number: usize) -> Option<Kind>
     ensures { result ≡ kind_said (frames.find_kind number frames.kind_order) }
 {
-    if number == HeadFrame::KIND {
-        return Kind::Head;
+    match number {
+        HeadFrame::KIND => Some(Kind::Head),
+        NodeFrame::KIND => Some(Kind::Node),
+        SegmentFrame::KIND => Some(Kind::Segment),
+        JoinFrame::KIND => Some(Kind::Join),
+        TrainFrame::KIND => Some(Kind::Train),
+        CallFrame::KIND => Some(Kind::Call),
+        UnbreakableFrame::KIND => Some(Kind::Unbreakable),
+        EndFrame::KIND => Some(Kind::End),
+        _ => None,
     }
-    if number == NodeFrame::KIND {
-        return Kind::Node;
-    }
-    if number == SegmentFrame::KIND {
-        return Kind::Segment;
-    }
-    if number == JoinFrame::KIND {
-        return Kind::Join;
-    }
-    if number == TrainFrame::KIND {
-        return Kind::Train;
-    }
-    if number == CallFrame::KIND {
-        return Kind::Call;
-    }
-    if number == UnbreakableFrame::KIND {
-        return Kind::Unbreakable;
-    }
-    if number == EndFrame::KIND {
-        return Kind::End;
-    }
-    Kind::Unknown
 }
 
-// What `rank` answers for a number that is no kind's.
+// What `rank` answers for a number that is no kind's: the definition of `rank` puts it behind them all.
 pub const NO_RANK: usize = 9;
 
 // The place of a kind's number in the order of kinds, from 1, or NO_RANK.
 pub fn rank(number: usize) -> usize
     ensures { result ≡ frames.rank number }
 {
-    let kind = kind_of(number);
-    match kind {
-        Kind::Head => 1,
-        Kind::Node => 2,
-        Kind::Segment => 3,
-        Kind::Join => 4,
-        Kind::Train => 5,
-        Kind::Call => 6,
-        Kind::Unbreakable => 7,
-        Kind::End => 8,
-        Kind::Unknown => NO_RANK,
+    match kind_of(number) {
+        Some(kind) => kind as usize + 1,
+        None => NO_RANK,
     }
 }
 

@@ -1,7 +1,6 @@
--- Labels of sections under a set of borders: whether bytes are one, the labels in their table, and what is answered and left in
--- the output. Assumes nothing.
+-- Labels of sections under a set of borders: whether bytes are one, the labels in their table, and what is answered. Assumes nothing.
 use borrow.Author.Tests.{eq-eqb, ne_eqb, lt-leb, le-leb}
-use mathlib.Core.Path.{◌≡◌, refl, sym, ap, ◌∙◌}
+use mathlib.Core.Path.{◌≡◌, sym, ap, ◌∙◌}
 use mathlib.Core.Bool.{Bool, true, false}
 use Prim.Native.Nat.{ℕ, ◌≤◌, ◌<◌}
 use native.Mathlib.Omega.{arith}
@@ -10,11 +9,11 @@ use lib.ListN.{length, get_or, take, length-map}
 use lib.Seq.{sets, length-sets}
 use lib.Dec.{ltb}
 use Rattle.model.specs.declared.Book.{Book as BookStruct}
-use Rattle.spec.specs.Lists.{Bytes, all, up_to, Verdict, refused, and_then}
+use Rattle.spec.specs.Lists.{Bytes, all, up_to, accepted, refused, and_then}
 use Rattle.spec.specs.Instance.{Instance, instance_of}
 use Rattle.spec.specs.Sections.{Borders, section_labels}
 use Rattle.spec.specs.Held.{held}
-use Rattle.spec.specs.Entry.{demand, overwrite, written}
+use Rattle.spec.specs.Entry.{demand}
 use Rattle.spec.specs.Library.{borders_fit, labelled_for}
 use Rattle.laws.proofs.Tests.{and-iff, eqb-iff, from-true}
 use Rattle.laws.proofs.Parts.{length-up_to}
@@ -24,8 +23,6 @@ use Rattle.tables.proofs.Small.{nodes-is, segments-is}
 use Rattle.tables.proofs.MeetTables.{take-sets}
 use Rattle.layout.proofs.Places.{all-bits}
 use Rattle.sections.proofs.Same.{plan-labelled}
-use Rattle.gentupag.specs.declared.answers.Output.{Output}
-use Rattle.gentupag.specs.Answers.{output_of}
 
 -- ---- 15
 
@@ -46,7 +43,7 @@ module _ (b : BookStruct) (p : Passed b) (s : Bytes) where
 -- ---- the labels in their table
 
 -- a label a segment
-length-labels : (I : Instance) (border : Borders) → length (section_labels I border) ≡ I.segments
+pub length-labels : (I : Instance) (border : Borders) → length (section_labels I border) ≡ I.segments
 unfolding section_labels
 length-labels I border = length-map (up_to I.segments) _ ∙ length-up_to I.segments
 
@@ -74,41 +71,20 @@ module _ (b : BookStruct) (p : Passed b) (borders : Bytes) (old : List ℕ) (roo
       let below = (plan-labelled b p borders old room e).below s (omega (arith, segments-is b p)) in
       omega (arith, segments-is b p, p.packed.counts.segments)
 
--- ---- what is answered and left in the output
+-- ---- what is answered
 
--- an answer and an output, which held `old`, are those of a verdict
-abbrev pub Left : Verdict Bytes → Bytes → Output → Bytes → Type 0
-Left v old answer new = (answer ≡ output_of v) × (new ≡ overwrite old (written v))
-
--- the same verdict, by another name
-pub left-same : {v v' : Verdict Bytes} {answer : Output} (old : Bytes) {new : Bytes} → v ≡ v'
-    → (answer ≡ output_of v) × (new ≡ overwrite old (written v)) → (answer ≡ output_of v') × (new ≡ overwrite old (written v'))
-left-same old e h = (h.0 ∙ ap output_of e, h.1 ∙ ap (λ (v : Verdict Bytes). overwrite old (written v)) e)
-
--- a refusal leaves the output
-pub left-refused : {v : Verdict Bytes} {n d : ℕ} {answer : Output} (old : Bytes) → v ≡ refused n d → answer ≡ output_of (refused n d)
-    → (answer ≡ output_of v) × (old ≡ overwrite old (written v))
-unfolding overwrite written
-left-refused old e a = left-same old (sym e) (a, refl)
-
-module _ (I : Instance) (borders old : Bytes) where
+module _ (I : Instance) (borders : Bytes) (room : ℕ) where
   -- 12
-  pub labelled-short : {answer : Output} → length old < I.segments → answer ≡ output_of (refused 12 0)
-      → Left (labelled_for I borders (length old)) old answer old
+  pub labelled-short : room < I.segments → labelled_for I borders room ≡ refused 12 0
   unfolding labelled_for demand and_then
-  labelled-short h a = left-refused old (rw (lt-leb I.segments (length old) h)) a
+  labelled-short h = rw (lt-leb I.segments room h)
 
-  module _ (room : I.segments ≤ length old) where
-    -- 15
-    pub labelled-unfit : {answer : Output} → borders_fit I borders ≡ false → answer ≡ output_of (refused 15 0)
-        → Left (labelled_for I borders (length old)) old answer old
-    unfolding labelled_for demand and_then
-    labelled-unfit f a = left-refused old (rw (le-leb I.segments (length old) room, f)) a
+  -- 15
+  pub labelled-unfit : I.segments ≤ room → borders_fit I borders ≡ false → labelled_for I borders room ≡ refused 15 0
+  unfolding labelled_for demand and_then
+  labelled-unfit h f = rw (le-leb I.segments room h, f)
 
-    pub labelled-done : {n : ℕ} {new : Bytes} → borders_fit I borders ≡ true → I.segments ≡ n
-        → new ≡ overwrite old (section_labels I (borders_of borders))
-        → Left (labelled_for I borders (length old)) old (record { number = 0; detail = 0; length = n }) new
-    unfolding labelled_for demand and_then written
-    labelled-done f e h =
-        rw (le-leb I.segments (length old) room, f)
-        (ap (λ (n : ℕ). record { number = 0; detail = 0; length = n }) (sym (length-labels I (borders_of borders) ∙ e)), h)
+  pub labelled-done : I.segments ≤ room → borders_fit I borders ≡ true
+      → labelled_for I borders room ≡ accepted (section_labels I (borders_of borders))
+  unfolding labelled_for demand and_then
+  labelled-done h f = rw (le-leb I.segments room h, f)

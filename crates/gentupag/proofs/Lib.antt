@@ -1,4 +1,3 @@
-pub mod Structs
 pub mod Labelled
 pub mod Shown
 pub mod Standing

@@ -5,20 +5,23 @@ use Prim.Native.Nat.{ℕ, ◌≤◌, ◌<◌}
 use native.Mathlib.Omega.{arith}
 use mathlib.Core.List.{List}
 use lib.ListN.{length}
+use Rattle.std.specs.Prelude.{Result, Ok, Err}
+use Rattle.model.specs.declared.refusals.Refusal.{Refusal}
 use Rattle.model.specs.declared.Book.{Book as BookStruct}
+use Rattle.model.specs.Refusals.{number_of, detail_of}
+use Rattle.laws.proofs.Answers.{accepted-as, refused-as}
 use Rattle.spec.specs.Lists.{Bytes, Verdict, accepted, refused, and_then}
 use Rattle.spec.specs.Book.{Book, train_at}
 use Rattle.spec.specs.Read.{read_book}
 use Rattle.spec.specs.Runs.{runs_of}
 use Rattle.spec.specs.Instance.{instance_of, compile, run_lists, run_at, train_length}
 use Rattle.spec.specs.Held.{held, padded}
+use Rattle.spec.specs.Answers.{told, accepted_as}
 use Rattle.spec.specs.Library.{RunAsked, no_train, no_run, shown, run_among, run_asked, ask_run}
 use Rattle.demands.proofs.Wellformed.{runs-at}
 use Rattle.reader.proofs.Packing.{held-packed, trains-counted}
-use Rattle.reader.specs.declared.reading.Answer.TheVariants.{Accepted, Refused}
-use Rattle.reader.specs.declared.reading.BookRead.{BookRead}
-use Rattle.reader.specs.BookAnswers.{book_read_of}
-use Rattle.reader.proofs.Accepted.{accepted-by, refused-by}
+use Rattle.reader.specs.declared.reading.ReadBook.{ReadBook}
+use Rattle.reader.specs.BookAnswers.{read_of}
 use Rattle.listing.specs.Listed.{place_at, start_at}
 use Rattle.tables.specs.Placed.{size_at, run_held}
 use Rattle.tables.specs.Tables.{Passed}
@@ -88,21 +91,20 @@ module _ (b : BookStruct) (p : Passed b) (i r : ℕ) where
 
 -- ---- of a book's bytes
 
-module _ (bytes : Bytes) (read : BookRead) (e : read ≡ book_read_of (read_book bytes)) (i r : ℕ) where
-  -- what is to be answered, by the verdict on the book
-  abbrev answered : Verdict Book → Run
-  answered v = run_answer (and_then v λ b. accepted (run_asked b i r))
+-- what is to be answered, by the verdict on the book
+abbrev answered : ℕ → ℕ → Verdict Book → Run
+answered i n v = run_answer (and_then v λ b. accepted (run_asked b i n))
 
-  pub asked-on : {answer : Run} → read.answer ≡ Accepted → answer ≡ run_answer (accepted (run_asked (held read.book) i r))
-      → answer ≡ run_answer (ask_run bytes i r)
+module _ (bytes : Bytes) (i n : ℕ) {r : Result ReadBook Refusal} (e : told r ≡ accepted_as read_of (read_book bytes)) where
+  pub asked-on : {x : ReadBook} {answer : Run} → r ≡ Ok x → answer ≡ run_answer (accepted (run_asked (held x.book) i n))
+      → answer ≡ run_answer (ask_run bytes i n)
   unfolding ask_run and_then
-  asked-on told a =
-      let f = accepted-by read (read_book bytes) e told in
+  asked-on is a =
+      let f = accepted-as {v = read_book bytes} read_of e is in
       a
-      ∙ ap (λ (b : Book). run_answer (accepted (run_asked b i r))) (ap held f.2 ∙ held-packed f.0)
-      ∙ ap answered (sym f.1)
+      ∙ ap (λ (b : Book). run_answer (accepted (run_asked b i n))) (ap (λ (y : ReadBook). held y.book) f.2 ∙ held-packed f.0)
+      ∙ ap (answered i n) (sym f.1)
 
-  pub asked-stopped : {answer : Run} {n d : ℕ} → read.answer ≡ Refused n d → answer ≡ run_answer (refused n d)
-      → answer ≡ run_answer (ask_run bytes i r)
+  pub asked-stopped : {d : Refusal} → r ≡ Err d → run_answer (refused (number_of d) (detail_of d)) ≡ run_answer (ask_run bytes i n)
   unfolding ask_run and_then
-  asked-stopped told a = a ∙ ap answered (sym (refused-by read (read_book bytes) e told))
+  asked-stopped is = ap (answered i n) (sym (refused-as read_of e is))

@@ -1,39 +1,17 @@
--- What the library's structs say of each verdict: a refusal's number and detail with zeros behind, or 0, 0 and the result; and
--- the same by the cases of the entry points' answers. Assumes nothing.
+-- What the library's structs say of each verdict: a refusal's number and detail with zeros behind, or 0, 0 and the result.
+-- Assumes nothing.
 use Rattle.std.proofs.Math.Option.{Option, none, some}
 use Rattle.std.specs.Prelude.{ℕ, zero, suc, length, replicate}
 use Rattle.spec.specs.Lists.{Bytes, Verdict, accepted, refused}
 use Rattle.spec.specs.Entry as entry
 use Rattle.spec.specs.Library as library
 use Rattle.spec.specs.Held.{padded}
-use Rattle.reader.specs.declared.reading.Answer.{Answer}
-use Rattle.reader.specs.declared.reading.Answer.TheVariants as answers
-use Rattle.reader.specs.declared.reading.OutputAnswer.{OutputAnswer}
-use Rattle.reader.specs.declared.reading.OutputAnswer.TheVariants as outputs
-use Rattle.writing.specs.declared.FormulaAnswer.{FormulaAnswer}
-use Rattle.writing.specs.declared.FormulaAnswer.TheVariants as formulas
 use Rattle.gentupag.specs.declared.answers.Verdict.{Verdict as VerdictStruct}
 use Rattle.gentupag.specs.declared.answers.Output.{Output}
 use Rattle.gentupag.specs.declared.answers.Totals.{Totals}
 use Rattle.gentupag.specs.declared.answers.Sizes.{Sizes}
 use Rattle.gentupag.specs.declared.answers.Run.{Run}
 use Rattle.gentupag.specs.declared.answers.Variable.{Variable}
-
--- ---- by the cases of the entry points' answers
-
-abbrev pub verdict_shown : Answer → VerdictStruct
-verdict_shown answers.Accepted = record { number = 0; detail = 0 }
-verdict_shown (answers.Refused n d) = record { number = n; detail = d }
-
-abbrev pub output_shown : OutputAnswer → Output
-output_shown (outputs.Wrote n) = record { number = 0; detail = 0; length = n }
-output_shown (outputs.Refused n d) = record { number = n; detail = d; length = 0 }
-
-abbrev pub totals_shown : FormulaAnswer → Totals
-totals_shown (formulas.Totals v c w) = record { number = 0; detail = 0; variables = v; clauses = c; words = w }
-totals_shown (formulas.Refused n d) = record { number = n; detail = d; variables = 0; clauses = 0; words = 0 }
-
--- ---- by verdicts
 
 abbrev pub verdict_of : {A : Type 0} → Verdict A → VerdictStruct
 verdict_of (accepted a) = record { number = 0; detail = 0 }

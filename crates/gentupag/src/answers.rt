@@ -1,5 +1,8 @@
 // What the library's functions answer, laid out as C has it. `number` is 0, or the number of the
-// refusal, and `detail` is its detail; beside a refusal every other field is 0. Assumes nothing.
+// refusal, and `detail` is its detail; beside a refusal every other field is 0. The shape of these structs is the
+// C interface's, so a refusal is two numbers in them, and kinds and what is missing are numbers. Assumes nothing.
+use model::Refusal;
+use writing::Totals as Written;
 
 // A verdict.
 #[repr(C)]
@@ -7,6 +10,26 @@
 pub struct Verdict {
     pub number: usize,
     pub detail: usize,
+}
+
+impl From<Result<(), Refusal>> for Verdict {
+    ghost use Rattle.std.specs.Prelude.{◌≡◌};
+    ghost use Rattle.gentupag.specs.Shown.{verdict_shown};
+
+    ghost from_gives = { λ answer v. v ≡ verdict_shown answer };
+
+    fn from(answer: Result<(), Refusal>) -> Verdict {
+        match answer {
+            Ok(()) => Verdict {
+                number: 0,
+                detail: 0,
+            },
+            Err(refusal) => Verdict {
+                number: refusal.number(),
+                detail: refusal.detail(),
+            },
+        }
+    }
 }
 
 // A verdict, and how many bytes of the output were written.
@@ -18,6 +41,28 @@ pub struct Output {
     pub length: usize,
 }
 
+impl From<Result<usize, Refusal>> for Output {
+    ghost use Rattle.std.specs.Prelude.{◌≡◌};
+    ghost use Rattle.gentupag.specs.Shown.{output_shown};
+
+    ghost from_gives = { λ answer o. o ≡ output_shown answer };
+
+    fn from(answer: Result<usize, Refusal>) -> Output {
+        match answer {
+            Ok(length) => Output {
+                number: 0,
+                detail: 0,
+                length,
+            },
+            Err(refusal) => Output {
+                number: refusal.number(),
+                detail: refusal.detail(),
+                length: 0,
+            },
+        }
+    }
+}
+
 // A formula's totals; `words` of the output were written.
 #[repr(C)]
 #[derive(Clone, Copy)]
@@ -27,6 +72,32 @@ pub struct Totals {
     pub variables: usize,
     pub clauses: usize,
     pub words: usize,
+}
+
+impl From<Result<Written, Refusal>> for Totals {
+    ghost use Rattle.std.specs.Prelude.{◌≡◌};
+    ghost use Rattle.gentupag.specs.Shown.{totals_shown};
+
+    ghost from_gives = { λ answer t. t ≡ totals_shown answer };
+
+    fn from(answer: Result<Written, Refusal>) -> Totals {
+        match answer {
+            Ok(written) => Totals {
+                number: 0,
+                detail: 0,
+                variables: written.variables,
+                clauses: written.clauses,
+                words: written.words,
+            },
+            Err(refusal) => Totals {
+                number: refusal.number(),
+                detail: refusal.detail(),
+                variables: 0,
+                clauses: 0,
+                words: 0,
+            },
+        }
+    }
 }
 
 // A book's sizes.

@@ -18,7 +18,7 @@ ghost use Rattle.spec.specs.Page.{print_graph, page_output};
 ghost use Rattle.spec.specs.Carriers.{list_carriers, carriers_output};
 ghost use Rattle.spec.specs.Library.{measure_book, label_sections, labels_output, ask_run, ask_variable};
 ghost use Rattle.refutations.specs.Lent.{lengths};
-ghost use Rattle.gentupag.specs.Answers.{verdict_shown, output_shown, totals_shown, verdict_of, output_of, totals_of, sizes_answer, run_answer, variable_answer, cap_asked};
+ghost use Rattle.gentupag.specs.Answers.{verdict_of, output_of, totals_of, sizes_answer, run_answer, variable_answer, cap_asked};
 
 use answers::{Output, Run, Sizes, Totals, Variable, Verdict};
 use carriers::list_carriers;
@@ -26,89 +26,26 @@ use checking::{check_assignment, check_plan, unpack_plan};
 use fewest::check_fewest;
 use graph::print_graph;
 use labels::label_book;
-use model::Cap;
-use reader::reading::{Answer, OutputAnswer, read_book};
+use reader::reading::read_book;
 use refutations::check_refutation;
 use runs::run_of;
 use sizes::measure_book;
 use upgrading::upgrade_book;
 use variables::variable_of;
-use writing::{FormulaAnswer, write_formula};
-
-// A verdict as a struct.
-fn verdict_from(answer: Answer) -> Verdict
-    ensures { result ≡ verdict_shown answer }
-{
-    match answer {
-        Answer::Accepted => Verdict {
-            number: 0,
-            detail: 0,
-        },
-        Answer::Refused(number, detail) => Verdict { number, detail },
-    }
-}
-
-// The same, of a check that has an output.
-fn output_from(answer: OutputAnswer) -> Output
-    ensures { result ≡ output_shown answer }
-{
-    match answer {
-        OutputAnswer::Wrote(length) => Output {
-            number: 0,
-            detail: 0,
-            length,
-        },
-        OutputAnswer::Refused(number, detail) => Output {
-            number,
-            detail,
-            length: 0,
-        },
-    }
-}
-
-// The same, of the writer of a formula.
-fn totals_from(answer: FormulaAnswer) -> Totals
-    ensures { result ≡ totals_shown answer }
-{
-    match answer {
-        FormulaAnswer::Totals {
-            variables,
-            clauses,
-            words,
-        } => Totals {
-            number: 0,
-            detail: 0,
-            variables,
-            clauses,
-            words,
-        },
-        FormulaAnswer::Refused(number, detail) => Totals {
-            number,
-            detail,
-            variables: 0,
-            clauses: 0,
-            words: 0,
-        },
-    }
-}
+use writing::write_formula;
 
 // The cap that a caller asks for by two numbers: none where the first is 0.
-fn cap_from(capped: usize, cap: usize) -> Cap
+fn cap_from(capped: usize, cap: usize) -> Option<usize>
     ensures { held_cap result ≡ cap_asked capped cap }
 {
-    if capped == 0 {
-        return Cap::No;
-    }
-    Cap::AtMost(cap)
+    if capped == 0 { None } else { Some(cap) }
 }
 
 // Whether the bytes are a book.
 pub fn gentupag_read_book(book: &[u8]) -> Verdict
     ensures { result ≡ verdict_of (read_book book.now) }
 {
-    let read = read_book(book);
-    let answer = read.answer;
-    verdict_from(answer)
+    Verdict::from(read_book(book).map(|_| ()))
 }
 
 // The sizes of a book: what it counts, and how much its outputs need.
@@ -128,8 +65,7 @@ pub fn gentupag_write_formula_under(
     ensures { (result ≡ totals_of (write_formula (cap_asked capped cap) book.now (length out.old)))
         × (out.new ≡ formula_output (cap_asked capped cap) book.now out.old) }
 {
-    let answer = write_formula(cap_from(capped, cap), book, out);
-    totals_from(answer)
+    Totals::from(write_formula(cap_from(capped, cap), book, out))
 }
 
 // The verdict on an assignment.
@@ -141,8 +77,7 @@ pub fn gentupag_judge_assignment_under(
 ) -> Verdict
     ensures { result ≡ verdict_of (check_assignment (cap_asked capped cap) book.now values.now) }
 {
-    let answer = check_assignment(cap_from(capped, cap), book, values);
-    verdict_from(answer)
+    Verdict::from(check_assignment(cap_from(capped, cap), book, values))
 }
 
 // The verdict on an assignment, its plan in the output.
@@ -156,8 +91,7 @@ pub fn gentupag_unpack_plan_under(
     ensures { (result ≡ output_of (unpack_plan (cap_asked capped cap) book.now values.now (length out.old)))
         × (out.new ≡ plan_output (cap_asked capped cap) book.now values.now out.old) }
 {
-    let answer = unpack_plan(cap_from(capped, cap), book, values, out);
-    output_from(answer)
+    Output::from(unpack_plan(cap_from(capped, cap), book, values, out))
 }
 
 // The verdict on a plan, its assignment in the output.
@@ -171,8 +105,7 @@ pub fn gentupag_check_plan_under(
     ensures { (result ≡ output_of (check_plan (cap_asked capped cap) book.now plan.now (length out.old)))
         × (out.new ≡ assignment_output (cap_asked capped cap) book.now plan.now out.old) }
 {
-    let answer = check_plan(cap_from(capped, cap), book, plan, out);
-    output_from(answer)
+    Output::from(check_plan(cap_from(capped, cap), book, plan, out))
 }
 
 // The verdict on a refutation; all four slices are zero after it.
@@ -193,7 +126,7 @@ pub fn gentupag_check_refutation_under(
         × (values.new ≡ zeroed 0 (length values.old))
         × (trail.new ≡ zeroed 0 (length trail.old)) }
 {
-    let answer = check_refutation(
+    Verdict::from(check_refutation(
         cap_from(capped, cap),
         book,
         refutation,
@@ -201,8 +134,7 @@ pub fn gentupag_check_refutation_under(
         clauses,
         values,
         trail,
-    );
-    verdict_from(answer)
+    ))
 }
 
 // The combined verdict on n; all four slices are zero after it.
@@ -223,10 +155,9 @@ pub fn gentupag_check_fewest(
         × (values.new ≡ zeroed 0 (length values.old))
         × (trail.new ≡ zeroed 0 (length trail.old)) }
 {
-    let answer = check_fewest(
+    Verdict::from(check_fewest(
         book, n, assignment, refutation, words, clauses, values, trail,
-    );
-    verdict_from(answer)
+    ))
 }
 
 // The label of each segment's section under a set of borders, in the output.
@@ -234,7 +165,7 @@ pub fn gentupag_label_sections(book: &[u8], borders: &[u8], out: &mut [u8]) -> O
     ensures { (result ≡ output_of (label_sections book.now borders.now (length out.old)))
         × (out.new ≡ labels_output book.now borders.now out.old) }
 {
-    label_book(book, borders, out)
+    Output::from(label_book(book, borders, out))
 }
 
 // A run of a train, by its number in the train's list.
@@ -261,8 +192,7 @@ pub fn gentupag_upgrade_book(old: &[u8], out: &mut [u8]) -> Output
     ensures { (result ≡ output_of (upgrade_book old.now (length out.old)))
         × (out.new ≡ upgrade_output old.now out.old) }
 {
-    let answer = upgrade_book(old, out);
-    output_from(answer)
+    Output::from(upgrade_book(old, out))
 }
 
 // The train graph of a plan that keeps the rules, as a page in the output.
@@ -270,8 +200,7 @@ pub fn gentupag_print_graph(book: &[u8], plan: &[u8], out: &mut [u8]) -> Output
     ensures { (result ≡ output_of (print_graph book.now plan.now (length out.old)))
         × (out.new ≡ page_output book.now plan.now out.old) }
 {
-    let answer = print_graph(book, plan, out);
-    output_from(answer)
+    Output::from(print_graph(book, plan, out))
 }
 
 // The borders that carry a plan that keeps the rules, listed in the output.
@@ -279,6 +208,5 @@ pub fn gentupag_list_carriers(book: &[u8], plan: &[u8], out: &mut [u8]) -> Outpu
     ensures { (result ≡ output_of (list_carriers book.now plan.now (length out.old)))
         × (out.new ≡ carriers_output book.now plan.now out.old) }
 {
-    let answer = list_carriers(book, plan, out);
-    output_from(answer)
+    Output::from(list_carriers(book, plan, out))
 }

@@ -13,7 +13,6 @@ use crate::answers::{NO_RUN, NO_TRAIN, NOTHING_MISSING, Run};
 use listing::{TABLE_BYTES, TRAIN_BYTES};
 use model::{Book, Counts};
 use network::track::length_in_segments;
-use reader::reading::Answer;
 use tables::places::{size_of, start_of};
 use tables::preparing::prepare_runs;
 
@@ -39,11 +38,7 @@ fn path_of(runs: &[u8], run: usize, size: usize) -> [u8; 16]
 {
     let base = start_of(run);
     let mut path = [0u8; 16];
-    let mut i = 0;
-    while i < size {
-        path[i] = runs[base + i];
-        i += 1;
-    }
+    path[..size].copy_from_slice(&runs[base..base + size]);
     path
 }
 
@@ -92,12 +87,8 @@ pub fn run_of(book: &[u8], train: usize, run: usize) -> Run
     ensures { result ≡ run_answer (ask_run book.now train run) }
 {
     let mut runs = [0u8; TABLE_BYTES];
-    let read = prepare_runs(book, &mut runs);
-    let b = read.book;
-    let counts = read.counts;
-    let answer = read.answer;
-    match answer {
-        Answer::Refused(number, detail) => without_run(number, detail, NOTHING_MISSING, 0),
-        Answer::Accepted => run_for(b, counts, &runs, train, run),
+    match prepare_runs(book, &mut runs) {
+        Ok(read) => run_for(read.book, read.counts, &runs, train, run),
+        Err(refusal) => without_run(refusal.number(), refusal.detail(), NOTHING_MISSING, 0),
     }
 }

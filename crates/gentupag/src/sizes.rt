@@ -4,58 +4,38 @@ ghost use Rattle.spec.specs.Lists.{accepted};
 ghost use Rattle.spec.specs.Instance.{instance_of, under};
 ghost use Rattle.spec.specs.Held.{held, held_cap};
 ghost use Rattle.spec.specs.Library.{sizes_of, measure_book};
-ghost use Rattle.tables.specs.Ready.{RunsReady, ChainsReady, MeetsReady};
 ghost use Rattle.gentupag.specs.Answers.{sizes_answer};
 
 use crate::answers::Sizes;
-use clauses::Walk;
 use formula::walk::walk_formula;
 use layout::moves::plan_length;
 use layout::numbering::variable_count;
 use listing::TABLE_BYTES;
-use model::{Book, Cap, Counts};
 use network::track::count_free;
-use reader::reading::Answer;
 use tables::chains::ALL_CHAINS;
 use tables::meets::MEET_BYTES;
-use tables::preparing::prepare_chains;
+use tables::preparing::{Prepared, prepare_chains};
+use tables::ready::FormulaTables;
 
 // The sizes under a cap or none, by the tables of a book.
-fn measure_by(
-    b: Book,
-    counts: Counts,
-    cap: Cap,
-    runs: &[u8],
-    chains: &[usize],
-    meets: &[u8],
-) -> Sizes
-    requires { RunsReady b counts runs.now × ChainsReady b chains.now × MeetsReady b meets.now }
-    ensures { result ≡ sizes_answer (accepted (sizes_of (under (held_cap cap) (instance_of (held b))))) }
+fn measure_by(t: &FormulaTables, cap: Option<usize>) -> Sizes
+    ensures { result ≡ sizes_answer (accepted (sizes_of (under (held_cap cap) (instance_of (held t.now.book))))) }
 {
-    let none = &runs[0..0];
+    let none = &t.runs[0..0];
     let mut nowhere = [0i32; 1];
-    let w: Walk = walk_formula(
-        b,
-        counts,
-        cap,
-        runs,
-        chains,
-        meets,
-        none,
-        &mut nowhere[0..0],
-    );
+    let passed = walk_formula(t, cap, none, &mut nowhere[0..0]);
     Sizes {
         number: 0,
         detail: 0,
-        intervals: b.intervals,
-        nodes: b.node_count,
-        free_nodes: count_free(b),
-        segments: b.segment_count,
-        trains: b.train_count,
-        variables: variable_count(b, counts, cap),
-        clauses: w.clauses,
-        words: w.words,
-        plan_bytes: plan_length(b),
+        intervals: t.book.intervals,
+        nodes: t.book.node_count,
+        free_nodes: count_free(t.book),
+        segments: t.book.segment_count,
+        trains: t.book.train_count,
+        variables: variable_count(t.book, t.counts, cap),
+        clauses: passed.clauses,
+        words: passed.words,
+        plan_bytes: plan_length(t.book),
     }
 }
 
@@ -91,20 +71,28 @@ fn refused_sizes(number: usize, detail: usize) -> Sizes
 }
 
 // The sizes, under a cap or none, of the book that the bytes hold.
-pub fn measure_book(cap: Cap, book: &[u8]) -> Sizes
+pub fn measure_book(cap: Option<usize>, book: &[u8]) -> Sizes
     ensures { result ≡ sizes_answer (measure_book (held_cap cap) book.now) }
 {
     let mut runs = [0u8; TABLE_BYTES];
     let mut chains = [0usize; ALL_CHAINS];
     let mut meets = [0u8; MEET_BYTES];
-    let p = prepare_chains(book, &mut runs, &mut chains, &mut meets);
-    let end = p.meet_bytes;
-    let read = p.read;
-    let b = read.book;
-    let counts = read.counts;
-    let answer = read.answer;
-    match answer {
-        Answer::Refused(number, detail) => refused_sizes(number, detail),
-        Answer::Accepted => measure_by(b, counts, cap, &runs, &chains, &meets[..end]),
+    match prepare_chains(book, &mut runs, &mut chains, &mut meets) {
+        Ok(prepared) => {
+            let Prepared {
+                book,
+                counts,
+                meet_bytes,
+            } = prepared;
+            let t = FormulaTables {
+                book,
+                counts,
+                runs: &runs,
+                chains: &chains,
+                meets: &meets[..meet_bytes],
+            };
+            measure_by(&t, cap)
+        }
+        Err(refusal) => refused_sizes(refusal.number(), refusal.detail()),
     }
 }

@@ -16,8 +16,7 @@ use layout::numbering::{
     base_from, claims_from, first_variable, gone_variable, next_interval, own_variables,
 };
 use listing::TABLE_BYTES;
-use model::{Book, Cap, Counts, MAX_NODES};
-use reader::reading::Answer;
+use model::{Book, Counts, MAX_NODES};
 use tables::preparing::prepare_runs;
 
 // The answer for a variable of some kind.
@@ -77,7 +76,7 @@ fn in_train(b: Book, counts: Counts, train: usize, at: usize) -> Variable
 
 // What the variable `at` behind those of the trains stands for: the counter's lie by j, then by k, and say that
 // of the first j + k + 1 nodes of kind 1 at least j + 1 are set.
-fn in_counter(b: Book, counts: Counts, cap: Cap, at: usize) -> Variable
+fn in_counter(b: Book, counts: Counts, cap: Option<usize>, at: usize) -> Variable
     requires { Counted b counts × (own_variables (instance_of (held b)) ≤ at) }
     ensures { result ≡ variable_answer (accepted (meaning_of (under (held_cap cap) (instance_of (held b))) (suc at))) }
 {
@@ -103,7 +102,7 @@ fn in_counter(b: Book, counts: Counts, cap: Cap, at: usize) -> Variable
 
 // What variable v stands for, of a book whose runs were counted. The borders come first, then the
 // trains: v belongs to the first train whose variables end behind it; the cap's counter is last.
-fn variable_by(b: Book, counts: Counts, cap: Cap, v: usize) -> Variable
+fn variable_by(b: Book, counts: Counts, cap: Option<usize>, v: usize) -> Variable
     requires { Counted b counts }
     ensures { result ≡ variable_answer (accepted (meaning_of (under (held_cap cap) (instance_of (held b))) v)) }
 {
@@ -114,36 +113,29 @@ fn variable_by(b: Book, counts: Counts, cap: Cap, v: usize) -> Variable
     if at < b.node_count {
         return stands_for(IS_BORDER, 0, 0, at);
     }
-    let trains = b.train_count;
-    let mut train = 0;
-    while train < trains {
+    for train in 0..b.train_count {
         if at < first_variable(b, counts, train + 1) {
             return in_train(b, counts, train, at);
         }
-        train += 1;
     }
     in_counter(b, counts, cap, at)
 }
 
 // What variable v of the book that the bytes hold stands for under a cap or none, v counted from 1.
-pub fn variable_of(cap: Cap, book: &[u8], v: usize) -> Variable
+pub fn variable_of(cap: Option<usize>, book: &[u8], v: usize) -> Variable
     ensures { result ≡ variable_answer (ask_variable (held_cap cap) book.now v) }
 {
     let mut runs = [0u8; TABLE_BYTES];
-    let read = prepare_runs(book, &mut runs);
-    let b = read.book;
-    let counts = read.counts;
-    let answer = read.answer;
-    match answer {
-        Answer::Refused(number, detail) => Variable {
-            number,
-            detail,
+    match prepare_runs(book, &mut runs) {
+        Ok(read) => variable_by(read.book, read.counts, cap, v),
+        Err(refusal) => Variable {
+            number: refusal.number(),
+            detail: refusal.detail(),
             kind: NO_VARIABLE,
             train: 0,
             interval: 0,
             item: 0,
             count: 0,
         },
-        Answer::Accepted => variable_by(b, counts, cap, v),
     }
 }

@@ -11,7 +11,6 @@ ghost use Rattle.layout.specs.Moves.{held_move};
 ghost use Rattle.plan_rules.specs.Kept.{TrainReady};
 ghost use Rattle.tables.specs.Ready.{RunsReady};
 
-use frames::bytes::wide;
 use layout::moves::{Move, move_at};
 use listing::TRAIN_BYTES;
 use model::{Book, Counts};
@@ -79,8 +78,8 @@ fn cell_of(b: Book, train: usize, l: usize, runs: &[u8], m: Move) -> [u8; CELL_B
         Move::Run(r) => {
             let first = start_of(r);
             let size = size_of(runs, r);
-            let rear = wide(runs[first]) / 2;
-            let front = wide(runs[first + size - 1]) / 2;
+            let rear = usize::from(runs[first]) / 2;
+            let front = usize::from(runs[first + size - 1]) / 2;
             run_cell(rear, front, size - l)
         }
         Move::Absent => marked(b'.'),

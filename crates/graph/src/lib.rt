@@ -8,59 +8,47 @@ mod page;
 
 ghost use Rattle.std.specs.Prelude.{◌≡◌, length};
 ghost use Rattle.spec.specs.Instance.{instance_of};
+ghost use Rattle.spec.specs.Answers.{told, accepted_as};
 ghost use Rattle.spec.specs.Held.{held};
 ghost use Rattle.spec.specs.Entry.{overwrite, written};
 ghost use Rattle.spec.specs.Page.{page_for, print_graph, page_output};
-ghost use Rattle.tables.specs.Ready.{RunsReady, MeetsReady};
-ghost use Rattle.reader.specs.OutputAnswers.{output_answer};
 
 use listing::TABLE_BYTES;
-use model::{Book, Counts};
+use model::Refusal;
 use page::{LINE_BYTES, put_page};
 use plan_rules::judging::admit_plan;
-use reader::reading::{Answer, OutputAnswer};
 use tables::meets::MEET_BYTES;
-use tables::preparing::prepare;
+use tables::preparing::{Prepared, prepare};
+use tables::ready::Tables;
 
-// 12, then the verdict on a plan, then its page, by the tables of a book.
-fn page_by(
-    b: Book,
-    counts: Counts,
-    runs: &[u8],
-    meets: &[u8],
-    plan: &[u8],
-    page: &mut [u8],
-) -> OutputAnswer
-    requires { RunsReady b counts runs.now × MeetsReady b meets.now }
-    ensures { (result ≡ output_answer (page_for (instance_of (held b)) plan.now (length page.old)))
-        × (page.new ≡ overwrite page.old (written (page_for (instance_of (held b)) plan.now (length page.old)))) }
+// 12, then the verdict on a plan, then its page, by the tables of a book; answers how many bytes the page has.
+fn page_by(t: &Tables, plan: &[u8], page: &mut [u8]) -> Result<usize, Refusal>
+    ensures answer { told result ≡ accepted_as length (page_for (instance_of (held t.now.book)) plan.now (length page.old)) }
+    ensures output { page.new ≡ overwrite page.old (written (page_for (instance_of (held t.now.book)) plan.now (length page.old))) }
 {
-    let length = b.intervals * LINE_BYTES;
-    let admitted = admit_plan(b, counts, runs, meets, plan, length, page.len());
-    match admitted {
-        Answer::Refused(number, detail) => OutputAnswer::Refused(number, detail),
-        Answer::Accepted => {
-            put_page(b, counts, runs, plan, page);
-            OutputAnswer::Wrote(length)
-        }
-    }
+    let length = t.book.intervals * LINE_BYTES;
+    admit_plan(t, plan, length, page.len())?;
+    put_page(t.book, t.counts, t.runs, plan, page);
+    Ok(length)
 }
 
-// An entry point: the page of a plan that keeps the rules for a book.
-pub fn print_graph(book: &[u8], plan: &[u8], page: &mut [u8]) -> OutputAnswer
-    ensures { (result ≡ output_answer (print_graph book.now plan.now (length page.old)))
-        × (page.new ≡ page_output book.now plan.now page.old) }
+// An entry point: the page of a plan that keeps the rules for a book; answers how many bytes it has.
+pub fn print_graph(book: &[u8], plan: &[u8], page: &mut [u8]) -> Result<usize, Refusal>
+    ensures answer { told result ≡ accepted_as length (print_graph book.now plan.now (length page.old)) }
+    ensures output { page.new ≡ page_output book.now plan.now page.old }
 {
     let mut runs = [0u8; TABLE_BYTES];
     let mut meets = [0u8; MEET_BYTES];
-    let p = prepare(book, &mut runs, &mut meets);
-    let end = p.meet_bytes;
-    let read = p.read;
-    let b = read.book;
-    let counts = read.counts;
-    let answer = read.answer;
-    match answer {
-        Answer::Refused(number, detail) => OutputAnswer::Refused(number, detail),
-        Answer::Accepted => page_by(b, counts, &runs, &meets[..end], plan, page),
-    }
+    let Prepared {
+        book,
+        counts,
+        meet_bytes,
+    } = prepare(book, &mut runs, &mut meets)?;
+    let t = Tables {
+        book,
+        counts,
+        runs: &runs,
+        meets: &meets[..meet_bytes],
+    };
+    page_by(&t, plan, page)
 }

@@ -1,5 +1,5 @@
 // The page of a plan: a line an interval, 80 bytes and a newline. Assumes nothing.
-ghost use Rattle.std.specs.Prelude.{◌≡◌, ◌+◌, ◌-◌, ◌*◌, ◌≤◌, ◌<◌, length, replicate, T};
+ghost use Rattle.std.specs.Prelude.{◌≡◌, ◌+◌, ◌*◌, ◌≤◌, ◌<◌, length, T};
 ghost use Rattle.std.proofs.lemmas.List.Edits.{sets};
 ghost use Rattle.spec.specs.Instance.{instance_of};
 ghost use Rattle.spec.specs.Plan.{plan_of, plan_fits};
@@ -33,27 +33,12 @@ fn put_cells(
         × (page.new ≡ sets page.old at
         (pages.cells (instance_of (held b)) (plan_of (instance_of (held b)) plan.now) interval)) }
 {
-    let trains = b.train_count;
     let mut end = at;
-    let mut train = 0;
-    while train < trains {
+    for train in 0..b.train_count {
         let cell = cell_at(b, counts, runs, plan, train, interval);
         end = put_bytes(page, end, &cell);
-        train += 1;
     }
     end
-}
-
-// Stores blanks from a place up to another.
-fn put_blanks(page: &mut [u8], from: usize, to: usize)
-    requires { (from ≤ to) × (to ≤ length page.old) }
-    ensures { page.new ≡ sets page.old from (replicate (to - from) pages.blank) }
-{
-    let mut at = from;
-    while at < to {
-        page[at] = b' ';
-        at += 1;
-    }
 }
 
 // Stores the line of an interval from a place on.
@@ -75,7 +60,7 @@ fn put_line(
     let from = put_bytes(page, at, &head);
     let end = put_cells(b, counts, runs, plan, interval, page, from);
     let last = at + LINE_TEXT;
-    put_blanks(page, end, last);
+    page[end..last].fill(b' ');
     page[last] = b'\n';
 }
 
@@ -86,10 +71,7 @@ pub fn put_page(b: Book, counts: Counts, runs: &[u8], plan: &[u8], page: &mut [u
     ensures { page.new ≡ overwrite page.old
         (pages.page (instance_of (held b)) (plan_of (instance_of (held b)) plan.now)) }
 {
-    let intervals = b.intervals;
-    let mut interval = 0;
-    while interval < intervals {
+    for interval in 0..b.intervals {
         put_line(b, counts, runs, plan, interval, page, interval * LINE_BYTES);
-        interval += 1;
     }
 }

@@ -11,3 +11,4 @@ pub mod Least
 pub mod Stores
 pub mod Digits
 pub mod Rounding
+pub mod Answers

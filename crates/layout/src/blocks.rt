@@ -9,7 +9,7 @@ use model::{Book, Counts};
 use network::track::length_in_segments;
 
 // A block: its train, how many runs the train has and how long it is in segments; its first variable.
-#[derive(Clone, Copy)]
+#[derive(Clone, Copy, Debug, PartialEq, Eq)]
 pub struct Block {
     pub train: usize,
     pub runs: usize,
@@ -25,9 +25,9 @@ pub fn train_block(b: Book, counts: Counts, train: usize) -> Block
     let t = b.trains[train];
     let length = length_in_segments(b, t);
     Block {
-        train: train,
+        train,
         runs: counts[train],
-        length: length,
+        length,
         base: first_variable(b, counts, train),
     }
 }
@@ -37,7 +37,8 @@ pub fn block_at(b: Book, first: Block, interval: usize) -> Block
     requires { BlockOf b first.train 0 first × (interval ≤ b.intervals) }
     ensures { BlockOf b first.train interval result × (result.train ≡ first.train) }
 {
-    let mut t = first;
-    t.base = base_from(first.base, first.runs, b.segment_count, interval);
-    t
+    Block {
+        base: base_from(first.base, first.runs, b.segment_count, interval),
+        ..first
+    }
 }

@@ -10,12 +10,12 @@ ghost use Rattle.spec.specs.Cap.{counter_for, set_count};
 ghost use Rattle.spec.specs.Held.{CountsFit, held};
 ghost use Rattle.layout.specs.Counters.{held_counter, CounterOf};
 
-use model::{Book, Cap};
+use model::Book;
 use network::track::{count_free, is_free};
 
 // A counter: it counts nodes that are set up to `most`, and has `spare` more nodes of kind 1 than that. With
 // `spare` 0 it counts nothing.
-#[derive(Clone, Copy)]
+#[derive(Clone, Copy, Debug, PartialEq, Eq)]
 pub struct Counter {
     pub most: usize,
     pub spare: usize,
@@ -35,13 +35,13 @@ fn counter_below(cap: usize, free: usize) -> Counter
 }
 
 // The counter of a cap in a book.
-pub fn counter_of(b: Book, cap: Cap) -> Counter
+pub fn counter_of(b: Book, cap: Option<usize>) -> Counter
     requires { CountsFit b }
     ensures { CounterOf b cap result }
 {
     match cap {
-        Cap::No => Counter { most: 0, spare: 0 },
-        Cap::AtMost(most) => counter_below(most, count_free(b)),
+        None => Counter { most: 0, spare: 0 },
+        Some(most) => counter_below(most, count_free(b)),
     }
 }
 
@@ -51,15 +51,12 @@ pub fn list_free(b: Book, out: &mut [usize]) -> usize
     ensures { (result ≡ length (free_nodes_of (instance_of (held b))))
         × (out.new ≡ sets out.old 0 (free_nodes_of (instance_of (held b)))) }
 {
-    let nodes = b.node_count;
     let mut free = 0;
-    let mut node = 0;
-    while node < nodes {
-        if is_free(b.nodes[node]) {
+    for (node, kind) in b.nodes[..b.node_count].iter().enumerate() {
+        if is_free(*kind) {
             out[free] = node;
             free += 1;
         }
-        node += 1;
     }
     free
 }
@@ -68,10 +65,7 @@ pub fn list_free(b: Book, out: &mut [usize]) -> usize
 fn counts(kind: u8, border: u8) -> bool
     ensures { result ≡ (not (denies_border kind) && not (forces_border kind) && eqb border 1) }
 {
-    if is_free(kind) {
-        return border == 1;
-    }
-    false
+    is_free(kind) && border == 1
 }
 
 // How many nodes of kind 1 have a border, by the bytes of a plan or of an assignment.
@@ -79,14 +73,9 @@ pub fn count_set(b: Book, borders: &[u8]) -> usize
     requires { CountsFit b × (b.node_count ≤ length borders.now) }
     ensures { result ≡ set_count (instance_of (held b)) (borders_of borders.now) }
 {
-    let nodes = b.node_count;
-    let mut set = 0;
-    let mut node = 0;
-    while node < nodes {
-        if counts(b.nodes[node], borders[node]) {
-            set += 1;
-        }
-        node += 1;
-    }
-    set
+    b.nodes[..b.node_count]
+        .iter()
+        .zip(borders)
+        .filter(|(kind, border)| counts(**kind, **border))
+        .count()
 }

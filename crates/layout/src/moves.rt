@@ -19,7 +19,7 @@ pub const ABSENT: usize = 65534;
 pub const GONE: usize = 65535;
 
 // A train's move in an interval: a run of its list, absent, or gone.
-#[derive(Clone, Copy)]
+#[derive(Clone, Copy, Debug, PartialEq, Eq)]
 pub enum Move {
     Run(usize),
     Absent,
@@ -27,16 +27,15 @@ pub enum Move {
 }
 
 // The move that a plan's number stands for.
+#[tactic(auto, unfolding(spec::specs::Plan::move_of))]
 fn move_of(code: usize) -> Move
     ensures { held_move result ≡ move_of code }
 {
-    if code == ABSENT {
-        return Move::Absent;
+    match code {
+        ABSENT => Move::Absent,
+        GONE => Move::Gone,
+        run => Move::Run(run),
     }
-    if code == GONE {
-        return Move::Gone;
-    }
-    Move::Run(code)
 }
 
 // Where the two bytes of a train's move in an interval stand in a plan: behind a byte a node and the
@@ -65,25 +64,22 @@ pub fn move_at(b: Book, plan: &[u8], train: usize, interval: usize) -> Move
 }
 
 // Whether a move is one of a train with n runs.
+#[tactic(auto, unfolding(spec::specs::Plan::if_run))]
 fn is_move(m: Move, n: usize) -> bool
     ensures { result ≡ if_run (held_move m) (λ k. ltb k n) }
 {
     match m {
         Move::Run(r) => r < n,
-        Move::Absent => true,
-        Move::Gone => true,
+        Move::Absent | Move::Gone => true,
     }
 }
 
 // Whether a move is gone.
+#[tactic(auto, unfolding(spec::specs::Plan::is_gone))]
 pub fn is_gone(m: Move) -> bool
     ensures { result ≡ is_gone (held_move m) }
 {
-    match m {
-        Move::Run(_) => false,
-        Move::Absent => false,
-        Move::Gone => true,
-    }
+    m == Move::Gone
 }
 
 // Whether a train's moves are those of a train with n runs.
@@ -93,16 +89,7 @@ fn train_fits(b: Book, plan: &[u8], train: usize, n: usize) -> bool
     ensures { result ≡ all (λ t. is_move (instance_of (held b)) train ((plan_of (instance_of (held b)) plan.now).move train t))
         (up_to (instance_of (held b)).intervals) }
 {
-    let intervals = b.intervals;
-    let mut interval = 0;
-    while interval < intervals {
-        let m = move_at(b, plan, train, interval);
-        if !is_move(m, n) {
-            return false;
-        }
-        interval += 1;
-    }
-    true
+    (0..b.intervals).all(|interval| is_move(move_at(b, plan, train, interval), n))
 }
 
 // Whether every train's moves are its own.
@@ -111,15 +98,7 @@ fn moves_fit(b: Book, counts: Counts, plan: &[u8]) -> bool
     ensures { result ≡ all (λ i. all (λ t. is_move (instance_of (held b)) i ((plan_of (instance_of (held b)) plan.now).move i t))
         (up_to (instance_of (held b)).intervals)) (up_to (instance_of (held b)).trains) }
 {
-    let trains = b.train_count;
-    let mut i = 0;
-    while i < trains {
-        if !train_fits(b, plan, i, counts[i]) {
-            return false;
-        }
-        i += 1;
-    }
-    true
+    (0..b.train_count).all(|i| train_fits(b, plan, i, counts[i]))
 }
 
 // 15: whether the bytes are a plan's.

@@ -12,7 +12,7 @@ ghost use Rattle.tables.specs.Ready.{Counted};
 ghost use Rattle.layout.specs.Blocks.{intervals_most, first_most, base_most, block_room, variables_most};
 
 use crate::counter::counter_of;
-use model::{Book, Cap, Counts};
+use model::{Book, Counts};
 
 // Gone's variable in the interval whose first variable is `base`, of a train with n runs.
 pub fn gone_variable(base: usize, n: usize) -> usize
@@ -61,10 +61,8 @@ pub fn first_variable(b: Book, counts: Counts, train: usize) -> usize
     ensures { result ≡ first_var (instance_of (held b)) train }
 {
     let mut first = b.node_count;
-    let mut j = 0;
-    while j < train {
-        first = base_from(first, counts[j], b.segment_count, b.intervals);
-        j += 1;
+    for n in &counts[..train] {
+        first = base_from(first, *n, b.segment_count, b.intervals);
     }
     first
 }
@@ -79,7 +77,7 @@ pub fn own_variables(b: Book, counts: Counts) -> usize
 }
 
 // How many variables the formula has under a cap: the counter's follow all others.
-pub fn variable_count(b: Book, counts: Counts, cap: Cap) -> usize
+pub fn variable_count(b: Book, counts: Counts, cap: Option<usize>) -> usize
     requires { Counted b counts }
     ensures { (result ≡ variables (under (held_cap cap) (instance_of (held b)))) × (result ≤ variables_most) }
 {

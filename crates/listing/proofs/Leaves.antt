@@ -8,7 +8,7 @@ use native.Mathlib.Numerals.{add-one}
 use native.Mathlib.Omega.{arith}
 use mathlib.Core.List.{List, [], ◌∷◌, ◌++◌, map, map-append, append-nil, append_assoc}
 use lib.ListN.{length, get_or, take, drop, set, length-append, length-map}
-use lib.Seq.{sets, slice, sets-eq, take-suc, take-nil, take-append-add, take-append_seam, drop-append_seam, length-take-le}
+use lib.Seq.{drop-drop, sets, slice, sets-eq, take-suc, take-nil, take-append-add, take-append_seam, drop-append_seam, length-take-le}
 use Rattle.spec.specs.Lists.{Bytes, one, each, up_to}
 use Rattle.spec.specs.Held.{padded}
 use Rattle.listing.specs.declared.Path.{Path}
@@ -57,6 +57,13 @@ module _ {ℓ} {A : Type ℓ} where
       (ap (drop (length p.front)) (take-append-add p.front (ys ++ p.rest) (length ys))
       ∙ drop-append_seam p.front (take (length ys) (ys ++ p.rest))
       ∙ take-append_seam ys p.rest)
+
+  -- a part that was copied over
+  pub put_mid-sets : (xs ys : List A) (a k : ℕ) → length ys ≡ k → a + k ≤ length xs → take a xs ++ (ys ++ drop k (drop a xs)) ≡ sets xs a ys
+  put_mid-sets xs ys a k e h =
+      ap (λ (l : List A). take a xs ++ (ys ++ l)) (drop-drop k a xs ∙ ap (λ (n : ℕ). drop (a + n) xs) (sym e))
+      ∙ sym (append_assoc (take a xs) ys (drop (a + length ys) xs))
+      ∙ sym (sets-eq ys xs a (omega arith))
 
 -- ---- a path by value
 

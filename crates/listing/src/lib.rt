@@ -42,7 +42,7 @@ pub const SUCCESSOR_BYTES: usize = FAN_BYTES * FAN_BYTES;
 const STOP: usize = MAX_RUNS + 1;
 
 // A path by value: its first n directed segments, zeros behind.
-#[derive(Clone, Copy)]
+#[derive(Clone, Copy, Debug, PartialEq, Eq)]
 pub struct Path {
     pub at: [u8; RUN_SEGMENTS],
     pub n: usize,
@@ -54,20 +54,17 @@ fn fill_fan(b: Book, d: usize, table: &mut [u8]) -> usize
     ensures { (result ≡ length (successors (held b) d)) × (result ≤ fan_bytes)
         × (table.new ≡ sets table.old (d * fan_bytes) (successors (held b) d)) }
 {
-    let n = 2 * b.segment_count;
     let node = end_node(b, d);
     let joins = b.joins;
     let count = b.join_count;
     let base = d * FAN_BYTES;
     let mut found = 0;
-    let mut e = 0;
-    while e < n {
+    for e in 0..2 * b.segment_count {
         let s = b.segments[e / 2];
         if start_in(s, e) == node && join_among(joins, count, node, d / 2, e / 2) {
             table[base + found] = e as u8;
             found += 1;
         }
-        e += 1;
     }
     found
 }
@@ -78,11 +75,8 @@ pub fn fill_successors(b: Book, table: &mut [u8], widths: &mut [u8])
     ensures { (table.new ≡ successor_table (held b) (2 * b.segment_count) table.old)
         × (widths.new ≡ sets widths.old 0 (fan_widths (held b) (2 * b.segment_count))) }
 {
-    let n = 2 * b.segment_count;
-    let mut d = 0;
-    while d < n {
+    for d in 0..2 * b.segment_count {
         widths[d] = fill_fan(b, d, table) as u8;
-        d += 1;
     }
 }
 
@@ -91,14 +85,9 @@ fn uses(path: Path, segment: usize) -> bool
     requires { path.n ≤ run_segments }
     ensures { result ≡ has segment (map book.segment_of (path_of path)) }
 {
-    let mut i = 0;
-    while i < path.n {
-        if segment == wide(path.at[i]) / 2 {
-            return true;
-        }
-        i += 1;
-    }
-    false
+    path.at[..path.n]
+        .iter()
+        .any(|d| segment == usize::from(*d) / 2)
 }
 
 // The last directed segment of a path.
@@ -106,8 +95,7 @@ fn last_of(path: Path) -> usize
     requires { (1 ≤ path.n) × (path.n ≤ run_segments) }
     ensures { result ≡ last_or 0 (path_of path) }
 {
-    let last = path.n - 1;
-    wide(path.at[last])
+    usize::from(path.at[path.n - 1])
 }
 
 // The path with one more directed segment.
@@ -129,13 +117,8 @@ fn keep(runs: &mut [u8], count: usize, path: Path)
 {
     if count < MAX_RUNS {
         let base = count * ENTRY_BYTES;
-        runs[base] = (path.n % 256) as u8;
-        let first = base + 1;
-        let mut i = 0;
-        while i < RUN_SEGMENTS {
-            runs[first + i] = path.at[i];
-            i += 1;
-        }
+        runs[base] = path.n as u8;
+        runs[base + 1..base + ENTRY_BYTES].copy_from_slice(&path.at);
     }
 }
 
@@ -146,12 +129,8 @@ fn path_at(runs: &[u8], r: usize, l: usize) -> Path
 {
     let base = r * ENTRY_BYTES + 1;
     let mut at = [0u8; RUN_SEGMENTS];
-    let mut i = 0;
-    while i < l {
-        at[i] = runs[base + i];
-        i += 1;
-    }
-    Path { at: at, n: l }
+    at[..l].copy_from_slice(&runs[base..base + l]);
+    Path { at, n: l }
 }
 
 // Lists the paths that extend a path by `missing` segments, in dictionary order, behind the first
@@ -174,6 +153,7 @@ fn extend(
         return count + 1;
     }
     let last = last_of(path);
+    // The run listing's recursion is a form of document 01; its loop, and `wide` in it, stay with the proof of that form.
     let width = wide(widths[last]);
     let base = last * FAN_BYTES;
     let mut found = count;
@@ -196,15 +176,16 @@ fn list_paths(table: &[u8], widths: &[u8], directed: usize, runs: &mut [u8], siz
         × (runs.new ≡ runs_after 0 (paths_by table.now widths.now directed size) runs.old) }
 {
     let mut found = 0;
-    let mut d = 0;
-    while d < directed && found < STOP {
+    for d in 0..directed {
+        if found == STOP {
+            break;
+        }
         let mut path = Path {
             at: [0u8; RUN_SEGMENTS],
             n: 1,
         };
         path.at[0] = d as u8;
         found = extend(table, widths, runs, found, path, size - 1);
-        d += 1;
     }
     found
 }
@@ -229,11 +210,12 @@ fn list_longer(
         (longer_by table.now widths.now (places_in runs.old l places) missing) runs.old) }
 {
     let mut found = count;
-    let mut place = 0;
-    while place < places && found < STOP {
+    for place in 0..places {
+        if found == STOP {
+            break;
+        }
         let path = path_at(runs, place, l);
         found = extend(table, widths, runs, found, path, missing);
-        place += 1;
     }
     found
 }
@@ -257,10 +239,8 @@ fn list_further(
         (further_by table.now widths.now (places_in runs.old l places) k) runs.old) }
 {
     let mut found = places;
-    let mut j = 0;
-    while j < k {
-        j += 1;
-        found = list_longer(table, widths, runs, places, found, l, j);
+    for j in 0..k {
+        found = list_longer(table, widths, runs, places, found, l, j + 1);
     }
     found
 }
@@ -288,17 +268,13 @@ pub fn list_trains(b: Book, runs: &mut [u8]) -> Counts
     requires { CountsFit b × NumbersFit b × T (growing (held b)) × FitsFields (held b) × (length runs.old ≡ table_bytes) }
     ensures { (result ≡ run_counts (held b)) × (runs.new ≡ run_table (held b) runs.old) }
 {
-    let n = b.train_count;
     let mut table = [0u8; SUCCESSOR_BYTES];
     let mut widths = [0u8; FAN_BYTES];
     fill_successors(b, &mut table, &mut widths);
     let mut counts = [0usize; MAX_TRAINS];
-    let mut i = 0;
-    while i < n {
-        let t = b.trains[i];
+    for (i, t) in b.trains[..b.train_count].iter().enumerate() {
         let at = i * TRAIN_BYTES;
-        counts[i] = list_runs(b, t, &table, &widths, &mut runs[at..at + TRAIN_BYTES]);
-        i += 1;
+        counts[i] = list_runs(b, *t, &table, &widths, &mut runs[at..at + TRAIN_BYTES]);
     }
     counts
 }

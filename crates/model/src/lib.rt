@@ -1,7 +1,11 @@
 // The book by value: document 01's records as structs, with counts. The specification's segments,
 // joins and calls are these very structs; a train's place and the book's rows are, there, lists of
-// the length that stands beside the array here. There are no functions, so nothing is to prove.
+// the length that stands beside the array here. And why an input is refused, by name.
 #![tactic(auto)]
+
+pub mod refusals;
+
+pub use refusals::Refusal;
 
 // The limits of document 01, and T's of document 02, each once in code: the contracts of the functions
 // that test them tie them to the specification's. MAX_CALLS is a train's, MAX_REACH the greatest l and k.
@@ -25,13 +29,6 @@ pub const MAX_TTD: usize = 63;
 pub const MAX_REACH: usize = 8;
 
 pub const MAX_RUNS: usize = 256;
-
-// P7: at most how many nodes of kind 1 may be set, or no cap.
-#[derive(Clone, Copy)]
-pub enum Cap {
-    No,
-    AtMost(usize),
-}
 
 // A number for each train.
 pub type Counts = [usize; MAX_TRAINS];

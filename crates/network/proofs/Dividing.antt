@@ -2,25 +2,26 @@
 -- that a segment of the TTD before it touches. And the marks of an array after a segment's ends are marked. Assumes nothing.
 use mathlib.Core.Path.{◌≡◌, refl, sym, ap, ◌∙◌}
 use mathlib.Core.Logic.{◌⊎◌, inl, inr, ⊎_elim}
-use mathlib.Core.Bool.{Bool, false, not, ◌&&◌, ◌||◌, or_assoc, or-true, or-false}
+use mathlib.Core.Bool.{Bool, true, false, not, ◌&&◌, ◌||◌, or_assoc, or-true, or-false}
 use Prim.Native.Nat.{ℕ, zero, suc, ◌+◌, ◌≤◌, ◌<◌}
 use native.Mathlib.Numerals.{add-one}
 use native.Mathlib.Omega.{arith}
 use borrow.Author.Tests.{eqb-false, eq-eqb, ne_eqb}
 use mathlib.Core.List.{List}
-use lib.ListN.{length, get_or, set, replicate, length-set, length-take}
+use lib.ListN.{length, get_or, set, take, replicate, length-set, length-take}
 use lib.Seq.{get_or-set_same, get_or-set_other}
 use lib.Dec.{T, eqb, eqb_refl, eqb→eq}
 use lib.Arith.{lt_of_le-ne}
 use Rattle.model.specs.declared.Book.{Book as BookStruct}
-use Rattle.spec.specs.Lists.{any, all, up_to, count}
+use Rattle.spec.specs.Lists.{any, all, up_to, count, range}
 use Rattle.spec.specs.Book.{Book, Segment, segment_at, node_kind_at, denies_border, touches, share_node}
 use Rattle.spec.specs.Read.{segment_fits, may_divide}
-use Rattle.spec.specs.Held.{held, zero_segment}
+use Rattle.spec.specs.Held.{held, zero_segment, CountsFit}
 use Rattle.laws.proofs.Tests.{meaning, and-iff, or-iff, eqb-iff, any-up_to, bool-ext, le-or-lt, decide, true_of, denied-of, all-at}
 use Rattle.laws.proofs.Rows.{any_append, any-one}
 use Rattle.laws.proofs.Parts.{up_to-suc}
-use Rattle.network.proofs.Held.{kind_at, segment-at}
+use Rattle.network.proofs.Held.{kind_at}
+use Rattle.network.proofs.Rests.{any-range-next, any-range-end, any-range-all}
 
 -- a segment's ends are what it touches
 touches-a : (s : Segment) → T (touches s s.a)
@@ -48,11 +49,11 @@ unfoldable pub hits : Book → ℕ → ℕ → Bool
 hits b ttd t = eqb (segment_at b t).ttd ttd && (opens b ttd t (segment_at b t).a || opens b ttd t (segment_at b t).b)
 
 module _ (b : Book) (ttd : ℕ) where
-  pub touched_none : (m : ℕ) → touched b ttd 0 m ≡ false
+  touched_none : (m : ℕ) → touched b ttd 0 m ≡ false
   unfolding touched any up_to count
   touched_none m = refl
 
-  pub touched-next : (t m : ℕ)
+  touched-next : (t m : ℕ)
       → touched b ttd (t + 1) m ≡ (touched b ttd t m || (eqb (segment_at b t).ttd ttd && touches (segment_at b t) m))
   unfolding touched
   touched-next t m = rw (add-one, up_to-suc) (any_append _ (up_to t) _ ∙ simp any-one)
@@ -116,10 +117,10 @@ module _ (b : Book) (ttd : ℕ) where
     unfolding segment_at segment_fits
     ends = let f = simp meaning at (all-at (segment_fits b) b.segments t (record { a = 0; b = 0; ttd = 0 }) fits l) in f.0.0
 
-    pub end-a : (segment_at b t).a < length b.nodes
+    end-a : (segment_at b t).a < length b.nodes
     end-a = ends.0
 
-    pub end-b : (segment_at b t).b < length b.nodes
+    end-b : (segment_at b t).b < length b.nodes
     end-b = ends.1
 
     hit-divides : T (hits b ttd t) → T (may_divide b ttd)
@@ -133,94 +134,118 @@ module _ (b : Book) (ttd : ℕ) where
         (meet-divide s.b t end-b l o (touches-b s))
         ((or-iff (opens b ttd t s.a) (opens b ttd t s.b)).0 r.1)
 
-  pub divide-by-segment : T (all (segment_fits b) b.segments) → may_divide b ttd ≡ any (hits b ttd) (up_to (length b.segments))
+  divide-by-segment : T (all (segment_fits b) b.segments) → may_divide b ttd ≡ any (hits b ttd) (up_to (length b.segments))
   divide-by-segment fits =
       bool-ext (may_divide b ttd) (any (hits b ttd) (up_to (length b.segments)))
       divide-hits
       (λ h. let r = (any-up_to (hits b ttd) (length b.segments)).0 h in hit-divides fits r.0 r.1 r.2)
 
 -- a node is marked: it is marked now, and the others as they were
-pub marked : (marks : List ℕ) (a m : ℕ) → a < length marks → eqb (get_or (set marks a 1) m 0) 1 ≡ (eqb (get_or marks m 0) 1 || eqb a m)
-marked marks a m l =
+marked : (seen : List Bool) (a m : ℕ) → a < length seen → get_or (set seen a true) m false ≡ (get_or seen m false || eqb a m)
+marked seen a m l =
     decide (eqb a m)
     (λ t.
-    let e : get_or (set marks a 1) m 0 ≡ 1 = ap (λ (k : ℕ). get_or (set marks a 1) k 0) (sym (eqb→eq a m t)) ∙ get_or-set_same marks a 1 0 l in
+    let e : get_or (set seen a true) m false ≡ true = ap (λ (k : ℕ). get_or (set seen a true) k false) (sym (eqb→eq a m t)) ∙ get_or-set_same seen a true false l in
     let h = true_of (eqb a m) t in
     simp (e, h, or-true))
     (λ t.
     let h = denied-of (eqb a m) t in
-    let e = get_or-set_other marks a m 1 0 (λ q. eqb-false a m h (sym q)) in
+    let e = get_or-set_other seen a m true false (λ q. eqb-false a m h (sym q)) in
     simp (e, h, or-false))
 
 -- both ends of a segment are marked: what it touches is marked now, and the others as they were
-pub marked-ends : (marks : List ℕ) (s : Segment) (m : ℕ) → s.a < length marks → s.b < length marks
-    → eqb (get_or (set (set marks s.a 1) s.b 1) m 0) 1 ≡ (eqb (get_or marks m 0) 1 || touches s m)
+marked-ends : (seen : List Bool) (s : Segment) (m : ℕ) → s.a < length seen → s.b < length seen
+    → get_or (set (set seen s.a true) s.b true) m false ≡ (get_or seen m false || touches s m)
 unfolding touches
-marked-ends marks s m la lb =
-    marked (set marks s.a 1) s.b m (rw length-set lb)
-    ∙ ap (λ (x : Bool). x || eqb s.b m) (marked marks s.a m la)
-    ∙ or_assoc (eqb (get_or marks m 0) 1) (eqb s.a m) (eqb s.b m)
+marked-ends seen s m la lb =
+    marked (set seen s.a true) s.b m (rw length-set lb)
+    ∙ ap (λ (x : Bool). x || eqb s.b m) (marked seen s.a m la)
+    ∙ or_assoc (get_or seen m false) (eqb s.a m) (eqb s.b m)
 
 -- ---- the same of a book's struct, at its segment i
 
 -- the marks are of the nodes that a segment of the TTD below i touches
-abbrev pub Marks : BookStruct → ℕ → ℕ → List ℕ → Type 0
-Marks b ttd i marks = (m : ℕ) → eqb (get_or marks m 0) 1 ≡ touched (held b) ttd i m
+abbrev pub Marks : BookStruct → ℕ → ℕ → List Bool → Type 0
+Marks b ttd i seen = (m : ℕ) → get_or seen m false ≡ touched (held b) ttd i m
 
 -- the node may have a border, and is marked
-abbrev pub open_here : BookStruct → List ℕ → ℕ → Bool
-open_here b marks m = not (denies_border (get_or b.nodes m 0)) && eqb (get_or marks m 0) 1
+abbrev pub open_here : BookStruct → List Bool → ℕ → Bool
+open_here b seen m = not (denies_border (get_or b.nodes m 0)) && get_or seen m false
 
-get_or-zeros : (n m : ℕ) → ◌≡◌ {A = ℕ} (get_or (replicate n 0) m 0) 0
-get_or-zeros zero m = refl
-get_or-zeros (suc n) zero = refl
-get_or-zeros (suc n) (suc m) = get_or-zeros n m
+get_or-unmarked : (n m : ℕ) → get_or (replicate n false) m false ≡ false
+get_or-unmarked zero m = refl
+get_or-unmarked (suc n) zero = refl
+get_or-unmarked (suc n) (suc m) = get_or-unmarked n m
 
-pub marks-none : (b : BookStruct) (ttd n : ℕ) → Marks b ttd 0 (replicate n 0)
-marks-none b ttd n m = rw (get_or-zeros n m, touched_none (held b) ttd m)
+pub marks-none : (b : BookStruct) (ttd n : ℕ) → Marks b ttd 0 (replicate n false)
+marks-none b ttd n m = rw (get_or-unmarked n m, touched_none (held b) ttd m)
 
-module _ (b : BookStruct) (ttd i : ℕ) (l : i < b.segment_count) (room : b.segment_count ≤ length b.segments)
-    (fits : T (all (segment_fits (held b)) (held b).segments)) where
+-- the array's segments, as far as the book has any
+abbrev pub row : BookStruct → List Segment
+row b = take b.segment_count b.segments
+
+-- whether a segment from i on is hit
+abbrev pub hit_from : BookStruct → ℕ → ℕ → Bool
+hit_from b ttd i = any (hits (held b) ttd) (range i (length (row b)))
+
+pub hit-whole : (b : BookStruct) (ttd : ℕ) → T (all (segment_fits (held b)) (held b).segments) → may_divide (held b) ttd ≡ hit_from b ttd 0
+unfolding held
+hit-whole b ttd fits = divide-by-segment (held b) ttd fits ∙ any-range-all (hits (held b) ttd) (length (row b))
+
+pub hit-none : (b : BookStruct) (ttd i : ℕ) → length (row b) ≤ i → hit_from b ttd i ≡ false
+hit-none b ttd i h = any-range-end (hits (held b) ttd) (length (row b)) i h
+
+module _ (b : BookStruct) (i : ℕ) (l : i < length (row b)) (fits : T (all (segment_fits (held b)) (held b).segments)) where
   abbrev x : Segment
-  x = get_or b.segments i zero_segment
-
-  here : segment_at (held b) i ≡ x
-  here = segment-at b i l
-
-  below : i < length (held b).segments
-  unfolding held
-  below = rw length-take (omega arith)
+  x = get_or (row b) i zero_segment
 
   -- its ends are nodes of the book
-  inside : (m : ℕ) → m < length (held b).nodes → m < b.node_count
-  unfolding held
-  inside m h = let e = length-take b.node_count b.nodes in omega arith
+  ends-inside : (x.a < b.node_count) × (x.b < b.node_count)
+  unfolding held segment_at
+  ends-inside =
+      let e = length-take b.node_count b.nodes in
+      let la = end-a (held b) 0 fits i l in
+      let lb = end-b (held b) 0 fits i l in
+      (omega arith, omega arith)
 
-  pub a-inside : x.a < b.node_count
-  a-inside = inside x.a (rw here at (end-a (held b) ttd fits i below))
+  pub ends-fit : CountsFit b → (x.a < 96) × (x.b < 96)
+  ends-fit c = (omega (arith, c.nodes, ends-inside), omega (arith, c.nodes, ends-inside))
 
-  pub b-inside : x.b < b.node_count
-  b-inside = inside x.b (rw here at (end-b (held b) ttd fits i below))
-
-  module _ (marks : List ℕ) (known : Marks b ttd i marks) where
-    open_at : (m : ℕ) → m < b.node_count → opens (held b) ttd i m ≡ open_here b marks m
+  module _ (ttd : ℕ) (seen : List Bool) (known : Marks b ttd i seen) where
+    open_at : (m : ℕ) → m < b.node_count → opens (held b) ttd i m ≡ open_here b seen m
     unfolding opens
     open_at m h =
         ap (λ (k : ℕ). not (denies_border k) && touched (held b) ttd i m) (kind_at b m h)
         ∙ ap (λ (t : Bool). not (denies_border (get_or b.nodes m 0)) && t) (sym (known m))
 
-    pub hits-here : hits (held b) ttd i ≡ (eqb x.ttd ttd && (open_here b marks x.a || open_here b marks x.b))
-    unfolding hits
-    hits-here = rw (here, open_at x.a a-inside, open_at x.b b-inside)
+    hits-here : hits (held b) ttd i ≡ (eqb x.ttd ttd && (open_here b seen x.a || open_here b seen x.b))
+    unfolding hits held segment_at
+    hits-here = rw (open_at x.a ends-inside.0, open_at x.b ends-inside.1)
 
-    -- the marks after it, where it is of the TTD and where it is not
-    pub marks-ends : x.ttd ≡ ttd → (a e : ℕ) → a ≡ x.a → e ≡ x.b → a < length marks → e < length marks
-        → Marks b ttd (i + 1) (set (set marks a 1) e 1)
-    marks-ends o a e ea eb la lb m =
-        let h = eq-eqb x.ttd ttd o in
-        rw (ea, eb) (marked-ends marks x m (rw ea at la) (rw eb at lb))
-        ∙ ap (λ (t : Bool). t || touches x m) (known m)
-        ∙ sym (touched-next (held b) ttd i m ∙ simp (here, h))
+    -- whether one from i on is hit: it is of the TTD, and an end may have a border and is marked, or one behind it is hit
+    turn : hit_from b ttd i ≡ (eqb x.ttd ttd && (open_here b seen x.a || open_here b seen x.b) || hit_from b ttd (i + 1))
+    turn =
+        any-range-next (hits (held b) ttd) (length (row b)) i l
+        ∙ ap (λ (h : Bool). h || hit_from b ttd (i + 1)) hits-here
 
-    pub marks-other : (x.ttd ≡ ttd → ⊥) → Marks b ttd (i + 1) marks
-    marks-other o m = let e = ne_eqb x.ttd ttd o in known m ∙ sym (touched-next (held b) ttd i m ∙ simp (here, e, or-false))
+    -- a segment of the TTD, whose ends are m and k
+    module _ (o : x.ttd ≡ ttd) (m k : ℕ) (em : m ≡ x.a) (ek : k ≡ x.b) where
+      pub turn-of : hit_from b ttd i ≡ (open_here b seen m || open_here b seen k || hit_from b ttd (i + 1))
+      turn-of = let h = eq-eqb x.ttd ttd o in rw (em, ek) (turn ∙ simp h)
+
+      pub marks-of : m < length seen → k < length seen → Marks b ttd (i + 1) (set (set seen m true) k true)
+      unfolding held segment_at
+      marks-of lm lk j =
+          let h = eq-eqb x.ttd ttd o in
+          rw (em, ek) (marked-ends seen x j (rw em at lm) (rw ek at lk))
+          ∙ ap (λ (t : Bool). t || touches x j) (known j)
+          ∙ sym (touched-next (held b) ttd i j ∙ simp h)
+
+    -- and a segment of another TTD
+    module _ (o : x.ttd ≡ ttd → ⊥) where
+      pub turn-other : hit_from b ttd i ≡ hit_from b ttd (i + 1)
+      turn-other = let h = ne_eqb x.ttd ttd o in turn ∙ simp h
+
+      pub marks-other : Marks b ttd (i + 1) seen
+      unfolding held segment_at
+      marks-other m = let e = ne_eqb x.ttd ttd o in known m ∙ sym (touched-next (held b) ttd i m ∙ simp (e, or-false))

@@ -1,4 +1,5 @@
 pub mod Held
+pub mod Chains
 pub mod Walks
 pub mod Links
 pub mod Rests

@@ -1,7 +1,7 @@
 -- Loops over a row of an array: tests over `slice i n xs`, the elements from i up to n, one element at a time; the test of one
 -- element of a row that passes; and the length of an array of structs, from what is known of it. Assumes nothing.
 use mathlib.Core.Path.{◌≡◌, sym, ap, ◌∙◌}
-use mathlib.Core.Bool.{Bool, true, false, ◌&&◌, ◌||◌}
+use mathlib.Core.Bool.{Bool, false, ◌||◌}
 use Prim.Native.Nat.{ℕ, ◌+◌, ◌≤◌, ◌<◌}
 use native.Mathlib.Numerals.{add-one}
 use native.Mathlib.Omega.{arith}
@@ -25,10 +25,6 @@ module _ {ℓ} {A : Type ℓ} (xs : List A) (n i : ℕ) (d : A) (l : i < n) (fit
   unfolding any
   any_next f = ap (any f) slice-next
 
-  pub all-next : (f : A → Bool) → all f (slice i n xs) ≡ (f (get_or xs i d) && all f (slice (i + 1) n xs))
-  unfolding all
-  all-next f = ap (all f) slice-next
-
 -- nothing is left at the end
 module _ {ℓ} {A : Type ℓ} (xs : List A) (n i : ℕ) (l : n ≤ i) where
   pub slice-end : slice i n xs ≡ []
@@ -37,10 +33,6 @@ module _ {ℓ} {A : Type ℓ} (xs : List A) (n i : ℕ) (l : n ≤ i) where
   pub any-end : (f : A → Bool) → any f (slice i n xs) ≡ false
   unfolding any
   any-end f = ap (any f) slice-end
-
-  pub all_end : (f : A → Bool) → all f (slice i n xs) ≡ true
-  unfolding all
-  all_end f = ap (all f) slice-end
 
 -- a row that passes, passes at each place
 module _ {ℓ} {A : Type ℓ} (f : A → Bool) where

@@ -10,7 +10,6 @@ ghost use Rattle.spec.specs.Instance.{instance_of, free_nodes_of};
 ghost use Rattle.spec.specs.Read.{max_joins, max_reach};
 ghost use Rattle.spec.specs.Held.{held, held_train, CountsFit, NumbersFit};
 
-use frames::bytes::wide;
 use model::{Book, Join, MAX_JOINS, MAX_REACH, Segment, Train};
 
 // Whether a node of this kind is an exit.
@@ -46,30 +45,24 @@ pub fn count_free(b: Book) -> usize
     requires { CountsFit b }
     ensures { (result ≡ length (free_nodes_of (instance_of (held b)))) × (result ≤ b.node_count) }
 {
-    let nodes = b.node_count;
-    let mut free = 0;
-    let mut node = 0;
-    while node < nodes {
-        if is_free(b.nodes[node]) {
-            free += 1;
-        }
-        node += 1;
-    }
-    free
+    b.nodes[..b.node_count]
+        .iter()
+        .filter(|kind| is_free(**kind))
+        .count()
 }
 
 // Whether the segment touches the node.
 pub fn touches(s: Segment, node: usize) -> bool
     ensures { result ≡ book.touches s node }
 {
-    wide(s.a) == node || wide(s.b) == node
+    usize::from(s.a) == node || usize::from(s.b) == node
 }
 
 // Of two nodes the one for the direction of d: the first if it runs from a to b of its segment.
 fn by_direction(d: usize, forth: u8, back: u8) -> usize
     ensures { (result ≡ cond (eqb (d % 2) 0) forth back) × (result < 256) }
 {
-    if d % 2 == 0 { wide(forth) } else { wide(back) }
+    usize::from(if d % 2 == 0 { forth } else { back })
 }
 
 // The node where directed segment d begins, s being the record of its segment.
@@ -116,9 +109,9 @@ pub fn ends_at_exit(b: Book, d: usize) -> bool
 fn join_is(node: usize, s: usize, t: usize, j: Join) -> bool
     ensures { result ≡ book.join_is node s t j }
 {
-    let left = wide(j.left);
-    let right = wide(j.right);
-    wide(j.node) == node && (left == s && right == t || left == t && right == s)
+    let left = usize::from(j.left);
+    let right = usize::from(j.right);
+    usize::from(j.node) == node && (left == s && right == t || left == t && right == s)
 }
 
 // Whether one of the first n joins is of these two segments at this node. It takes the joins and not
@@ -127,14 +120,7 @@ pub fn join_among(joins: [Join; MAX_JOINS], n: usize, node: usize, s: usize, t: 
     requires { n ≤ max_joins }
     ensures { result ≡ lists.any (book.join_is node s t) (take n joins) }
 {
-    let mut i = 0;
-    while i < n {
-        if join_is(node, s, t, joins[i]) {
-            return true;
-        }
-        i += 1;
-    }
-    false
+    joins[..n].iter().any(|j| join_is(node, s, t, *j))
 }
 
 // Whether some join is of these two segments at this node.
@@ -186,16 +172,11 @@ fn all_different(place: [u8; MAX_REACH], n: usize) -> bool
     requires { n ≤ max_reach }
     ensures { result ≡ lists.different (map book.segment_of (take n place)) }
 {
-    let mut i = 0;
-    while i < n {
-        let mut j = i + 1;
-        while j < n {
-            if place[i] / 2 == place[j] / 2 {
-                return false;
-            }
-            j += 1;
+    let used = &place[..n];
+    for (i, d) in used.iter().enumerate() {
+        if used[i + 1..].iter().any(|e| d / 2 == e / 2) {
+            return false;
         }
-        i += 1;
     }
     true
 }
@@ -205,12 +186,10 @@ fn all_linked(b: Book, place: [u8; MAX_REACH], n: usize) -> bool
     requires { CountsFit b × (n ≤ max_reach) × T (lists.all (λ d. ltb d (2 * b.segment_count)) (take n place)) }
     ensures { result ≡ runs.linked (held b) (take n place) }
 {
-    let mut i = 1;
-    while i < n {
-        if !leads_to(b, wide(place[i - 1]), wide(place[i])) {
+    for pair in place[..n].windows(2) {
+        if !leads_to(b, usize::from(pair[0]), usize::from(pair[1])) {
             return false;
         }
-        i += 1;
     }
     true
 }

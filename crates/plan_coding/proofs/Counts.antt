@@ -1,9 +1,10 @@
 -- Counting listed nodes that have a border, one after the other; and the rows of a counter as the values of its variables. Assumes nothing.
 use mathlib.Core.Path.{◌≡◌, refl, sym, ap, ◌∙◌}
-use mathlib.Core.Bool.{true, false}
+use mathlib.Core.Bool.{Bool, true, false}
 use mathlib.Core.Option.{Option}
 use Prim.Native.Nat.{ℕ, suc, ◌+◌, ◌*◌, ◌≤◌, ◌<◌}
-use native.Mathlib.Nat.{zero-add, suc-mul, mul-le-mul_right}
+use mir.Val.{bool_byte}
+use native.Mathlib.Nat.{add-zero, zero-add, suc-mul, mul-le-mul_right}
 use native.Mathlib.Omega.{arith}
 use mathlib.Core.List.{List}
 use lib.ListN.{length, get_or, length-append, length-map}
@@ -31,13 +32,14 @@ module _ (nodes : List ℕ) (plan : Bytes) where
   set-most n = omega (arith, pick-most (set_in nodes plan) (up_to n), length-up_to n)
 
   -- one more, where the next has a border
-  pub set-taken : (n : ℕ) → set_in nodes plan n ≡ true → set_below nodes plan (n + 1) ≡ set_below nodes plan n + 1
+  pub set-next : (n : ℕ) → set_below nodes plan (n + 1) ≡ set_below nodes plan n + bool_byte (set_in nodes plan n)
   unfolding set_below
-  set-taken n h = ap length (pick-taken (set_in nodes plan) n h) ∙ length-append (pick (set_in nodes plan) (up_to n)) (one n)
-
-  pub set-left : (n : ℕ) → set_in nodes plan n ≡ false → set_below nodes plan (n + 1) ≡ set_below nodes plan n
-  unfolding set_below
-  set-left n h = ap length (pick-left (set_in nodes plan) n h)
+  set-next n = go (set_in nodes plan n) refl
+    where
+      go : (b : Bool) → set_in nodes plan n ≡ b
+          → length (pick (set_in nodes plan) (up_to (n + 1))) ≡ length (pick (set_in nodes plan) (up_to n)) + bool_byte b
+      go true e = ap length (pick-taken (set_in nodes plan) n e) ∙ length-append (pick (set_in nodes plan) (up_to n)) (one n)
+      go false e = ap length (pick-left (set_in nodes plan) n e) ∙ sym (add-zero _)
 
   -- a row has a byte for each spare node
   pub row-length : (spare j : ℕ) → length (count_bytes nodes plan spare j) ≡ spare

@@ -16,18 +16,14 @@ ghost use Rattle.plan_coding.specs.Encoded.{set_below, count_bytes};
 
 use layout::counter::{Counter, counter_of, list_free};
 use layout::numbering::own_variables;
-use model::{Book, Cap, Counts, MAX_NODES};
+use model::{Book, Counts, MAX_NODES};
 
 // How many of the first n + 1 listed nodes have a border, where `set` of the first n do.
 fn with_next(set: usize, n: usize, nodes: &[usize; MAX_NODES], plan: &[u8]) -> usize
     requires { (n < max_nodes) × (get_or nodes.now n 0 < length plan.now) × (set ≡ set_below nodes.now plan.now n) }
     ensures { result ≡ set_below nodes.now plan.now (n + 1) }
 {
-    let node = nodes[n];
-    if plan[node] == 1 {
-        return set + 1;
-    }
-    set
+    set + usize::from(plan[nodes[n]] == 1)
 }
 
 // Writes the bytes of one j from `at` on; `set` of the first j listed nodes have a border.
@@ -45,11 +41,9 @@ fn write_row(
     ensures { out.new ≡ sets out.old at (count_bytes nodes.now plan.now spare j) }
 {
     let mut n = set;
-    let mut k = 0;
-    while k < spare {
+    for (k, byte) in out[at..at + spare].iter_mut().enumerate() {
         n = with_next(n, j + k, nodes, plan);
-        out[at + k] = if j < n { 1 } else { 0 };
-        k += 1;
+        *byte = u8::from(j < n);
     }
 }
 
@@ -60,21 +54,17 @@ fn write_rows(c: Counter, first: usize, nodes: &[usize; MAX_NODES], plan: &[u8],
     ensures { out.new ≡ sets out.old first
         (each (up_to c.most) (count_bytes nodes.now plan.now c.spare)) }
 {
-    let most = c.most;
-    let spare = c.spare;
     let mut at = first;
     let mut set = 0;
-    let mut j = 0;
-    while j < most {
-        write_row(at, spare, j, set, nodes, plan, out);
+    for j in 0..c.most {
+        write_row(at, c.spare, j, set, nodes, plan, out);
         set = with_next(set, j, nodes, plan);
-        at += spare;
-        j += 1;
+        at += c.spare;
     }
 }
 
 // Writes the values of a cap's variables, which follow all others.
-pub fn write_counter(b: Book, counts: Counts, cap: Cap, plan: &[u8], out: &mut [u8])
+pub fn write_counter(b: Book, counts: Counts, cap: Option<usize>, plan: &[u8], out: &mut [u8])
     requires { Counted b counts × (b.node_count ≤ length plan.now)
         × (variables (under (held_cap cap) (instance_of (held b))) ≤ length out.old) }
     ensures { out.new ≡ sets out.old (own_variables (instance_of (held b)))

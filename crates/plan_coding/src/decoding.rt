@@ -1,7 +1,7 @@
 // The plan that an assignment decodes to, written into a lent slice: its border bytes, then by train and
 // interval the number of the run whose variable is 1, 65535 where gone is 1, 65534 where neither is.
 // Assumes nothing.
-ghost use Rattle.std.specs.Prelude.{◌≡◌, ◌+◌, ◌≤◌, ◌<◌, length};
+ghost use Rattle.std.specs.Prelude.{◌≡◌, ℕ, ◌+◌, ◌≤◌, ◌<◌, length, true, false, MatchOption};
 ghost use Rattle.std.proofs.lemmas.List.Edits.{sets};
 ghost use Rattle.spec.specs.Read.{max_runs};
 ghost use Rattle.spec.specs.Instance.{instance_of};
@@ -10,7 +10,7 @@ ghost use Rattle.spec.specs.Assignment as assignment;
 ghost use Rattle.spec.specs.Assignment.{assigned};
 ghost use Rattle.spec.specs.Entry.{overwrite};
 ghost use Rattle.spec.specs.Held.{held};
-ghost use Rattle.tables.specs.Tables.{Passed, least_from};
+ghost use Rattle.tables.specs.Tables.{Passed};
 ghost use Rattle.tables.specs.Ready.{Counted};
 ghost use Rattle.layout.specs.Blocks.{block_room};
 ghost use Rattle.plan_coding.specs.Decoded.{border_bytes, code_of, train_bytes};
@@ -22,19 +22,13 @@ use layout::moves::{ABSENT, GONE, move_place};
 use layout::numbering::gone_variable;
 use model::{Book, Counts};
 
-// The first of n runs whose variable is 1, or n where none is; run r's variable is base + r.
-fn first_run(base: usize, n: usize, values: &[u8]) -> usize
+// The first of n runs whose variable is 1; run r's variable is base + r.
+fn first_run(base: usize, n: usize, values: &[u8]) -> Option<usize>
     requires { (base < block_room) × (n ≤ max_runs) }
-    ensures { result ≡ least_from (λ k. assigned values.now (base + k)) 0 n }
+    ensures { MatchOption result ((k : ℕ) → k < n → assigned values.now (base + k) ≡ false)
+        (λ r. (r < n) × (assigned values.now (base + r) ≡ true) × ((k : ℕ) → k < r → assigned values.now (base + k) ≡ false)) }
 {
-    let mut r = 0;
-    while r < n {
-        if value(values, base + r) {
-            return r;
-        }
-        r += 1;
-    }
-    n
+    (0..n).find(|&r| value(values, base + r))
 }
 
 // The plan's number of an interval whose first variable is `base`, of a train with n runs: the run's,
@@ -43,14 +37,11 @@ fn code_of(base: usize, n: usize, values: &[u8]) -> usize
     requires { (base < block_room) × (n ≤ max_runs) }
     ensures { (result ≡ code_of values.now base n) × (result < 65536) }
 {
-    let r = first_run(base, n, values);
-    if r < n {
-        return r;
+    match first_run(base, n, values) {
+        Some(r) => r,
+        None if value(values, gone_variable(base, n)) => GONE,
+        None => ABSENT,
     }
-    if value(values, gone_variable(base, n)) {
-        return GONE;
-    }
-    ABSENT
 }
 
 // Stores the numbers of a train's intervals, each in its place of the plan.
@@ -60,14 +51,11 @@ fn decode_train(b: Book, counts: Counts, train: usize, values: &[u8], out: &mut 
         (train_bytes (instance_of (held b)) values.now train) }
 {
     let first = train_block(b, counts, train);
-    let intervals = b.intervals;
-    let mut interval = 0;
-    while interval < intervals {
+    for interval in 0..b.intervals {
         let block = block_at(b, first, interval);
         let code = code_of(block.base, block.runs, values);
         let at = move_place(b, train, interval);
         put_pair(out, at, code);
-        interval += 1;
     }
 }
 
@@ -76,11 +64,8 @@ fn decode_borders(b: Book, values: &[u8], out: &mut [u8])
     requires { Passed b × (b.node_count ≤ length out.old) }
     ensures { out.new ≡ sets out.old 0 (border_bytes (instance_of (held b)) values.now) }
 {
-    let nodes = b.node_count;
-    let mut node = 0;
-    while node < nodes {
-        out[node] = if value(values, node) { 1 } else { 0 };
-        node += 1;
+    for (node, byte) in out[..b.node_count].iter_mut().enumerate() {
+        *byte = u8::from(value(values, node));
     }
 }
 
@@ -90,10 +75,7 @@ pub fn decode(b: Book, counts: Counts, values: &[u8], out: &mut [u8])
     ensures { out.new ≡ overwrite out.old (assignment.decode (instance_of (held b)) values.now) }
 {
     decode_borders(b, values, out);
-    let trains = b.train_count;
-    let mut train = 0;
-    while train < trains {
+    for train in 0..b.train_count {
         decode_train(b, counts, train, values, out);
-        train += 1;
     }
 }

@@ -20,7 +20,7 @@ use crate::counting::write_counter;
 use layout::blocks::{Block, block_at, train_block};
 use layout::moves::{Move, is_gone, move_at};
 use layout::numbering::{claims_from, gone_variable};
-use model::{Book, Cap, Counts, MAX_SEGMENTS};
+use model::{Book, Counts, MAX_SEGMENTS};
 use plan_rules::apart::{mark, stretch_of};
 
 // Writes a byte for each of the first n nodes: 1 where the plan has a border.
@@ -28,10 +28,8 @@ fn write_borders(n: usize, plan: &[u8], out: &mut [u8])
     requires { (n ≤ length plan.now) × (n ≤ length out.old) }
     ensures { out.new ≡ sets out.old 0 (map (λ k. plans.bit (eqb (get_or plan.now k 0) 1)) (up_to n)) }
 {
-    let mut k = 0;
-    while k < n {
-        out[k] = if plan[k] == 1 { 1 } else { 0 };
-        k += 1;
+    for (k, byte) in out[..n].iter_mut().enumerate() {
+        *byte = u8::from(plan[k] == 1);
     }
 }
 
@@ -39,11 +37,7 @@ fn write_borders(n: usize, plan: &[u8], out: &mut [u8])
 fn is_run(m: Move, r: usize) -> bool
     ensures { result ≡ plans.runs (held_move m) (eqb r) }
 {
-    match m {
-        Move::Run(q) => r == q,
-        Move::Absent => false,
-        Move::Gone => false,
-    }
+    matches!(m, Move::Run(q) if q == r)
 }
 
 // Writes a byte for each of n runs, 1 for the one that the move is, and gone's byte, from `at` on, the
@@ -52,13 +46,10 @@ fn write_move(at: usize, n: usize, m: Move, out: &mut [u8])
     requires { at + n + 1 ≤ length out.old }
     ensures { out.new ≡ sets out.old at (move_bytes (held_move m) n) }
 {
-    let mut r = 0;
-    while r < n {
-        out[at + r] = if is_run(m, r) { 1 } else { 0 };
-        r += 1;
+    for (r, byte) in out[at..at + n].iter_mut().enumerate() {
+        *byte = u8::from(is_run(m, r));
     }
-    let gone = gone_variable(at, n);
-    out[gone] = if is_gone(m) { 1 } else { 0 };
+    out[gone_variable(at, n)] = u8::from(is_gone(m));
 }
 
 // Writes a byte for each of the first n segments from `at` on: 1 where its label is marked.
@@ -67,11 +58,8 @@ fn write_marked(at: usize, n: usize, labels: &[usize], marks: &[u8; MAX_SEGMENTS
     ensures { out.new ≡ sets out.old at
         (map (λ s. plans.bit (is_marked marks.now (get_or labels.now s 0))) (up_to n)) }
 {
-    let mut s = 0;
-    while s < n {
-        let label = labels[s];
-        out[at + s] = if marks[label] == 1 { 1 } else { 0 };
-        s += 1;
+    for (s, byte) in out[at..at + n].iter_mut().enumerate() {
+        *byte = u8::from(marks[labels[s]] == 1);
     }
 }
 
@@ -115,12 +103,9 @@ fn write_train(
         (train_bytes (instance_of (held b)) (plans.plan_of (instance_of (held b)) plan.now) train) }
 {
     let first = train_block(b, counts, train);
-    let intervals = b.intervals;
-    let mut interval = 0;
-    while interval < intervals {
+    for interval in 0..b.intervals {
         let block = block_at(b, first, interval);
         write_interval(b, counts, block, interval, runs, labels, plan, out);
-        interval += 1;
     }
 }
 
@@ -128,7 +113,7 @@ fn write_train(
 pub fn encode(
     b: Book,
     counts: Counts,
-    cap: Cap,
+    cap: Option<usize>,
     runs: &[u8],
     labels: &[usize],
     plan: &[u8],
@@ -140,11 +125,8 @@ pub fn encode(
         (assignment.encode (under (held_cap cap) (instance_of (held b))) (plans.plan_of (instance_of (held b)) plan.now)) }
 {
     write_borders(b.node_count, plan, out);
-    let trains = b.train_count;
-    let mut i = 0;
-    while i < trains {
-        write_train(b, counts, i, runs, labels, plan, out);
-        i += 1;
+    for train in 0..b.train_count {
+        write_train(b, counts, train, runs, labels, plan, out);
     }
     write_counter(b, counts, cap, plan, out);
 }

@@ -2,16 +2,16 @@
 -- nothing.
 use borrow.Author.Tests.{le-leb, lt-leb}
 use mathlib.Core.Path.{◌≡◌, refl, sym, ap, ◌∙◌}
-use mathlib.Core.Logic.{◌≢◌}
 use mathlib.Core.Bool.{Bool, true, false, not}
-use mathlib.Core.Option.{none, some}
-use Prim.Native.Nat.{ℕ, zero, suc, ◌≤◌, ◌<◌}
-use Rattle.spec.specs.Lists.{Bytes, one, ◌when◌, first_fault, and_then}
+use mathlib.Core.Option.{Option, none, some}
+use Prim.Native.Nat.{ℕ, ◌≤◌, ◌<◌}
+use Rattle.std.specs.Prelude.{Some, None}
+use Rattle.std.specs.Prelude.{Option as CodeOption}
+use Rattle.spec.specs.Lists.{Bytes, accepted, refused, one, ◌when◌, first_fault, and_then}
 use Rattle.spec.specs.Instance.{Instance}
 use Rattle.spec.specs.Plan.{plan_fits, plan_of, rule6, broken_rule}
 use Rattle.spec.specs.Entry.{demand, judge_plan, admit_plan}
-use Rattle.reader.specs.declared.reading.Answer.TheVariants.{Accepted, Refused}
-use Rattle.reader.specs.BookAnswers.{answer_of}
+use Rattle.spec.specs.Held.{held_option}
 use Rattle.reader.proofs.Verdicts.{judged-unfit, judged-found, judged-none}
 use Rattle.plan_rules.specs.Kept.{first_broken}
 use Rattle.plan_rules.proofs.Broken.{broken-early, broken-last}
@@ -23,36 +23,38 @@ sixth true = refl
 sixth false = refl
 
 module _ (I : Instance) (s : Bytes) where
-  pub answer-unfit : plan_fits I s ≡ false → Refused 15 0 ≡ answer_of (judge_plan I s)
+  pub answer-unfit : plan_fits I s ≡ false → refused 15 0 ≡ judge_plan I s
   unfolding judge_plan
   answer-unfit e = judged-unfit 15 16 _ e
 
-  module _ (fits : plan_fits I s ≡ true) where
-    -- one of the first five rules is broken
-    pub answer-early : (w : ℕ) → w ≡ first_broken I (plan_of I s) → w ≢ 0 → Refused 16 w ≡ answer_of (judge_plan I s)
+  -- what the search among the first five rules found
+  module _ (fits : plan_fits I s ≡ true) {o : CodeOption ℕ} (e : held_option o ≡ first_broken I (plan_of I s)) where
+    pub answer-early : {w : ℕ} → o ≡ Some w → refused 16 w ≡ judge_plan I s
     unfolding judge_plan
-    answer-early zero e h = absurd (h refl)
-    answer-early (suc n) e h = judged-found 15 16 (suc n) fits (broken-early I (plan_of I s) n (sym e))
+    answer-early {w} is = judged-found 15 16 w fits (broken-early I (plan_of I s) w (sym e ∙ ap held_option is))
 
-    -- none is: the sixth decides
-    module _ (w : ℕ) (e : w ≡ first_broken I (plan_of I s)) (z : w ≡ 0) where
+    -- none: the sixth decides
+    module _ (is : o ≡ None) where
       last : (b : Bool) → rule6 I (plan_of I s) ≡ b → broken_rule I (plan_of I s) ≡ (elim b [ true ↦ none | false ↦ some 6 ])
-      last b f = broken-last I (plan_of I s) (sym e ∙ z) ∙ ap (λ (t : Bool). first_fault (one (6 when not t))) f ∙ sixth b
+      last b f =
+          broken-last I (plan_of I s) (sym e ∙ ap held_option is)
+          ∙ ap (λ (t : Bool). first_fault (one (6 when not t))) f
+          ∙ sixth b
 
-      pub answer-sixth : rule6 I (plan_of I s) ≡ false → Refused 16 6 ≡ answer_of (judge_plan I s)
+      pub answer-sixth : rule6 I (plan_of I s) ≡ false → refused 16 6 ≡ judge_plan I s
       unfolding judge_plan
       answer-sixth f = judged-found 15 16 6 fits (last false f)
 
-      pub answer-kept : rule6 I (plan_of I s) ≡ true → Accepted ≡ answer_of (judge_plan I s)
+      pub answer-kept : rule6 I (plan_of I s) ≡ true → accepted tt ≡ judge_plan I s
       unfolding judge_plan
       answer-kept f = judged-none 15 16 fits (last true f)
 
 -- room is asked for before that
 module _ (I : Instance) (s : Bytes) (need room : ℕ) where
-  pub answer-narrow : room < need → Refused 12 0 ≡ answer_of (admit_plan I s need room)
+  pub answer-narrow : room < need → refused 12 0 ≡ admit_plan I s need room
   unfolding and_then demand
   answer-narrow h = rw (lt-leb need room h)
 
-  pub answer-judged : need ≤ room → answer_of (judge_plan I s) ≡ answer_of (admit_plan I s need room)
+  pub answer-judged : need ≤ room → judge_plan I s ≡ admit_plan I s need room
   unfolding and_then demand
   answer-judged h = rw (le-leb need room h)

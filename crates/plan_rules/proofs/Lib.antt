@@ -1,4 +1,5 @@
 pub mod Loops
+pub mod Chains
 pub mod Ready
 pub mod Broken
 pub mod Marking

@@ -5,34 +5,49 @@ use mathlib.Core.Logic.{inl, inr}
 use mathlib.Core.Bool.{Bool, true, false, ◌||◌, or_assoc}
 use Prim.Native.Nat.{ℕ, zero, suc, ◌+◌, ◌/◌, ◌≤◌, ◌<◌}
 use mathlib.Core.List.{List, [], ◌∷◌, map}
-use lib.ListN.{length, get_or, set, replicate, length-set}
-use lib.Seq.{slice, get_or-set_same, get_or-set_other}
+use native.Mathlib.Numerals.{add-one}
+use native.Mathlib.Omega.{arith}
+use lib.ListN.{length, get_or, set, drop, replicate, length-set, drop_of_length-le}
+use lib.Seq.{drop-cons, get_or-set_same, get_or-set_other}
+use Rattle.std.proofs.lemmas.List.{get_or_default}
 use lib.Dec.{T, ltb, eqb}
 use Rattle.spec.specs.Lists.{Bytes, all, any, has}
 use Rattle.laws.proofs.Tests.{and-iff, or-iff, not_iff, ltb_iff, eqb-iff, decide, bool-ext}
-use Rattle.network.proofs.Walks.{slice-next, slice-end}
+use Rattle.listing.specs.Listed.{place_at}
+use Rattle.listing.proofs.Filled.{lent, part-lent}
+use Rattle.listing.proofs.Successors.{get_or-slice, length_part}
 use Rattle.plan_rules.specs.declared.apart.Stretch.{Stretch}
 use Rattle.plan_rules.specs.Marks.{StretchFits, is_marked, marking}
 
--- the directed segment x has a label, and it is one of 64
-abbrev pub HasLabel : List ℕ → ℕ → Type 0
-HasLabel labels x = (x / 2 < length labels) × (get_or labels (x / 2) 0 < 64)
+-- the segments of a stretch, as a slice that is lent: each has a label, and it is one of 64
+module _ {labels : List ℕ} {runs : Bytes} {s : Stretch} (h : StretchFits labels runs s) where
+  abbrev segments : List ℕ
+  segments = lent s.at s.size runs
 
--- the label that is read at k, of a segment of the stretch
-pub label-here : {labels : List ℕ} {runs : Bytes} {s : Stretch} → StretchFits labels runs s
-    → {k x : ℕ} → s.at ≤ k → k < s.at + s.size → x ≡ get_or runs k 0 → HasLabel labels x
-label-here h {k} a z e = rw e (h.inside k a z, h.below k a z)
+  pub place-is : place_at runs s.at s.size ≡ segments
+  unfolding place_at
+  place-is = let fits = h.fits in sym (part-lent s.at s.size runs (omega arith))
 
--- the next label of a stretch, and none behind the last
-module _ (f : ℕ → ℕ) (marks runs : Bytes) (k end : ℕ) where
-  pub marking-next : k < end → end ≤ length runs
-      → marking marks (map f (slice k end runs)) ≡ marking (set marks (f (get_or runs k 0)) 1) (map f (slice (k + 1) end runs))
+  pub label-in : (k : ℕ) {x : ℕ} (d : ℕ) → k < length segments → x ≡ get_or segments k d → (x / 2 < length labels) × (get_or labels (x / 2) 0 < 64)
+  unfolding place_at
+  label-in k {x} d l e =
+      let long : length segments ≡ s.size = ap length (sym place-is) ∙ length_part runs s.at s.size h.fits in
+      let same : get_or runs (s.at + k) 0 ≡ x =
+      sym (e ∙ get_or_default segments k d 0 l ∙ ap (λ (xs : List ℕ). get_or xs k 0) (sym place-is) ∙ get_or-slice runs s.at s.size k 0 (omega arith)) in
+      rw (← same) (h.inside (s.at + k) (omega arith) (omega arith), h.below (s.at + k) (omega arith) (omega arith))
+
+-- the next label of a list of segments, and none behind the last
+module _ (f : ℕ → ℕ) (marks segments : Bytes) (k : ℕ) where
+  pub marking-next : k < length segments
+      → marking marks (map f (drop k segments)) ≡ marking (set marks (f (get_or segments k 0)) 1) (map f (drop (k + 1) segments))
   unfolding marking
-  marking-next l fits = ap (λ (ds : List ℕ). marking marks (map f ds)) (slice-next runs end k 0 l fits)
+  marking-next l =
+      let next : drop k segments ≡ get_or segments k 0 ∷ drop (k + 1) segments = rw add-one (drop-cons segments k 0 l) in
+      ap (λ (ds : List ℕ). marking marks (map f ds)) next
 
-  pub marking-end : end ≤ k → marking marks (map f (slice k end runs)) ≡ marks
+  pub marking-end : length segments ≤ k → marking marks (map f (drop k segments)) ≡ marks
   unfolding marking
-  marking-end l = ap (λ (ds : List ℕ). marking marks (map f ds)) (slice-end runs end k l)
+  marking-end l = ap (λ (ds : List ℕ). marking marks (map f ds)) (drop_of_length-le segments l)
 
 -- one label more is marked
 marked-set : (marks : Bytes) (x l : ℕ) → x < length marks → is_marked (set marks x 1) l ≡ (is_marked marks l || eqb l x)

@@ -2,24 +2,30 @@
 -- answer about a run is what the instance says. Assumes nothing.
 use mathlib.Core.Path.{◌≡◌, refl, sym, ap, ap₂, ◌∙◌, subst}
 use mathlib.Core.Bool.{Bool, true, false}
-use Prim.Native.Nat.{ℕ, ◌+◌, ◌≤◌, ◌<◌}
+use mathlib.Core.Logic.{◌⊎◌, inl, inr}
+use Prim.Native.Nat.{ℕ, ◌+◌, ◌*◌, ◌≤◌, ◌<◌}
 use native.Mathlib.Omega.{arith}
-use lib.ListN.{length}
+use mathlib.Core.List.{List}
+use lib.ListN.{length, get_or}
 use lib.Dec.{T, ltb}
 use Rattle.model.specs.declared.Book.{Book as BookStruct}
 use Rattle.spec.specs.Lists.{Bytes, same}
+use Rattle.spec.specs.Book.{length_in_segments}
 use Rattle.spec.specs.Runs.{start_place, end_place}
 use Rattle.spec.specs.Instance.{Instance, instance_of, compile, run_lists, run_at}
 use Rattle.spec.specs.Plan as plan
 use Rattle.spec.specs.Plan.{run, absent, gone, runs, if_run, is_move, plan_of, plan_length, plan_fits}
-use Rattle.spec.specs.Held.{held}
+use Rattle.spec.specs.Held.{held, held_train}
 use Rattle.laws.proofs.Tests.{ltb_iff}
 use Rattle.demands.proofs.Moves.{plan-long, fitting}
 use Rattle.listing.specs.Listed.{train_bytes, place_at, start_at}
+use Rattle.listing.proofs.Filled.{lent}
+use Rattle.listing.proofs.Trains.{no_train}
 use Rattle.tables.specs.Placed.{size_at, end_at}
 use Rattle.tables.specs.Tables.{Passed}
+use Rattle.tables.specs.Ready.{RunsReady}
 use Rattle.tables.proofs.Answers.{end-inside, least-held, ending-held}
-use Rattle.tables.proofs.Here.{in-instance}
+use Rattle.tables.proofs.Here.{in-instance, length-here, runs-lent}
 use Rattle.tables.proofs.Small.{intervals-is, passed-few}
 use Rattle.layout.specs.declared.moves.Move.{Move}
 use Rattle.layout.specs.declared.moves.Move.TheVariants.{Run, Absent, Gone}
@@ -38,25 +44,19 @@ module _ (f : ℕ → Bool) {m : Move} where
   unfolding runs
   runs-run e = told (λ o. runs o f) e
 
-  pub runs-absent : m ≡ Absent → false ≡ runs (held_move m) f
+  pub runs-none : (m ≡ Absent) ⊎ (m ≡ Gone) → false ≡ runs (held_move m) f
   unfolding runs
-  runs-absent e = told (λ o. runs o f) e
-
-  pub runs-gone : m ≡ Gone → false ≡ runs (held_move m) f
-  unfolding runs
-  runs-gone e = told (λ o. runs o f) e
+  runs-none (inl e) = told (λ o. runs o f) e
+  runs-none (inr e) = told (λ o. runs o f) e
 
   pub if-run : {r : ℕ} → m ≡ Run r → f r ≡ if_run (held_move m) f
   unfolding if_run
   if-run e = told (λ o. if_run o f) e
 
-  pub if-absent : m ≡ Absent → true ≡ if_run (held_move m) f
+  pub if-none : (m ≡ Absent) ⊎ (m ≡ Gone) → true ≡ if_run (held_move m) f
   unfolding if_run
-  if-absent e = told (λ o. if_run o f) e
-
-  pub if-gone : m ≡ Gone → true ≡ if_run (held_move m) f
-  unfolding if_run
-  if-gone e = told (λ o. if_run o f) e
+  if-none (inl e) = told (λ o. if_run o f) e
+  if-none (inr e) = told (λ o. if_run o f) e
 
 pub run-below : (I : Instance) (i : ℕ) {m : Move} {r : ℕ} → T (is_move I i (held_move m)) → m ≡ Run r → r < I.runs i
 unfolding is_move
@@ -102,6 +102,13 @@ module _ {b : BookStruct} {i : ℕ} {s : Bytes} (h : Planned b i s) where
 pub planned : {b : BookStruct} {i l : ℕ} {runs s : Bytes} → TrainReady b i l runs → T (plan_fits (instance_of (held b)) s)
     → Planned b i s
 planned h f = record { passed = h.passed; known = h.known; fits = f }
+
+-- a train of the book, with its length and its part of the table of all trains' runs
+pub train-ready : {b : BookStruct} {counts : List ℕ} {runs : Bytes} → RunsReady b counts runs → (i : ℕ) → i < b.train_count
+    → {l : ℕ} → l ≡ length_in_segments (held b) (held_train (get_or b.trains i no_train)) → TrainReady b i l (lent (i * train_bytes) train_bytes runs)
+train-ready {b} h i known e =
+    let l = length-here b h.counted.passed i known e in
+    record { passed = h.counted.passed; known = known; reached = l.0; short = l.1; table = runs-lent i known h }
 
 -- ---- a train's run
 

@@ -14,18 +14,20 @@ use Rattle.spec.specs.Lists.{Bytes, all, any, has, up_to, range, one}
 use Rattle.spec.specs.Book.{segment_of}
 use Rattle.spec.specs.Instance.{Instance, instance_of}
 use Rattle.spec.specs.Sections.{together, share_section}
-use Rattle.spec.specs.Plan.{Plan, is_move, plan_of, trains_meet, apart_in}
+use Rattle.spec.specs.Plan.{Plan, if_run, is_move, plan_of, trains_meet, apart_in}
 use Rattle.spec.specs.Held.{held}
 use Rattle.laws.proofs.Tests.{meaning, bool-ext, eqb-iff, ltb_iff, all-iff, any-iff, get_or-mem}
 use Rattle.laws.proofs.Rows.{any-map, any_append, any-one}
 use Rattle.demands.proofs.Wellformed.{map_at}
 use Rattle.listing.proofs.Successors.{get_or-slice, length_part}
-use Rattle.listing.specs.Listed.{place_at}
+use Rattle.layout.specs.declared.moves.Move.{Move as HeldMove}
+use Rattle.layout.specs.Moves.{held_move}
+use Rattle.listing.specs.Listed.{table_bytes, place_at}
 use Rattle.tables.proofs.Small.{segments-is}
 use Rattle.plan_rules.specs.declared.apart.Stretch.{Stretch}
 use Rattle.plan_rules.specs.Marks.{PlanLabelled, StretchFits, stretch_of, labels_of, is_marked, marking, touched}
 use Rattle.plan_rules.proofs.Marking.{marked_by, unmarked, length-marking}
-use Rattle.plan_rules.proofs.Ready.{own-here}
+use Rattle.plan_rules.proofs.Ready.{own-here, few-own}
 use Rattle.plan_rules.proofs.Stretches.{stretch-inside, stretch-segments, stretch-known}
 
 -- ---- rule 6, train by train
@@ -120,6 +122,26 @@ module _ {b : BookStruct} {counts : List ℕ} {runs : Bytes} {labels : List ℕ}
           below = λ k a z. omega (arith, ready.2.below _ (segment-at k a z), few);
         })
 
+    -- the same of the move and the stretch that the code has
+    module _ (m : HeldMove) (moved : held_move m ≡ p.move i t) where
+      -- what `apart::stretch_of` asks
+      pub stretch-asks : (i < 8) × (length runs ≡ table_bytes) × T (if_run (held_move m) (λ r. ltb r 256))
+      stretch-asks = (
+        omega (arith, known, ready.0.counted.passed.packed.counts.trains),
+        ready.0.long,
+        few-own (record { passed = ready.0.counted.passed; known = known; fits = ready.1 }) m t inside moved,
+      )
+
+      module _ {s : Stretch} (found : s ≡ stretch_of runs i (held_move m)) where
+        abbrev is : s ≡ stretch i
+        is = found ∙ ap (stretch_of runs i) moved
+
+        pub stretch-fits : StretchFits labels runs s
+        stretch-fits = fits-here is
+
+        pub stretch-labels : labels_of labels runs s ≡ map label (here i)
+        stretch-labels = labels-here is
+
     -- its labels are labels of marks
     pub labels-few : T (all (λ l. ltb l 64) (map label (here i)))
     labels-few =
@@ -177,5 +199,10 @@ module _ {b : BookStruct} {counts : List ℕ} {runs : Bytes} {labels : List ℕ}
         rw (h.1 (label u.0)) ((any-iff (λ i. has (label u.0) (map label (here i))) trains).1 (i.0, i.1, has')) in
         rw any-map ((any-iff (λ s. is_marked marks (label s)) (here j)).1 (u.0, u.1, marked))
 
-    pub touch_is : any (is_marked marks) (map label (here j)) ≡ any (λ i. trains_meet I p t i j) trains
+    touch_is : any (is_marked marks) (map label (here j)) ≡ any (λ i. trains_meet I p t i j) trains
     touch_is = bool-ext _ _ touch_meets meets-touch
+
+    -- as the code answers it
+    pub touch-answer : (m : HeldMove) {s : Stretch} {answer : Bool} → held_move m ≡ p.move j t → s ≡ stretch_of runs j (held_move m)
+        → answer ≡ any (is_marked marks) (labels_of labels runs s) → answer ≡ any (λ i. trains_meet I p t i j) trains
+    touch-answer m moved found e = e ∙ ap (any (is_marked marks)) (stretch-labels j known m moved found) ∙ touch_is

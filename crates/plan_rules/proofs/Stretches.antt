@@ -1,4 +1,5 @@
 -- A train's run in an interval, as the table of all trains' runs holds it: its stretch has the segments of its path. Assumes nothing.
+use mathlib.Core.Logic.{◌⊎◌, inl, inr}
 use mathlib.Core.Path.{◌≡◌, refl, sym, ap, ◌∙◌}
 use Prim.Native.Nat.{ℕ, ◌+◌, ◌*◌, ◌≤◌, ◌<◌}
 use native.Mathlib.Omega.{arith}
@@ -21,6 +22,9 @@ use Rattle.listing.proofs.Successors.{get_or-slice}
 use Rattle.tables.specs.Placed.{size_at, run_held}
 use Rattle.tables.specs.Ready.{RunsHeld, RunsReady}
 use Rattle.tables.proofs.Here.{few-trains, in-instance}
+use Rattle.layout.specs.declared.moves.Move.{Move as HeldMove}
+use Rattle.layout.specs.declared.moves.Move.TheVariants.{Absent, Gone}
+use Rattle.layout.specs.Moves.{held_move}
 use Rattle.plan_rules.specs.Marks.{stretch_of}
 
 -- ---- a part of a part
@@ -36,6 +40,15 @@ module _ {ℓ} {A : Type ℓ} (xs : List A) (base width : ℕ) (fits : base + wi
       ∙ sym (slice-tail xs (base + a) n (omega arith))
 
 -- ---- the stretch of a move
+
+-- of a move as the code holds it: for the case that it is, and where it is none
+pub stretch-told : (runs : Bytes) (i : ℕ) {m case : HeldMove} → m ≡ case → stretch_of runs i (held_move case) ≡ stretch_of runs i (held_move m)
+stretch-told runs i e = ap (λ (o : HeldMove). stretch_of runs i (held_move o)) (sym e)
+
+pub stretch-none : (runs : Bytes) (i : ℕ) {m : HeldMove} → (m ≡ Absent) ⊎ (m ≡ Gone) → record { at = 0; size = 0 } ≡ stretch_of runs i (held_move m)
+unfolding stretch_of
+stretch-none runs i (inl e) = stretch-told runs i e
+stretch-none runs i (inr e) = stretch-told runs i e
 
 -- the run with a number in a train's part of the table, found in the table of all trains
 module _ {b : BookStruct} {counts : List ℕ} {runs : Bytes} (h : RunsReady b counts runs) (i : ℕ) (known : i < b.train_count) where

@@ -12,14 +12,13 @@ ghost use Rattle.listing.specs.Listed.{table_bytes};
 ghost use Rattle.layout.specs.Moves.{held_move};
 ghost use Rattle.plan_rules.specs.Marks.{PlanLabelled, StretchFits, stretch_of, labels_of, is_marked, marking};
 
-use frames::bytes::wide;
 use layout::moves::{Move, move_at};
 use listing::{ENTRY_BYTES, TRAIN_BYTES};
 use model::{Book, Counts, MAX_SEGMENTS};
 use tables::places::start_of;
 
 // A stretch of the table of all trains' runs: `size` directed segments from `at` on.
-#[derive(Clone, Copy)]
+#[derive(Clone, Copy, Debug, PartialEq, Eq)]
 pub struct Stretch {
     pub at: usize,
     pub size: usize,
@@ -34,11 +33,10 @@ pub fn stretch_of(m: Move, runs: &[u8], train: usize) -> Stretch
         Move::Run(r) => {
             let part = train * TRAIN_BYTES;
             let at = part + start_of(r);
-            let size = wide(runs[part + r * ENTRY_BYTES]);
-            Stretch { at: at, size: size }
+            let size = usize::from(runs[part + r * ENTRY_BYTES]);
+            Stretch { at, size }
         }
-        Move::Absent => Stretch { at: 0, size: 0 },
-        Move::Gone => Stretch { at: 0, size: 0 },
+        Move::Absent | Move::Gone => Stretch { at: 0, size: 0 },
     }
 }
 
@@ -47,16 +45,9 @@ pub fn touches(stretch: Stretch, runs: &[u8], labels: &[usize], marks: &[u8; MAX
     requires { StretchFits labels.now runs.now stretch }
     ensures { result ≡ any (is_marked marks.now) (labels_of labels.now runs.now stretch) }
 {
-    let end = stretch.at + stretch.size;
-    let mut k = stretch.at;
-    while k < end {
-        let label = labels[wide(runs[k]) / 2];
-        if marks[label] == 1 {
-            return true;
-        }
-        k += 1;
-    }
-    false
+    runs[stretch.at..stretch.at + stretch.size]
+        .iter()
+        .any(|d| marks[labels[usize::from(*d) / 2]] == 1)
 }
 
 // Marks the labels of a stretch's segments.
@@ -64,12 +55,8 @@ pub fn mark(stretch: Stretch, runs: &[u8], labels: &[usize], marks: &mut [u8; MA
     requires { StretchFits labels.now runs.now stretch }
     ensures { marks.new ≡ marking marks.old (labels_of labels.now runs.now stretch) }
 {
-    let end = stretch.at + stretch.size;
-    let mut k = stretch.at;
-    while k < end {
-        let label = labels[wide(runs[k]) / 2];
-        marks[label] = 1;
-        k += 1;
+    for d in &runs[stretch.at..stretch.at + stretch.size] {
+        marks[labels[usize::from(*d) / 2]] = 1;
     }
 }
 
@@ -85,17 +72,13 @@ fn interval_apart(
     requires { PlanLabelled b counts runs.now labels.now plan.now × (interval < b.intervals) }
     ensures { result ≡ apart_in (instance_of (held b)) (plan_of (instance_of (held b)) plan.now) interval }
 {
-    let trains = b.train_count;
     let mut marks = [0u8; MAX_SEGMENTS];
-    let mut i = 0;
-    while i < trains {
-        let m = move_at(b, plan, i, interval);
-        let stretch = stretch_of(m, runs, i);
+    for i in 0..b.train_count {
+        let stretch = stretch_of(move_at(b, plan, i, interval), runs, i);
         if touches(stretch, runs, labels, &marks) {
             return false;
         }
         mark(stretch, runs, labels, &mut marks);
-        i += 1;
     }
     true
 }
@@ -111,15 +94,9 @@ pub fn earliest_meeting(
     requires { PlanLabelled b counts runs.now labels.now plan.now }
     ensures { result ≡ earliest (instance_of (held b)) (plan_of (instance_of (held b)) plan.now) }
 {
-    let intervals = b.intervals;
-    let mut interval = 0;
-    while interval < intervals {
-        if !interval_apart(b, counts, interval, runs, labels, plan) {
-            return interval;
-        }
-        interval += 1;
-    }
-    intervals
+    (0..b.intervals)
+        .find(|interval| !interval_apart(b, counts, *interval, runs, labels, plan))
+        .unwrap_or(b.intervals)
 }
 
 // Rule 6: whether in each interval no section holds segments of two trains' runs.
@@ -127,6 +104,5 @@ pub fn rule_6(b: Book, counts: Counts, runs: &[u8], labels: &[usize], plan: &[u8
     requires { PlanLabelled b counts runs.now labels.now plan.now }
     ensures { result ≡ rule6 (instance_of (held b)) (plan_of (instance_of (held b)) plan.now) }
 {
-    let earliest = earliest_meeting(b, counts, runs, labels, plan);
-    earliest == b.intervals
+    earliest_meeting(b, counts, runs, labels, plan) == b.intervals
 }

@@ -3,53 +3,41 @@
 // output before that. Nothing is written. Assumes nothing.
 ghost use Rattle.std.specs.Prelude.{◌≡◌};
 ghost use Rattle.spec.specs.Instance.{instance_of};
+ghost use Rattle.spec.specs.Answers.{told};
 ghost use Rattle.spec.specs.Held.{held};
 ghost use Rattle.spec.specs.Entry.{judge_plan, admit_plan};
-ghost use Rattle.reader.specs.BookAnswers.{answer_of};
-ghost use Rattle.tables.specs.Ready.{RunsReady, MeetsReady};
 
 use crate::apart::rule_6;
 use crate::rules::first_broken;
 use layout::moves::plan_fits;
-use model::{Book, Counts, MAX_SEGMENTS};
-use reader::reading::Answer;
+use model::{MAX_SEGMENTS, Refusal};
 use sections::labels::label_sections;
+use tables::ready::Tables;
 
-// The verdict on a plan, by the tables of a book.
-pub fn judge_plan(b: Book, counts: Counts, runs: &[u8], meets: &[u8], plan: &[u8]) -> Answer
-    requires { RunsReady b counts runs.now × MeetsReady b meets.now }
-    ensures { result ≡ answer_of (judge_plan (instance_of (held b)) plan.now) }
+// The verdict on a plan.
+pub fn judge_plan(t: &Tables, plan: &[u8]) -> Result<(), Refusal>
+    ensures { told result ≡ judge_plan (instance_of (held t.now.book)) plan.now }
 {
-    if !plan_fits(b, counts, plan) {
-        return Answer::Refused(15, 0);
+    if !plan_fits(t.book, t.counts, plan) {
+        return Err(Refusal::NoPlan);
     }
-    let broken = first_broken(b, counts, runs, plan);
-    if broken != 0 {
-        return Answer::Refused(16, broken);
+    if let Some(rule) = first_broken(t.book, t.counts, t.runs, plan) {
+        return Err(Refusal::BrokenRule(rule));
     }
     let mut labels = [0usize; MAX_SEGMENTS];
-    label_sections(b, meets, plan, &mut labels);
-    if !rule_6(b, counts, runs, &labels, plan) {
-        return Answer::Refused(16, 6);
+    label_sections(t.book, t.meets, plan, &mut labels);
+    if !rule_6(t.book, t.counts, t.runs, &labels, plan) {
+        return Err(Refusal::BrokenRule(6));
     }
-    Answer::Accepted
+    Ok(())
 }
 
 // 12 by the output's length, then 15 and 16: what is asked before anything is written of a plan.
-pub fn admit_plan(
-    b: Book,
-    counts: Counts,
-    runs: &[u8],
-    meets: &[u8],
-    plan: &[u8],
-    need: usize,
-    room: usize,
-) -> Answer
-    requires { RunsReady b counts runs.now × MeetsReady b meets.now }
-    ensures { result ≡ answer_of (admit_plan (instance_of (held b)) plan.now need room) }
+pub fn admit_plan(t: &Tables, plan: &[u8], need: usize, room: usize) -> Result<(), Refusal>
+    ensures { told result ≡ admit_plan (instance_of (held t.now.book)) plan.now need room }
 {
     if room < need {
-        return Answer::Refused(12, 0);
+        return Err(Refusal::NoRoom);
     }
-    judge_plan(b, counts, runs, meets, plan)
+    judge_plan(t, plan)
 }

@@ -1,15 +1,16 @@
 // The plan rules 1 to 5, checked from the plan itself: the borders by node, the other rules by train.
 // Rules 2 to 5 go through one loop over the trains. Assumes nothing.
-ghost use Rattle.std.specs.Prelude.{◌≡◌, not, ◌&&◌, ◌||◌, cond, ◌<◌, T};
+ghost use Rattle.std.specs.Prelude.{◌≡◌, Bool, not, ◌&&◌, ◌||◌, cond, ℕ, ◌<◌, T};
+ghost use Rattle.spec.specs.Lists.{all, up_to};
 ghost use Rattle.spec.specs.Book.{denies_border, forces_border, goal_of};
 ghost use Rattle.spec.specs.Instance.{instance_of, call_at, served_at_departure};
 ghost use Rattle.spec.specs.Plan as plans;
 ghost use Rattle.spec.specs.Plan.{is_move, is_absent, is_gone, if_run, plan_of, plan_fits, served_by, absent_before, departs, leaves_rightly, runs_on, keeps_calls};
-ghost use Rattle.spec.specs.Held.{held};
+ghost use Rattle.spec.specs.Held.{held, held_option};
 ghost use Rattle.tables.specs.Tables.{Passed};
-ghost use Rattle.tables.specs.Ready.{RunsHeld, RunsReady};
+ghost use Rattle.tables.specs.Ready.{RunsReady};
 ghost use Rattle.layout.specs.Moves.{held_move};
-ghost use Rattle.plan_rules.specs.Kept.{train_keeps, trains_keep, first_broken, Planned, TrainReady};
+ghost use Rattle.plan_rules.specs.Kept.{first_broken, Planned, TrainReady};
 
 use layout::moves::{Move, is_gone, move_at};
 use listing::TRAIN_BYTES;
@@ -19,15 +20,6 @@ use network::track::{denies_border, forces_border, length_in_segments};
 use tables::places::{
     end_of, follows, in_window, is_given, may_leave, served_at_departure, serves, start_of,
 };
-
-// The rules that each train keeps or breaks by itself: 2, 3, 4 and 5.
-#[derive(Clone, Copy)]
-pub enum TrainRule {
-    Departing,
-    Leaving,
-    Running,
-    Calling,
-}
 
 // Whether a border, or none, respects the kind of its node.
 fn border_fits(kind: u8, border: bool) -> bool
@@ -45,26 +37,14 @@ fn rule_1(b: Book, plan: &[u8]) -> bool
     requires { Passed b × T (plan_fits (instance_of (held b)) plan.now) }
     ensures { result ≡ plans.rule1 (instance_of (held b)) (plan_of (instance_of (held b)) plan.now) }
 {
-    let nodes = b.node_count;
-    let mut node = 0;
-    while node < nodes {
-        if !border_fits(b.nodes[node], plan[node] == 1) {
-            return false;
-        }
-        node += 1;
-    }
-    true
+    (0..b.node_count).all(|node| border_fits(b.nodes[node], plan[node] == 1))
 }
 
 // Whether a move is absent, where its interval is before the departure, or else is not absent.
 fn absent_if(m: Move, before: bool) -> bool
     ensures { result ≡ cond before (is_absent (held_move m)) (not (is_absent (held_move m))) }
 {
-    match m {
-        Move::Run(_) => !before,
-        Move::Absent => before,
-        Move::Gone => !before,
-    }
+    matches!(m, Move::Absent) == before
 }
 
 // Whether a move is a run from the place that the train is given.
@@ -74,8 +54,7 @@ fn starts_given(b: Book, train: usize, l: usize, runs: &[u8], m: Move) -> bool
 {
     match m {
         Move::Run(r) => is_given(b.trains[train], runs, start_of(r), l),
-        Move::Absent => false,
-        Move::Gone => false,
+        Move::Absent | Move::Gone => false,
     }
 }
 
@@ -87,8 +66,7 @@ fn may_go(b: Book, train: usize, to: Call, l: usize, runs: &[u8], m: Move) -> bo
 {
     match m {
         Move::Run(r) => may_leave(b, train, to, runs, end_of(runs, r, l), l),
-        Move::Absent => false,
-        Move::Gone => false,
+        Move::Absent | Move::Gone => false,
     }
 }
 
@@ -100,8 +78,7 @@ fn run_serves(b: Book, train: usize, number: usize, c: Call, l: usize, runs: &[u
 {
     match m {
         Move::Run(r) => serves(b, c, runs, end_of(runs, r, l), l),
-        Move::Absent => false,
-        Move::Gone => false,
+        Move::Absent | Move::Gone => false,
     }
 }
 
@@ -113,8 +90,7 @@ fn goes_from(b: Book, train: usize, l: usize, r: usize, runs: &[u8], m: Move) ->
 {
     match m {
         Move::Run(q) => follows(runs, r, q, l),
-        Move::Absent => true,
-        Move::Gone => true,
+        Move::Absent | Move::Gone => true,
     }
 }
 
@@ -126,8 +102,7 @@ fn goes_on(b: Book, train: usize, l: usize, runs: &[u8], before: Move, m: Move) 
 {
     match before {
         Move::Run(r) => goes_from(b, train, l, r, runs, m),
-        Move::Absent => true,
-        Move::Gone => true,
+        Move::Absent | Move::Gone => true,
     }
 }
 
@@ -162,16 +137,7 @@ fn absent_before(b: Book, train: usize, plan: &[u8]) -> bool
     ensures { result ≡ absent_before (instance_of (held b)) (plan_of (instance_of (held b)) plan.now) train }
 {
     let d = b.trains[train].departure;
-    let intervals = b.intervals;
-    let mut t = 0;
-    while t < intervals {
-        let m = move_at(b, plan, train, t);
-        if !absent_if(m, t < d) {
-            return false;
-        }
-        t += 1;
-    }
-    true
+    (0..b.intervals).all(|t| absent_if(move_at(b, plan, train, t), t < d))
 }
 
 // 2, of one train: "Absent exactly in intervals before d; a run from the given place in interval d."
@@ -192,16 +158,13 @@ fn train_leaves(b: Book, train: usize, l: usize, runs: &[u8], plan: &[u8]) -> bo
 {
     let to = goal(b, train);
     let d = b.trains[train].departure;
-    let intervals = b.intervals;
     let mut before = Move::Absent;
-    let mut t = 0;
-    while t < intervals {
+    for t in 0..b.intervals {
         let m = move_at(b, plan, train, t);
         if !gone_fits(b, train, to, l, d < t, runs, before, m) {
             return false;
         }
         before = m;
-        t += 1;
     }
     true
 }
@@ -211,16 +174,13 @@ fn train_runs(b: Book, train: usize, l: usize, runs: &[u8], plan: &[u8]) -> bool
     requires { TrainReady b train l runs.now × T (plan_fits (instance_of (held b)) plan.now) }
     ensures { result ≡ runs_on (instance_of (held b)) (plan_of (instance_of (held b)) plan.now) train }
 {
-    let intervals = b.intervals;
     let mut before = Move::Absent;
-    let mut t = 0;
-    while t < intervals {
+    for t in 0..b.intervals {
         let m = move_at(b, plan, train, t);
         if !goes_on(b, train, l, runs, before, m) {
             return false;
         }
         before = m;
-        t += 1;
     }
     true
 }
@@ -240,18 +200,10 @@ fn served_after(
         × (c ≡ call_at (held b) train number) }
     ensures { result ≡ served_by (instance_of (held b)) (plan_of (instance_of (held b)) plan.now) train number }
 {
-    let intervals = b.intervals;
-    let mut t = b.trains[train].departure;
-    while t < intervals {
-        if in_window(c, t + 1) {
-            let m = move_at(b, plan, train, t);
-            if run_serves(b, train, number, c, l, runs, m) {
-                return true;
-            }
-        }
-        t += 1;
-    }
-    false
+    let d = b.trains[train].departure;
+    (d..b.intervals).any(|t| {
+        in_window(c, t + 1) && run_serves(b, train, number, c, l, runs, move_at(b, plan, train, t))
+    })
 }
 
 // 5, of one call: "at some time from first to last the train's place contains the segment. At time d
@@ -262,10 +214,7 @@ fn call_served(b: Book, train: usize, number: usize, l: usize, runs: &[u8], plan
         || served_by (instance_of (held b)) (plan_of (instance_of (held b)) plan.now) train number) }
 {
     let c = call_at(b, train, number);
-    if served_at_departure(b, c, b.trains[train]) {
-        return true;
-    }
-    served_after(b, train, number, c, l, runs, plan)
+    served_at_departure(b, c, b.trains[train]) || served_after(b, train, number, c, l, runs, plan)
 }
 
 // 5, of one train: each call.
@@ -273,44 +222,29 @@ fn train_calls(b: Book, train: usize, l: usize, runs: &[u8], plan: &[u8]) -> boo
     requires { TrainReady b train l runs.now × T (plan_fits (instance_of (held b)) plan.now) }
     ensures { result ≡ keeps_calls (instance_of (held b)) (plan_of (instance_of (held b)) plan.now) train }
 {
-    let calls = calls_of(b, train);
-    let mut number = 0;
-    while number < calls {
-        if !call_served(b, train, number, l, runs, plan) {
-            return false;
-        }
-        number += 1;
-    }
-    true
+    (0..calls_of(b, train)).all(|number| call_served(b, train, number, l, runs, plan))
 }
 
-// Whether a train keeps a rule.
-fn train_keeps(b: Book, rule: TrainRule, train: usize, runs: &[u8], plan: &[u8]) -> bool
-    requires { Planned b train plan.now × RunsHeld (held b) train runs.now }
-    ensures { result ≡ train_keeps rule (instance_of (held b)) (plan_of (instance_of (held b)) plan.now) train }
+// Whether every train keeps a rule: `keeps` answers for one, given its number, its length in segments
+// and its part of the table of runs.
+fn every_train<F: Fn(usize, usize, &[u8]) -> bool>(
+    b: Book,
+    counts: Counts,
+    runs: &[u8],
+    keeps: F,
+) -> bool
+    requires ready { RunsReady b counts runs.now }
+    requires callable { (i l : ℕ) (own : _) → TrainReady b i l own.now → F.pre keeps i l own }
+    ensures { (holds : ℕ → Bool)
+        → ((i l : ℕ) (own : _) (answer : Bool) → TrainReady b i l own.now → F.post keeps i l own answer → answer ≡ holds i)
+        → result ≡ all holds (up_to (instance_of (held b)).trains) }
 {
-    let l = length_in_segments(b, b.trains[train]);
-    match rule {
-        TrainRule::Departing => train_departs(b, train, l, runs, plan),
-        TrainRule::Leaving => train_leaves(b, train, l, runs, plan),
-        TrainRule::Running => train_runs(b, train, l, runs, plan),
-        TrainRule::Calling => train_calls(b, train, l, runs, plan),
-    }
-}
-
-// Whether every train keeps a rule.
-fn trains_keep(b: Book, counts: Counts, rule: TrainRule, runs: &[u8], plan: &[u8]) -> bool
-    requires { RunsReady b counts runs.now × T (plan_fits (instance_of (held b)) plan.now) }
-    ensures { result ≡ trains_keep rule (instance_of (held b)) (plan_of (instance_of (held b)) plan.now) }
-{
-    let trains = b.train_count;
-    let mut i = 0;
-    while i < trains {
+    for i in 0..b.train_count {
         let part = i * TRAIN_BYTES;
-        if !train_keeps(b, rule, i, &runs[part..part + TRAIN_BYTES], plan) {
+        let l = length_in_segments(b, b.trains[i]);
+        if !keeps(i, l, &runs[part..part + TRAIN_BYTES]) {
             return false;
         }
-        i += 1;
     }
     true
 }
@@ -320,7 +254,12 @@ fn rule_2(b: Book, counts: Counts, runs: &[u8], plan: &[u8]) -> bool
     requires { RunsReady b counts runs.now × T (plan_fits (instance_of (held b)) plan.now) }
     ensures { result ≡ plans.rule2 (instance_of (held b)) (plan_of (instance_of (held b)) plan.now) }
 {
-    trains_keep(b, counts, TrainRule::Departing, runs, plan)
+    every_train(
+        b,
+        counts,
+        runs,
+        |i, l, own| train_departs(b, i, l, own, plan),
+    )
 }
 
 // 3: "Gone only after d, after gone or after a run" that gone may follow. "After gone, gone."
@@ -328,7 +267,12 @@ fn rule_3(b: Book, counts: Counts, runs: &[u8], plan: &[u8]) -> bool
     requires { RunsReady b counts runs.now × T (plan_fits (instance_of (held b)) plan.now) }
     ensures { result ≡ plans.rule3 (instance_of (held b)) (plan_of (instance_of (held b)) plan.now) }
 {
-    trains_keep(b, counts, TrainRule::Leaving, runs, plan)
+    every_train(
+        b,
+        counts,
+        runs,
+        |i, l, own| train_leaves(b, i, l, own, plan),
+    )
 }
 
 // 4: "A run after a run starts at the place where that one ended."
@@ -336,7 +280,7 @@ fn rule_4(b: Book, counts: Counts, runs: &[u8], plan: &[u8]) -> bool
     requires { RunsReady b counts runs.now × T (plan_fits (instance_of (held b)) plan.now) }
     ensures { result ≡ plans.rule4 (instance_of (held b)) (plan_of (instance_of (held b)) plan.now) }
 {
-    trains_keep(b, counts, TrainRule::Running, runs, plan)
+    every_train(b, counts, runs, |i, l, own| train_runs(b, i, l, own, plan))
 }
 
 // 5: "Each call: at some time from first to last the train's place contains the segment."
@@ -344,28 +288,28 @@ fn rule_5(b: Book, counts: Counts, runs: &[u8], plan: &[u8]) -> bool
     requires { RunsReady b counts runs.now × T (plan_fits (instance_of (held b)) plan.now) }
     ensures { result ≡ plans.rule5 (instance_of (held b)) (plan_of (instance_of (held b)) plan.now) }
 {
-    trains_keep(b, counts, TrainRule::Calling, runs, plan)
+    every_train(b, counts, runs, |i, l, own| train_calls(b, i, l, own, plan))
 }
 
-// The least broken of rules 1 to 5, or 0 where the plan keeps them.
-pub fn first_broken(b: Book, counts: Counts, runs: &[u8], plan: &[u8]) -> usize
+// The least broken of rules 1 to 5, if one is.
+pub fn first_broken(b: Book, counts: Counts, runs: &[u8], plan: &[u8]) -> Option<usize>
     requires { RunsReady b counts runs.now × T (plan_fits (instance_of (held b)) plan.now) }
-    ensures { result ≡ first_broken (instance_of (held b)) (plan_of (instance_of (held b)) plan.now) }
+    ensures { held_option result ≡ first_broken (instance_of (held b)) (plan_of (instance_of (held b)) plan.now) }
 {
     if !rule_1(b, plan) {
-        return 1;
+        return Some(1);
     }
     if !rule_2(b, counts, runs, plan) {
-        return 2;
+        return Some(2);
     }
     if !rule_3(b, counts, runs, plan) {
-        return 3;
+        return Some(3);
     }
     if !rule_4(b, counts, runs, plan) {
-        return 4;
+        return Some(4);
     }
     if !rule_5(b, counts, runs, plan) {
-        return 5;
+        return Some(5);
     }
-    0
+    None
 }

@@ -1,45 +1,41 @@
 -- What is said of an answer is what is told of its verdict. Assumes nothing.
 use mathlib.Core.Path.{◌≡◌, refl, sym, ap, ◌∙◌, subst}
-use Prim.Native.Nat.{ℕ}
+use native.Mathlib.Omega.{arith}
+use Prim.Native.Nat.{ℕ, ◌≤◌}
 use lib.ListN.{length}
 use lib.Seq.{sets}
+use Rattle.std.specs.Prelude.{Result, Ok, Err, Some, None}
+use Rattle.std.specs.Result.{MatchResult, IsOkAnd}
+use Rattle.model.specs.declared.refusals.Refusal.{Refusal}
+use Rattle.model.specs.Refusals.{number_of, detail_of}
 use Rattle.spec.specs.Lists.{Bytes, Verdict, accepted, refused, and_then}
+use Rattle.spec.specs.Answers.{told, accepted_as}
 use Rattle.spec.specs.Entry.{overwrite, written}
-use Rattle.spec.specs.Programs.{accepted_line, printed}
-use Rattle.reader.specs.declared.reading.OutputAnswer.{OutputAnswer}
-use Rattle.reader.specs.OutputAnswers.{output_answer}
-use Rattle.reader.specs.declared.reading.Answer.{Answer}
-use Rattle.reader.specs.BookAnswers.{answer_of}
+use Rattle.spec.specs.Programs.{accepted_line, refusal_line, printed}
+use Rattle.laws.proofs.Answers.{refused-as}
 use Rattle.programs.specs.declared.verdicts.Said.{Said}
-use Rattle.programs.specs.Lines.{answer_line, was_accepted, result_length, plain_answer}
-use Rattle.programs.specs.Verdicts.{bare, is_accepted, Says, Tells}
+use Rattle.programs.specs.Verdicts.{bare, Tells}
 
-line_of : (v : Verdict Bytes) → answer_line (output_answer v) ≡ printed (λ _. accepted_line) v
+accepted-line : (v : Verdict Bytes) {before after : Bytes} {n len : ℕ} → accepted n ≡ accepted_as length v → after ≡ sets before 0 accepted_line
+    → len ≡ length accepted_line → Tells v before after (record { len = len; result = Some n })
+unfolding printed accepted_line
+accepted-line (accepted xs) q s e = record { text = s; text-length = e; whole = omega (arith, e); result = cc }
+accepted-line (refused k d) q s e = cc
+
+refused-line : (v : Verdict Bytes) {before after : Bytes} {k d len : ℕ} → v ≡ refused k d → after ≡ sets before 0 (refusal_line k d)
+    → len ≡ length (refusal_line k d) → len ≤ 60 → Tells v before after (record { len = len; result = None })
 unfolding printed
-line_of (accepted xs) = refl
-line_of (refused n d) = refl
+refused-line v q s e few = rw q record { text = s; text-length = e; whole = omega (arith, few); result = refl }
 
-length-of : (v : Verdict Bytes) → result_length (output_answer v) ≡ length (written v)
-unfolding written
-length-of (accepted xs) = refl
-length-of (refused n d) = refl
+-- the line of an accepted answer, and of a refused one
+module _ (v : Verdict Bytes) {answer : Result ℕ Refusal} (t : told answer ≡ accepted_as length v) {before after : Bytes} {len : ℕ} where
+  pub tells-accepted : {n : ℕ} → answer ≡ Ok n → after ≡ sets before 0 accepted_line → len ≡ length accepted_line
+      → Tells v before after (record { len = len; result = Some n })
+  tells-accepted is = accepted-line v (sym (ap told is) ∙ t)
 
-accepted-of : (v : Verdict Bytes) → was_accepted (output_answer v) ≡ is_accepted v
-unfolding is_accepted
-accepted-of (accepted xs) = refl
-accepted-of (refused n d) = refl
-
-pub tells : (v : Verdict Bytes) {answer : OutputAnswer} (before : Bytes) {after : Bytes} (r : Said)
-    → answer ≡ output_answer v → Says answer before after r → Tells v before after r
-tells v {answer} before r e w =
-    let same : answer_line answer ≡ printed (λ _. accepted_line) v = ap answer_line e ∙ line_of v in
-    record {
-      text = w.0 ∙ ap (sets before 0) same;
-      text-length = w.1 ∙ ap length same;
-      whole = w.2;
-      accepts = w.3 ∙ ap was_accepted e ∙ accepted-of v;
-      result-length = w.4 ∙ ap result_length e ∙ length-of v;
-    }
+  pub tells-refused : {r : Refusal} → answer ≡ Err r → after ≡ sets before 0 (refusal_line (number_of r) (detail_of r))
+      → len ≡ length (refusal_line (number_of r) (detail_of r)) → len ≤ 60 → Tells v before after (record { len = len; result = None })
+  tells-refused is = refused-line v (refused-as length t is)
 
 -- of a verdict that is another's
 module _ {v w : Verdict Bytes} (q : w ≡ v) where
@@ -56,15 +52,16 @@ refused-output old n d = refl
 
 -- ---- a verdict without a result
 
-plain_of : (v : Verdict (Unit {0})) → plain_answer (answer_of v) ≡ output_answer (bare v)
-unfolding bare and_then
-plain_of (accepted u) = refl
-plain_of (refused n d) = refl
-
-pub plain-answer : (v : Verdict (Unit {0})) {answer : Answer} → answer ≡ answer_of v → plain_answer answer ≡ output_answer (bare v)
-plain-answer v e = ap plain_answer e ∙ plain_of v
+-- an answer without a result, as one with an empty result
+pub plain-told : (answer : Result (Unit {0}) Refusal) (said : Result ℕ Refusal) {P : Unit {0} → ℕ → Type 0}
+    → MatchResult answer (λ u. IsOkAnd said (P u)) (λ e. said ≡ Err e) → ((u : Unit {0}) (n : ℕ) → P u n → n ≡ 0)
+    → told said ≡ accepted_as length (bare (told answer))
+unfolding and_then
+plain-told (Ok u) (Ok n) m zero = ap accepted (zero u n m)
+plain-told (Ok u) (Err e) m zero = absurd m
+plain-told (Err r) said m zero = ap told m
 
 pub bare-output : (old : Bytes) (v : Verdict (Unit {0})) → old ≡ overwrite old (written (bare v))
-unfolding bare and_then overwrite written
+unfolding and_then overwrite written
 bare-output old (accepted u) = refl
 bare-output old (refused n d) = refl

@@ -25,9 +25,6 @@ use Rattle.demands.proofs.Wellformed.{sound, sound-under}
 use Rattle.demands.proofs.Words.{formula-in-range, range-proper, proper}
 use Rattle.programs.specs.Text.{words_text, taken, header_text}
 use Rattle.programs.proofs.Text.{text-words, taken-some, taken-le}
-use Rattle.writing.specs.declared.FormulaAnswer.{FormulaAnswer}
-use Rattle.writing.specs.declared.FormulaAnswer.TheVariants.{Totals, Refused}
-use Rattle.writing.specs.FormulaAnswers.{formula_answer}
 use Rattle.programs.proofs.FormulaProgram.{is-long, not-long}
 
 -- ---- the line
@@ -47,24 +44,6 @@ module _ (old text : Bytes) (full : length old ≡ 64) {n : ℕ} (e : n ≡ leng
 pub piece-long : (buf : Bytes) (ls : List ℤ) {new : Bytes} {n : ℕ} → new ≡ sets buf 0 (words_text (take (taken (length buf) ls) ls))
     → length buf ≡ n → length new ≡ n
 piece-long buf ls e h = ap length e ∙ length-sets buf 0 (words_text (take (taken (length buf) ls) ls)) ∙ h
-
--- ---- what an answer says
-
-refused≢totals : {n d a c k : ℕ} {X : Type 0} → Refused n d ≡ Totals a c k → X
-refused≢totals p = let z : ◌≡◌ {A = ℕ} 0 1 = cc in let no' : ⊥ = omega arith in absurd no'
-
-pub answer-refused : (v : Verdict Written) {r : FormulaAnswer} {n d : ℕ} → r ≡ formula_answer v → r ≡ Refused n d → v ≡ refused n d
-answer-refused (accepted w) e h = refused≢totals (sym h ∙ e)
-answer-refused (refused m c) {n = n} {d} e h =
-    let f : Refused m c ≡ Refused n d = sym e ∙ h in
-    let k : m ≡ n = cc in
-    let l : c ≡ d = cc in
-    ap₂ refused k l
-
-pub answer-totals : (v : Verdict Written) {r : FormulaAnswer} {a c n : ℕ} → r ≡ formula_answer v → r ≡ Totals a c n
-    → (w : Written) × (v ≡ accepted w) × (a ≡ w.variable_count) × (c ≡ w.clause_count) × (n ≡ w.word_count)
-answer-totals (accepted w) e h = (w, refl, cc, cc, cc)
-answer-totals (refused m d) e h = refused≢totals (sym e ∙ h)
 
 -- ---- a book that is too long, and the words of one that is not
 

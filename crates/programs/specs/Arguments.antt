@@ -2,13 +2,6 @@
 use Rattle.std.specs.Prelude.{Bool, true, false, ◌&&◌, ℕ, ◌+◌, ◌*◌, ◌-◌, ◌^◌, [], ◌∷◌, ltb, leb}
 use Rattle.std.proofs.Math.Option.{Option, none, some}
 use Rattle.spec.specs.Lists.{Bytes}
-use Rattle.programs.specs.declared.arguments.Argument.{Argument}
-use Rattle.programs.specs.declared.arguments.Argument.TheVariants.{Number, Other}
-
--- the number that the enum holds
-abbrev pub held_number : Argument → Option ℕ
-held_number (Number n) = some n
-held_number Other = none
 
 -- a figure, 0 to 9, as a byte
 unfoldable pub is_figure : ℕ → Bool

@@ -1,19 +1,18 @@
 -- The verdict of each program over the checks, and what the program says of it. Assumes nothing.
 use Rattle.std.specs.Prelude.{◌≡◌, Bool, true, false, cond, ℕ, ◌≤◌, [], length}
-use Rattle.std.proofs.Math.Option.{Option}
+use Rattle.std.proofs.Math.Option.{Option, none, some}
 use Rattle.std.proofs.lemmas.List.Edits.{sets}
 use Rattle.spec.specs.Lists.{Bytes, Verdict, accepted, refused, and_then}
-use Rattle.spec.specs.Entry.{written, check_assignment, unpack_plan, check_plan, check_refutation}
+use Rattle.spec.specs.Held.{held_option}
+use Rattle.spec.specs.Entry.{check_assignment, unpack_plan, check_plan, check_refutation}
 use Rattle.spec.specs.Carriers.{list_carriers}
 use Rattle.spec.specs.Programs.{program_lent, accepted_line, printed}
 use Rattle.programs.specs.declared.verdicts.Check.{Check}
 use Rattle.programs.specs.declared.verdicts.Check.TheVariants.{Assignment, Unpacking, Plan, Refutation, Carriers}
 use Rattle.programs.specs.declared.verdicts.Said.{Said}
-use Rattle.reader.specs.declared.reading.OutputAnswer.{OutputAnswer}
-use Rattle.programs.specs.Lines.{answer_line, was_accepted, result_length}
 
 -- a verdict without a result, as one with an empty result
-unfoldable pub bare : Verdict (Unit {0}) → Verdict Bytes
+abbrev pub bare : Verdict (Unit {0}) → Verdict Bytes
 bare v = and_then v λ _. accepted []
 
 -- the verdict on a book and a second input, under a cap or none, with this much room for a result; a plan's carriers know no cap
@@ -25,7 +24,7 @@ verdict_of Refutation cap book s room = bare (check_refutation cap book s progra
 verdict_of Carriers cap book s room = list_carriers book s room
 
 -- whether what is accepted has a result
-unfoldable pub has_result : Check → Bool
+abbrev pub has_result : Check → Bool
 has_result Assignment = false
 has_result Unpacking = true
 has_result Plan = true
@@ -33,29 +32,22 @@ has_result Refutation = false
 has_result Carriers = true
 
 -- which check is made: an assignment's plan is unpacked where a file is named for it, and only there
-unfoldable pub asked_check : Check → Bool → Check
+abbrev pub asked_check : Check → Bool → Check
 asked_check Assignment named = cond named Unpacking Assignment
 asked_check Unpacking named = Unpacking
 asked_check Plan named = Plan
 asked_check Refutation named = Refutation
 asked_check Carriers named = Carriers
 
-unfoldable pub is_accepted : Verdict Bytes → Bool
-is_accepted (accepted xs) = true
-is_accepted (refused n d) = false
+-- how many bytes the result has, where there is one
+abbrev pub result_length : Verdict Bytes → Option ℕ
+result_length (accepted xs) = some (length xs)
+result_length (refused n d) = none
 
--- an answer's line stands at the front of what was lent for it, whole, and `r` says how long it is, whether the answer accepts, and how
--- long its result is
-abbrev pub Says : OutputAnswer → Bytes → Bytes → Said → Type 0
-Says answer before after r =
-    (after ≡ sets before 0 (answer_line answer)) × (r.len ≡ length (answer_line answer)) × (r.len ≤ 64)
-    × (r.accepted ≡ was_accepted answer) × (r.result ≡ result_length answer)
-
--- the verdict's line stands at the front of what was lent for it, whole, and `r` says how long it is, whether it is accepted, and how long
--- the result is
+-- the verdict's line stands at the front of what was lent for it, whole, and `r` says how long it is, and how long the result is where the
+-- verdict accepts
 pub record Tells (v : Verdict Bytes) (before after : Bytes) (r : Said) : Type 0 where
   pub text : after ≡ sets before 0 (printed (λ _. accepted_line) v)
   pub text-length : r.len ≡ length (printed (λ _. accepted_line) v)
   pub whole : r.len ≤ 64
-  pub accepts : r.accepted ≡ is_accepted v
-  pub result-length : r.result ≡ length (written v)
+  pub result : held_option r.result ≡ result_length v

@@ -1,40 +1,22 @@
 // Numbers among a command's words, P7: a cap, and the n of the combined verdict. A word that is no decimal
 // number, or one that does not fit 64 bits, is none (docs/DECISIONS.md). Assumes nothing.
 ghost use Rattle.std.specs.Prelude.{◌≡◌};
-ghost use Rattle.programs.specs.Arguments.{held_number, number_in};
+ghost use Rattle.spec.specs.Held.{held_option};
+ghost use Rattle.programs.specs.Arguments.{number_in};
 
-use frames::bytes::wide;
-
-// The number that a word stands for, if it is one.
-#[derive(Clone, Copy)]
-pub enum Argument {
-    Number(usize),
-    Other,
-}
-
-// The number that a word's figures stand for, base ten.
-pub fn number_in(word: &[u8]) -> Argument
-    ensures { held_number result ≡ number_in word.now }
+// The number that a word's figures stand for, base ten, if it is one.
+pub fn number_in(word: &[u8]) -> Option<usize>
+    ensures { held_option result ≡ number_in word.now }
 {
-    let mut n = 0;
-    let mut i = 0;
-    while i < word.len() {
-        let c = word[i];
-        if c < 48 {
-            return Argument::Other;
-        }
-        if 57 < c {
-            return Argument::Other;
-        }
-        let figure = wide(c) - 48;
-        if (18446744073709551615 - figure) / 10 < n {
-            return Argument::Other;
-        }
-        n = n * 10 + figure;
-        i += 1;
+    if word.is_empty() {
+        return None;
     }
-    if i == 0 {
-        return Argument::Other;
+    let mut n = 0usize;
+    for c in word {
+        if *c < b'0' || b'9' < *c {
+            return None;
+        }
+        n = n.checked_mul(10)?.checked_add(usize::from(*c - b'0'))?;
     }
-    Argument::Number(n)
+    Some(n)
 }

@@ -2,7 +2,7 @@
 // refusal, 12 first where the book is too long; its contract says that line and words together are the
 // specification's text. The other functions only read an open file, and hand bytes to the output, in
 // pieces where the text is long.
-ghost use Rattle.std.specs.Prelude.{◌≡◌, true, ◌++◌, ◌≤◌, length, take};
+ghost use Rattle.std.specs.Prelude.{◌≡◌, true, ◌++◌, ◌≤◌, length, take, IfOk};
 ghost use Rattle.std.proofs.lemmas.List.Edits.{sets};
 ghost use Rattle.spec.specs.Held.{held_cap};
 ghost use Rattle.spec.specs.Entry.{write_formula, words_after, formula_text};
@@ -13,13 +13,13 @@ ghost use Rattle.programs.specs.Loaded.{IsPrefixLen};
 
 use crate::dimacs::{put_header, put_refusal, put_words};
 use crate::system::fail;
-use model::Cap;
+use model::Refusal;
 use std::io::{Error, Print, Read};
 use std::rt::HostRuntime;
-use writing::{FormulaAnswer, write_formula};
+use writing::write_formula;
 
 // How many bytes are printed first, and how many words follow them.
-#[derive(Clone, Copy)]
+#[derive(Clone, Copy, Debug, PartialEq, Eq)]
 pub struct Opened {
     pub len: usize,
     pub words: usize,
@@ -28,7 +28,13 @@ pub struct Opened {
 // Makes the text of the formula, under a cap or none, that the book's bytes hold: its first line, or the line of the
 // refusal, in `line`, and the words whose text follows it in `words`. Where the book is too long, `long`,
 // its bytes are not looked at, and the refusal is 12.
-pub fn open_text(cap: Cap, book: &[u8], long: bool, words: &mut [i32], line: &mut [u8]) -> Opened
+pub fn open_text(
+    cap: Option<usize>,
+    book: &[u8],
+    long: bool,
+    words: &mut [i32],
+    line: &mut [u8],
+) -> Opened
     requires { length line.old ≡ 64 }
     ensures { (take result.len line.new ++ words_text (take result.words words.new)
         ≡ printed (λ t. t) (unless_long long (formula_text (held_cap cap) book.now (length words.old))))
@@ -41,89 +47,53 @@ pub fn open_text(cap: Cap, book: &[u8], long: bool, words: &mut [i32], line: &mu
 {
     if long {
         return Opened {
-            len: put_refusal(line, 12, 0),
+            len: put_refusal(line, Refusal::NoRoom),
             words: 0,
         };
     }
-    let r = write_formula(cap, book, words);
-    match r {
-        FormulaAnswer::Refused(number, detail) => Opened {
-            len: put_refusal(line, number, detail),
-            words: 0,
+    match write_formula(cap, book, words) {
+        Ok(totals) => Opened {
+            len: put_header(line, totals.variables, totals.clauses),
+            words: totals.words,
         },
-        FormulaAnswer::Totals {
-            variables,
-            clauses,
-            words: n,
-        } => Opened {
-            len: put_header(line, variables, clauses),
-            words: n,
+        Err(refusal) => Opened {
+            len: put_refusal(line, refusal),
+            words: 0,
         },
     }
 }
 
-// An input: how many of its bytes are at the start of a buffer, whether it is longer than the buffer,
-// and whether it could be read.
-#[derive(Clone, Copy)]
+// An input that was read: how many of its bytes are at the start of a buffer, and whether it is longer than the
+// buffer.
+#[derive(Clone, Copy, Debug, PartialEq, Eq)]
 pub struct Loaded {
     pub len: usize,
     pub long: bool,
-    pub read: bool,
 }
 
-// Reads until the buffer is full, the input ends or a read fails; answers how many bytes stand at its start.
-pub fn read_full<R: Read>(input: &mut R, buf: &mut [u8]) -> usize
-    ensures { result ≤ length buf.new }
-{
-    fill(input, buf).0
-}
-
-// The same, and why a read failed, where one did.
-fn fill<R: Read>(input: &mut R, buf: &mut [u8]) -> (usize, Option<Error>)
-    ensures { result.0 ≤ length buf.new }
+// Reads until the buffer is full or the input ends; answers how many bytes stand at its start.
+pub fn read_full<R: Read>(input: &mut R, buf: &mut [u8]) -> Result<usize, Error>
+    ensures { IfOk result (λ n. n ≤ length buf.new) }
 {
     let mut n = 0;
+    // a `while`: n grows by as many bytes as each read gives
     while n < buf.len() {
-        match input.read(&mut buf[n..]) {
-            Ok(0) => return (n, None),
-            Ok(got) => n += got,
-            Err(error) => return (n, Some(error)),
+        match input.read(&mut buf[n..])? {
+            0 => break,
+            got => n += got,
         }
     }
-    (n, None)
+    Ok(n)
 }
 
-// Reads an open input into the buffer, and tells why where it could not be read. One read more tells its end
-// from a failure: an input is too long where it fills the buffer and has a byte more; a byte more behind a
-// buffer that is not full means that a read failed in between.
-pub fn load_or_why<R: Read>(input: &mut R, buf: &mut [u8]) -> (Loaded, Option<Error>)
-    ensures { (IsPrefixLen result.0.len buf.new) × (result.0.long ≡ true → result.0.len ≡ length buf.new) }
+// Reads an open input into the buffer. It is too long where it fills the buffer and has a byte more.
+pub fn load_from<R: Read>(input: &mut R, buf: &mut [u8]) -> Result<Loaded, Error>
+    ensures { IfOk result (λ l. IsPrefixLen l.len buf.new × (l.long ≡ true → l.len ≡ length buf.new)) }
 {
-    let (n, why) = fill(input, buf);
+    let len = read_full(input, buf)?;
     let mut more = [0u8; 1];
-    match input.read(&mut more) {
-        Ok(0) => (as_loaded(n, false, true), None),
-        Ok(_) => if n == buf.len() {
-            (as_loaded(n, true, true), None)
-        } else {
-            (as_loaded(n, false, false), why)
-        },
-        Err(error) => (as_loaded(n, false, false), Some(error)),
-    }
-}
-
-// The three said together.
-fn as_loaded(len: usize, long: bool, read: bool) -> Loaded
-    ensures { result ≡ record { len = len; long = long; read = read } }
-{
-    Loaded { len, long, read }
-}
-
-// Reads an open input into the buffer.
-pub fn load_from<R: Read>(input: &mut R, buf: &mut [u8]) -> Loaded
-    ensures { (IsPrefixLen result.len buf.new) × (result.long ≡ true → result.len ≡ length buf.new) }
-{
-    load_or_why(input, buf).0
+    let long = len == buf.len() && input.read(&mut more)? != 0;
+    Ok(Loaded { len, long })
 }
 
 // Hands the first n bytes of the buffer to the output; answers whether it took them. Where it did not,
@@ -152,6 +122,7 @@ pub fn print_decimal(rt: &HostRuntime, n: u64) {
 pub fn print_words(rt: &HostRuntime, words: &[i32]) {
     let mut buf = [0u8; 65536];
     let mut from = 0;
+    // a `while`: each turn goes on by the words of a whole piece
     while from < words.len() {
         let piece = put_words(&mut buf, words, from);
         if !print(rt, &buf, piece.len) {
@@ -163,7 +134,7 @@ pub fn print_words(rt: &HostRuntime, words: &[i32]) {
 
 // Prints the formula, under a cap or none, of the book that the bytes hold, or its refusal, which is 12 where the book is too
 // long. The words have 64 KiB.
-fn print_formula_text(rt: &HostRuntime, cap: Cap, book: &[u8], long: bool) {
+fn print_formula_text(rt: &HostRuntime, cap: Option<usize>, book: &[u8], long: bool) {
     let mut words = [0i32; 16384];
     let mut line = [0u8; 64];
     let opened = open_text(cap, book, long, &mut words, &mut line);
@@ -173,14 +144,15 @@ fn print_formula_text(rt: &HostRuntime, cap: Cap, book: &[u8], long: bool) {
     }
 }
 
-// Reads a book from an open file and prints its formula under a cap or none, or its refusal; answers whether the book could
-// be read.
-pub fn print_formula_from<R: Read>(rt: &HostRuntime, cap: Cap, input: &mut R) -> bool {
+// Reads a book from an open file and prints its formula under a cap or none, or its refusal; nothing where the book
+// can't be read.
+pub fn print_formula_from<R: Read>(
+    rt: &HostRuntime,
+    cap: Option<usize>,
+    input: &mut R,
+) -> Result<(), Error> {
     let mut book = [0u8; 65536];
-    let loaded = load_from(input, &mut book);
-    let n = loaded.len;
-    if loaded.read {
-        print_formula_text(rt, cap, &book[..n], loaded.long);
-    }
-    loaded.read
+    let loaded = load_from(input, &mut book)?;
+    print_formula_text(rt, cap, &book[..loaded.len], loaded.long);
+    Ok(())
 }

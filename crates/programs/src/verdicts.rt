@@ -3,8 +3,10 @@
 // too long, and the result where there is one; `graph_text` makes the page or the line of the refusal. Their
 // contracts say that these are the specification's. The functions over files promise nothing of them: they
 // read files by their names, and hand bytes to the output and to a file. A slice has at most 64 KiB.
-ghost use Rattle.std.specs.Prelude.{◌≡◌, ◌≤◌, length, pos};
+ghost use Rattle.std.specs.Prelude.{◌≡◌, ◌≤◌, length, pos, IfSome};
 ghost use Rattle.std.proofs.lemmas.List.Edits.{sets};
+ghost use Rattle.spec.specs.Lists.{Bytes, Verdict};
+ghost use Rattle.spec.specs.Answers.{told, accepted_as};
 ghost use Rattle.spec.specs.Held.{held_cap};
 ghost use Rattle.spec.specs.Entry.{overwrite, written, zeroed, check_assignment, unpack_plan, check_plan, check_refutation, check_fewest};
 ghost use Rattle.spec.specs.Upgrade.{upgrade_book};
@@ -12,28 +14,26 @@ ghost use Rattle.spec.specs.Page.{print_graph};
 ghost use Rattle.spec.specs.Carriers.{list_carriers};
 ghost use Rattle.spec.specs.Programs.{program_lent, unless_long, printed};
 ghost use Rattle.refutations.specs.Lent.{lengths};
-ghost use Rattle.programs.specs.Lines.{plain_answer};
-ghost use Rattle.programs.specs.Verdicts.{bare, verdict_of, has_result, asked_check, Says, Tells};
+ghost use Rattle.programs.specs.Verdicts.{bare, verdict_of, has_result, asked_check, Tells};
 ghost use Rattle.programs.specs.Loaded.{IsPrefixLen};
 
 use crate::dimacs::put_refusal;
-use crate::printing::{Loaded, load_or_why, print};
+use crate::printing::{Loaded, load_from, print};
 use crate::system::{create, fail, open};
 use carriers::list_carriers;
 use checking::{check_assignment, check_plan, unpack_plan};
 use fewest::check_fewest;
 use frames::bytes::put_bytes;
 use graph::print_graph;
-use model::Cap;
-use reader::reading::{Answer, OutputAnswer};
+use model::Refusal;
 use refutations::check_refutation;
-use std::io::{Error, ErrorKind, Write};
+use std::io::Write;
 use std::rt::HostRuntime;
 use upgrading::upgrade_book;
 
 // Which check a program makes. An assignment is judged alone, or judged and unpacked; the carriers are
 // listed of a plan that is checked.
-#[derive(Clone, Copy)]
+#[derive(Clone, Copy, Debug, PartialEq, Eq)]
 pub enum Check {
     Assignment,
     Unpacking,
@@ -42,75 +42,78 @@ pub enum Check {
     Carriers,
 }
 
-// How many bytes are printed, whether the answer is accepted, and how many bytes its result has.
-#[derive(Clone, Copy)]
+// How many bytes are printed, and, where the answer is accepted, how many bytes its result has.
+#[derive(Clone, Copy, Debug, PartialEq, Eq)]
 pub struct Said {
     pub len: usize,
-    pub accepted: bool,
-    pub result: usize,
+    pub result: Option<usize>,
 }
 
 // Stores the line of an answer.
-pub fn say(answer: OutputAnswer, line: &mut [u8]) -> Said
+pub fn say(answer: Result<usize, Refusal>, line: &mut [u8]) -> Said
     requires { length line.old ≡ 64 }
-    ensures { Says answer line.old line.new result }
+    ensures { (v : Verdict Bytes) → told answer ≡ accepted_as length v → Tells v line.old line.new result }
 {
     match answer {
-        OutputAnswer::Wrote(n) => Said {
+        Ok(n) => Said {
             len: put_bytes(line, 0, b"accepted\n"),
-            accepted: true,
-            result: n,
+            result: Some(n),
         },
-        OutputAnswer::Refused(number, detail) => Said {
-            len: put_refusal(line, number, detail),
-            accepted: false,
-            result: 0,
+        Err(refusal) => Said {
+            len: put_refusal(line, refusal),
+            result: None,
         },
     }
 }
 
-// Stores the line of an answer that has no result.
-pub fn say_plain(answer: Answer, line: &mut [u8]) -> Said
+// Stores the line of an answer that has no result, as of one with an empty result.
+pub fn say_plain(answer: Result<(), Refusal>, line: &mut [u8]) -> Said
     requires { length line.old ≡ 64 }
-    ensures { Says (plain_answer answer) line.old line.new result }
+    ensures { (v : Verdict (Unit {0})) → told answer ≡ v → Tells (bare v) line.old line.new result }
 {
-    match answer {
-        Answer::Accepted => say(OutputAnswer::Wrote(0), line),
-        Answer::Refused(number, detail) => say(OutputAnswer::Refused(number, detail), line),
-    }
+    say(answer.map(|_| 0), line)
 }
 
 // The line of the verdict on an assignment that is judged alone: nothing is lent for a plan.
-fn assignment_text(cap: Cap, book: &[u8], values: &[u8], line: &mut [u8]) -> Said
+fn assignment_text(cap: Option<usize>, book: &[u8], values: &[u8], line: &mut [u8]) -> Said
     requires { length line.old ≡ 64 }
     ensures { Tells (bare (check_assignment (held_cap cap) book.now values.now)) line.old line.new result }
 {
-    let answer = check_assignment(cap, book, values);
-    say_plain(answer, line)
+    say_plain(check_assignment(cap, book, values), line)
 }
 
 // The line of the verdict on an assignment, and its plan.
-fn unpacking_text(cap: Cap, book: &[u8], values: &[u8], plan: &mut [u8], line: &mut [u8]) -> Said
+fn unpacking_text(
+    cap: Option<usize>,
+    book: &[u8],
+    values: &[u8],
+    plan: &mut [u8],
+    line: &mut [u8],
+) -> Said
     requires { length line.old ≡ 64 }
     ensures { Tells (unpack_plan (held_cap cap) book.now values.now (length plan.old))
         line.old line.new result
         × (plan.new ≡ overwrite plan.old
         (written (unpack_plan (held_cap cap) book.now values.now (length plan.old)))) }
 {
-    let answer = unpack_plan(cap, book, values, plan);
-    say(answer, line)
+    say(unpack_plan(cap, book, values, plan), line)
 }
 
 // The line of the verdict on a plan, and its assignment.
-fn plan_text(cap: Cap, book: &[u8], plan: &[u8], values: &mut [u8], line: &mut [u8]) -> Said
+fn plan_text(
+    cap: Option<usize>,
+    book: &[u8],
+    plan: &[u8],
+    values: &mut [u8],
+    line: &mut [u8],
+) -> Said
     requires { length line.old ≡ 64 }
     ensures { Tells (check_plan (held_cap cap) book.now plan.now (length values.old))
         line.old line.new result
         × (values.new ≡ overwrite values.old
         (written (check_plan (held_cap cap) book.now plan.now (length values.old)))) }
 {
-    let answer = check_plan(cap, book, plan, values);
-    say(answer, line)
+    say(check_plan(cap, book, plan, values), line)
 }
 
 // The line of the verdict on a plan, and the list of its carriers.
@@ -121,13 +124,12 @@ fn carriers_text(book: &[u8], plan: &[u8], list: &mut [u8], line: &mut [u8]) -> 
         × (list.new ≡ overwrite list.old
         (written (list_carriers book.now plan.now (length list.old)))) }
 {
-    let answer = list_carriers(book, plan, list);
-    say(answer, line)
+    say(list_carriers(book, plan, list), line)
 }
 
 // The line of the verdict on a refutation, which has no result.
 pub fn refutation_text(
-    cap: Cap,
+    cap: Option<usize>,
     book: &[u8],
     r: &[u8],
     words: &mut [i32],
@@ -144,12 +146,14 @@ pub fn refutation_text(
         × (values.new ≡ zeroed 0 (length values.old))
         × (trail.new ≡ zeroed 0 (length trail.old)) }
 {
-    let answer = check_refutation(cap, book, r, words, starts, values, trail);
-    say_plain(answer, line)
+    say_plain(
+        check_refutation(cap, book, r, words, starts, values, trail),
+        line,
+    )
 }
 
 // The same, with slices of 64 KiB each.
-fn lent_refutation_text(cap: Cap, book: &[u8], r: &[u8], line: &mut [u8]) -> Said
+fn lent_refutation_text(cap: Option<usize>, book: &[u8], r: &[u8], line: &mut [u8]) -> Said
     requires { length line.old ≡ 64 }
     ensures { Tells (bare (check_refutation (held_cap cap) book.now r.now program_lent)) line.old line.new result }
 {
@@ -185,17 +189,19 @@ fn lent_fewest_text(
     let mut starts = [0usize; 8192];
     let mut values = [0u8; 65536];
     let mut trail = [0usize; 8192];
-    let answer = check_fewest(
-        book,
-        n,
-        assignment,
-        refutation,
-        &mut words,
-        &mut starts,
-        &mut values,
-        &mut trail,
-    );
-    say_plain(answer, line)
+    say_plain(
+        check_fewest(
+            book,
+            n,
+            assignment,
+            refutation,
+            &mut words,
+            &mut starts,
+            &mut values,
+            &mut trail,
+        ),
+        line,
+    )
 }
 
 // What check_fewest says of a book, n and both of a solver's inputs: the line of the verdict in `line`. Where an
@@ -213,7 +219,7 @@ pub fn fewest_text(
         line.old line.new result }
 {
     if long {
-        return say(OutputAnswer::Refused(12, 0), line);
+        return say(Err(Refusal::NoRoom), line);
     }
     lent_fewest_text(book, n, assignment, refutation, line)
 }
@@ -223,7 +229,7 @@ pub fn fewest_text(
 // refusal is 12.
 pub fn verdict_text(
     check: Check,
-    cap: Cap,
+    cap: Option<usize>,
     book: &[u8],
     second: &[u8],
     long: bool,
@@ -237,7 +243,7 @@ pub fn verdict_text(
         (written (unless_long long (verdict_of check (held_cap cap) book.now second.now (length out.old))))) }
 {
     if long {
-        return say(OutputAnswer::Refused(12, 0), line);
+        return say(Err(Refusal::NoRoom), line);
     }
     match check {
         Check::Assignment => assignment_text(cap, book, second, line),
@@ -256,10 +262,9 @@ pub fn upgrade_text(old: &[u8], long: bool, out: &mut [u8], line: &mut [u8]) -> 
         × (out.new ≡ overwrite out.old (written (unless_long long (upgrade_book old.now (length out.old))))) }
 {
     if long {
-        return say(OutputAnswer::Refused(12, 0), line);
+        return say(Err(Refusal::NoRoom), line);
     }
-    let answer = upgrade_book(old, out);
-    say(answer, line)
+    say(upgrade_book(old, out), line)
 }
 
 // What print_graph prints of a book and a plan, stored at the start of `out`: the page, or the line of the
@@ -271,39 +276,29 @@ pub fn graph_text(book: &[u8], plan: &[u8], long: bool, out: &mut [u8]) -> usize
         (printed (λ page. page) (unless_long long (print_graph book.now plan.now (length out.old))))) }
 {
     if long {
-        return put_refusal(out, 12, 0);
+        return put_refusal(out, Refusal::NoRoom);
     }
-    let answer = print_graph(book, plan, out);
-    match answer {
-        OutputAnswer::Wrote(n) => n,
-        OutputAnswer::Refused(number, detail) => put_refusal(out, number, detail),
+    match print_graph(book, plan, out) {
+        Ok(n) => n,
+        Err(refusal) => put_refusal(out, refusal),
     }
 }
 
 // Reads the file of this name; where it can't be read, standard error says why.
-fn load(rt: &HostRuntime, name: &[u8], buf: &mut [u8]) -> Loaded
-    ensures { IsPrefixLen result.len buf.new }
+fn load(rt: &HostRuntime, name: &[u8], buf: &mut [u8]) -> Option<Loaded>
+    ensures { IfSome result (λ l. IsPrefixLen l.len buf.new) }
 {
     match open(rt, name) {
-        Ok(file) => {
-            let mut input = file;
-            let (loaded, why) = load_or_why(&mut input, buf);
-            if !loaded.read {
-                fail(
-                    rt,
-                    name,
-                    why.unwrap_or(Error::from(ErrorKind::UnexpectedEof)),
-                );
+        Ok(mut file) => match load_from(&mut file, buf) {
+            Ok(loaded) => Some(loaded),
+            Err(error) => {
+                fail(rt, name, error);
+                None
             }
-            loaded
-        }
+        },
         Err(error) => {
             fail(rt, name, error);
-            Loaded {
-                len: 0,
-                long: false,
-                read: false,
-            }
+            None
         }
     }
 }
@@ -311,9 +306,8 @@ fn load(rt: &HostRuntime, name: &[u8], buf: &mut [u8]) -> Loaded
 // Writes bytes into the file of this name; where it can't be written, standard error says why.
 fn save(rt: &HostRuntime, name: &[u8], bytes: &[u8]) {
     match create(rt, name) {
-        Ok(file) => {
-            let mut output = file;
-            if let Err(error) = output.write_all(bytes) {
+        Ok(mut file) => {
+            if let Err(error) = file.write_all(bytes) {
                 fail(rt, name, error);
             }
         }
@@ -324,12 +318,13 @@ fn save(rt: &HostRuntime, name: &[u8], bytes: &[u8]) {
 // Prints the line of a verdict; where it is accepted its result, which may be empty, goes to the file of
 // this name, if one was named.
 fn hand_out(rt: &HostRuntime, said: Said, line: &[u8], out: &[u8], res: &[u8], named: bool) {
-    let n = said.result;
     if !print(rt, line, said.len) {
         return;
     }
-    if said.accepted && n <= out.len() && named {
-        save(rt, res, &out[..n]);
+    if let Some(n) = said.result {
+        if n <= out.len() && named {
+            save(rt, res, &out[..n]);
+        }
     }
 }
 
@@ -338,15 +333,8 @@ fn asked(check: Check, named: bool) -> Check
     ensures { result ≡ asked_check check named }
 {
     match check {
-        Check::Assignment => if named {
-            Check::Unpacking
-        } else {
-            Check::Assignment
-        },
-        Check::Unpacking => Check::Unpacking,
-        Check::Plan => Check::Plan,
-        Check::Refutation => Check::Refutation,
-        Check::Carriers => Check::Carriers,
+        Check::Assignment if named => Check::Unpacking,
+        _ => check,
     }
 }
 
@@ -355,11 +343,8 @@ fn has_result(check: Check) -> bool
     ensures { result ≡ has_result check }
 {
     match check {
-        Check::Assignment => false,
-        Check::Unpacking => true,
-        Check::Plan => true,
-        Check::Refutation => false,
-        Check::Carriers => true,
+        Check::Assignment | Check::Refutation => false,
+        Check::Unpacking | Check::Plan | Check::Carriers => true,
     }
 }
 
@@ -368,7 +353,7 @@ fn has_result(check: Check) -> bool
 pub fn judge_files(
     rt: &HostRuntime,
     check: Check,
-    cap: Cap,
+    cap: Option<usize>,
     book: &[u8],
     second: &[u8],
     res: &[u8],
@@ -378,19 +363,16 @@ pub fn judge_files(
     let mut more = [0u8; 65536];
     let a = load(rt, book, &mut bytes);
     let b = load(rt, second, &mut more);
-    if a.read && b.read {
+    if let (Some(a), Some(b)) = (a, b) {
         let mut out = [0u8; 65536];
         let mut line = [0u8; 64];
-        let n = a.len;
-        let m = b.len;
-        let long = a.long || b.long;
         let made = asked(check, named);
         let said = verdict_text(
             made,
             cap,
-            &bytes[..n],
-            &more[..m],
-            long,
+            &bytes[..a.len],
+            &more[..b.len],
+            a.long || b.long,
             &mut out,
             &mut line,
         );
@@ -406,13 +388,17 @@ pub fn fewest_files(rt: &HostRuntime, book: &[u8], n: usize, assignment: &[u8], 
     let a = load(rt, book, &mut bytes);
     let b = load(rt, assignment, &mut yes);
     let c = load(rt, refutation, &mut no);
-    if a.read && b.read && c.read {
+    if let (Some(a), Some(b), Some(c)) = (a, b, c) {
         let mut line = [0u8; 64];
-        let i = a.len;
-        let j = b.len;
-        let k = c.len;
         let long = a.long || b.long || c.long;
-        let said = fewest_text(&bytes[..i], n, &yes[..j], &no[..k], long, &mut line);
+        let said = fewest_text(
+            &bytes[..a.len],
+            n,
+            &yes[..b.len],
+            &no[..c.len],
+            long,
+            &mut line,
+        );
         print(rt, &line, said.len);
     }
 }
@@ -424,11 +410,9 @@ pub fn graph_files(rt: &HostRuntime, book: &[u8], plan: &[u8]) {
     let mut more = [0u8; 65536];
     let a = load(rt, book, &mut bytes);
     let b = load(rt, plan, &mut more);
-    if a.read && b.read {
+    if let (Some(a), Some(b)) = (a, b) {
         let mut out = [0u8; 65536];
-        let n = a.len;
-        let m = b.len;
-        let len = graph_text(&bytes[..n], &more[..m], a.long || b.long, &mut out);
+        let len = graph_text(&bytes[..a.len], &more[..b.len], a.long || b.long, &mut out);
         print(rt, &out, len);
     }
 }
@@ -437,12 +421,10 @@ pub fn graph_files(rt: &HostRuntime, book: &[u8], plan: &[u8]) {
 // nothing is printed.
 pub fn upgrade_file(rt: &HostRuntime, old: &[u8], new: &[u8]) {
     let mut bytes = [0u8; 65536];
-    let a = load(rt, old, &mut bytes);
-    if a.read {
+    if let Some(a) = load(rt, old, &mut bytes) {
         let mut out = [0u8; 65536];
         let mut line = [0u8; 64];
-        let n = a.len;
-        let said = upgrade_text(&bytes[..n], a.long, &mut out, &mut line);
+        let said = upgrade_text(&bytes[..a.len], a.long, &mut out, &mut line);
         hand_out(rt, said, &line, &out, new, true);
     }
 }

@@ -1,12 +1,12 @@
 -- A row that is stored in a slice from a place on, element by element: where the loop starts, its next store, and what it leaves.
--- Zeroes are such a row. Assumes nothing.
+-- Assumes nothing.
 use mathlib.Core.Path.{◌≡◌, refl, sym, ap, ap₂, ◌∙◌}
 use Prim.Native.Nat.{ℕ, ◌+◌, ◌≤◌, ◌<◌}
 use native.Mathlib.Nat.{zero-add}
 use native.Mathlib.Numerals.{add-one}
 use native.Mathlib.Omega.{arith}
-use mathlib.Core.List.{List, ◌++◌, append-nil}
-use lib.ListN.{length, get_or, take, drop, set, length-set, length-replicate, get_or-replicate, drop_of_length-le}
+use mathlib.Core.List.{List, ◌++◌}
+use lib.ListN.{length, get_or, take, drop, set, length-set, length-replicate}
 use lib.Seq.{sets, sets-eq, paste, paste-zero, paste-suc, take_all}
 use Rattle.spec.specs.Entry.{zeroed}
 
@@ -50,31 +50,7 @@ module _ {ℓ} {A : Type ℓ} where
       → Stored old 0 row (set new i x) (i + 1)
   stored-front {i = i} d s l e = rw zero-add at (stored_next d s l e)
 
-  -- ---- zeroes
-
-  module _ (z : A) where
-    -- the first i elements of `old` are zeroed, which gives `new`
-    abbrev pub Cleared : List A → List A → ℕ → Type ℓ
-    Cleared old new i = Stored old 0 (zeroed z (length old)) new i
-
-    -- as many as asked for
-    pub length-zeroed : (n : ℕ) → length (zeroed z n) ≡ n
-    unfolding zeroed
-    length-zeroed n = length-replicate n z
-
-    -- before the first store, at the next one, and after the last
-    pub cleared-start : (old : List A) → Cleared old old 0
-    cleared-start old = stored-start old 0 _ (omega (arith, length-zeroed (length old)))
-
-    pub cleared-next : {old new : List A} {i : ℕ} → Cleared old new i → i < length old → Cleared old (set new i z) (i + 1)
-    unfolding zeroed
-    cleared-next {old} {i = i} s l =
-        stored-front z s (omega (arith, length-zeroed (length old))) (sym (get_or-replicate (length old) i z z l))
-
-    pub cleared-done : {old new : List A} {i : ℕ} → Cleared old new i → length old ≤ i → new ≡ zeroed z (length old)
-    cleared-done {old} s h =
-        let e = length-zeroed (length old) in
-        stored-done s (omega arith)
-        ∙ sets-eq (zeroed z (length old)) old 0 s.fits
-        ∙ ap (λ (r : List A). zeroed z (length old) ++ r) (drop_of_length-le old {i = 0 + length (zeroed z (length old))} (omega arith))
-        ∙ append-nil (zeroed z (length old))
+-- as many zeroes as asked for
+pub length-zeroed {ℓ} : {A : Type ℓ} (z : A) (n : ℕ) → length (zeroed z n) ≡ n
+unfolding zeroed
+length-zeroed z n = length-replicate n z

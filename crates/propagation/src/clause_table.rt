@@ -4,7 +4,6 @@ ghost use Rattle.std.specs.Prelude.{◌≡◌, ◌++◌, ◌+◌, ◌≤◌, len
 ghost use Rattle.std.proofs.lemmas.List.Edits.{sets};
 ghost use Rattle.spec.specs.Lists.{one};
 ghost use Rattle.spec.specs.Formula.{words_of};
-ghost use Rattle.spec.specs.Entry.{zeroed};
 ghost use Rattle.spec.specs.Refutation.{clauses_of};
 ghost use Rattle.refutation_file.specs.Numbers.{number_count, literals_in};
 ghost use Rattle.propagation.specs.Kept.{starts_from};
@@ -18,10 +17,8 @@ pub fn store_clause(list: &[u8], words: &mut [i32], at: usize)
     ensures { words.new ≡ sets words.old at (literals_in list.now ++ one (pos 0)) }
 {
     let n = list.len() / NUMBER;
-    let mut i = 0;
-    while i < n {
+    for i in 0..n {
         words[at + i] = literal_at(list, i);
-        i += 1;
     }
     words[at + n] = 0;
 }
@@ -33,46 +30,11 @@ pub fn index_clauses(words: &[i32], starts: &mut [usize])
 {
     let mut first = 0;
     let mut clause = 0;
-    let mut at = 0;
-    while at < words.len() {
-        if words[at] == 0 {
+    for (at, word) in words.iter().enumerate() {
+        if *word == 0 {
             starts[clause] = first;
             clause += 1;
             first = at + 1;
         }
-        at += 1;
-    }
-}
-
-// Zeroes a slice of words.
-pub fn clear_words(words: &mut [i32])
-    ensures { words.new ≡ zeroed (pos 0) (length words.old) }
-{
-    let mut i = 0;
-    while i < words.len() {
-        words[i] = 0;
-        i += 1;
-    }
-}
-
-// Zeroes a slice of numbers.
-pub fn clear_numbers(numbers: &mut [usize])
-    ensures { numbers.new ≡ zeroed 0 (length numbers.old) }
-{
-    let mut i = 0;
-    while i < numbers.len() {
-        numbers[i] = 0;
-        i += 1;
-    }
-}
-
-// Zeroes a slice of bytes.
-pub fn clear_bytes(bytes: &mut [u8])
-    ensures { bytes.new ≡ zeroed 0 (length bytes.old) }
-{
-    let mut i = 0;
-    while i < bytes.len() {
-        bytes[i] = 0;
-        i += 1;
     }
 }

@@ -78,10 +78,8 @@ fn take_false(list: &[u8], values: &mut [u8], trail: &mut [usize]) -> usize
         × Trailed values.new trail.new result × (drop result trail.new ≡ drop result trail.old) }
 {
     let n = list.len() / NUMBER;
-    let mut i = 0;
-    while i < n {
+    for i in 0..n {
         make_false(values, trail, i, literal_at(list, n - 1 - i));
-        i += 1;
     }
     n
 }
@@ -114,10 +112,10 @@ fn try_hints(
     let n = hints.len() / NUMBER;
     let mut set = first;
     let mut proved = false;
-    let mut k = 0;
-    'hints: while k < n {
+    'hints: for k in 0..n {
         let mut at = starts[number_at(hints, k) - 1];
         let mut unit = 0i32;
+        // Document 01's inner loop over the literals: it ends at the clause's 0, so no end has to be known ahead.
         while words[at] != 0 {
             let l = words[at];
             if !has_false_byte(values, l) {
@@ -134,9 +132,8 @@ fn try_hints(
             }
             at += 1;
         }
-        k += 1;
         if unit == 0 {
-            proved = k == n;
+            proved = k + 1 == n;
             break 'hints;
         }
         make_true(values, trail, set, unit);
@@ -150,10 +147,8 @@ fn undo(values: &mut [u8], trail: &[usize], set: usize)
     requires { Trailed values.old trail.now set }
     ensures { values.new ≡ zeroed 0 (length values.old) }
 {
-    let mut j = 0;
-    while j < set {
-        values[trail[j]] = 0;
-        j += 1;
+    for v in &trail[..set] {
+        values[*v] = 0;
     }
 }
 

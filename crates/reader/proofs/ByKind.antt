@@ -12,17 +12,15 @@ use lib.Dec.{T, eqb}
 use Rattle.model.specs.declared.Book.{Book as BookStruct}
 use Rattle.laws.proofs.Tests.{all-iff, and-iff, leb-iff}
 use Rattle.laws.proofs.Numbers.{field-one}
-use Rattle.spec.specs.Lists.{Bytes, all, first_fault}
+use Rattle.spec.specs.Lists.{Bytes, all, first_fault, Verdict, accepted, refused}
 use Rattle.spec.specs.Numbers.{field}
 use Rattle.spec.specs.Frames.{is_kind, kind_number, Format, Kind, train_kind, end_kind, train_fixed, train_count_at, length_fits}
 use Rattle.spec.specs.Book.{Book}
-use Rattle.spec.specs.Read.{grown, growing, kind_faults, content_faults, add, add_found, head_fits, segment_fits, call_fits}
+use Rattle.spec.specs.Read.{grown, growing, kind_faults, content_faults, add, add_found, refuse_or, head_fits, segment_fits, call_fits}
 use Rattle.spec.specs.Held.{held, packed}
 use Rattle.frames.specs.declared.Kind.{Kind as KindCase}
 use Rattle.frames.specs.declared.Kind.TheVariants.{Head}
 use Rattle.frames.specs.Framed.{kind_in, place_of}
-use Rattle.reader.specs.declared.content.Added.{Added}
-use Rattle.reader.specs.declared.content.Checked.TheVariants.{Fine, Refused}
 use Rattle.reader.specs.Added.{added, Packed, CallsFew}
 use Rattle.demands.proofs.Growing.{Few, growing-parts}
 use Rattle.reader.specs.BookAnswers.{added_found}
@@ -36,29 +34,24 @@ module _ (F : Format) (b : BookStruct) (w : Packed b) (s : Bytes) (at end : ℕ)
   payload-length : length payload ≡ end - at
   payload-length = length-take-le (end - at) (drop at s) (omega (arith, length-drop at s))
 
-  -- an answer for a kind, as one for what the number says
-  pub by_kind : {k case : KindCase} {r : Added} → k ≡ case → r ≡ added_found F (held b) (kind_in case) payload
-      → r ≡ added_found F (held b) (kind_in k) payload
-  by_kind e f = f ∙ sym (ap (λ k. added_found F (held b) (kind_in k) payload) e)
-
   -- a payload that is not as long as its kind's is refused by 4
-  pub wrong-length : (k : Kind) → length_fits F k payload ≡ false → {r : Added} → (r.checked ≡ Refused 4) × (r.book ≡ b)
-      → r ≡ added_found F (held b) (some k) payload
-  unfolding added_found kind_faults first_fault
-  wrong-length k f e = let same' = e.1 ∙ w.same in rw f (λ i. record { checked = e.0 i; book = same' i })
+  pub wrong-length : (k : Kind) → length_fits F k payload ≡ false → refused 4 0 ≡ added_found F (held b) (some k) payload
+  unfolding added_found kind_faults first_fault refuse_or
+  wrong-length k f = rw f refl
 
   -- and any other by its content
-  pub right-length : (k : Kind) → length_fits F k payload ≡ true → {r : Added} → r ≡ added F k (held b) payload
+  pub right-length : (k : Kind) → length_fits F k payload ≡ true → {r : Verdict BookStruct} → r ≡ added F k (held b) payload
       → r ≡ added_found F (held b) (some k) payload
   unfolding added added_found add_found kind_faults first_fault
   right-length k f e = rw f e
 
   -- a kind of n bytes
   module _ (k : Kind) (n to : ℕ) (size : length_fits F k payload ≡ eqb (length payload) n) (ends : to ≡ at + n) (order : at ≤ end) where
-    pub elsewhere : to ≢ end → {r : Added} → (r.checked ≡ Refused 4) × (r.book ≡ b) → r ≡ added_found F (held b) (some k) payload
-    elsewhere h e = wrong-length k (size ∙ ne_eqb (length payload) n (λ (l : length payload ≡ n). h (omega (arith, l, payload-length)))) e
+    pub elsewhere : to ≢ end → refused 4 0 ≡ added_found F (held b) (some k) payload
+    elsewhere h = wrong-length k (size ∙ ne_eqb (length payload) n (λ (l : length payload ≡ n). h (omega (arith, l, payload-length))))
 
-    pub there : to ≡ end → {r : Added} → r ≡ added F k (held b) (take (to - at) (drop at s)) → r ≡ added_found F (held b) (some k) payload
+    pub there : to ≡ end → {r : Verdict BookStruct} → r ≡ added F k (held b) (take (to - at) (drop at s))
+        → r ≡ added_found F (held b) (some k) payload
     there h e =
         right-length k (size ∙ eq-eqb (length payload) n (omega (arith, payload-length))) (e ∙ ap (λ (m : ℕ). added F k (held b) (take (m - at) (drop at s))) h)
 
@@ -96,20 +89,10 @@ module _ (F : Format) (b : BookStruct) (w : Packed b) (s : Bytes) (at end : ℕ)
           rw (le-leb (train_fixed F) (length payload) (omega (arith, payload-length)), count-is)
           (eq-eqb (length payload) (train_fixed F + count) (omega (arith, payload-length)))
 
-  -- a frame that adds nothing, and has no fault
-  pub adds-nothing : (o : Option Kind) → first_fault (kind_faults F (held b) o payload) ≡ none → add_found F (held b) o payload ≡ held b
-      → {r : Added} → (r.checked ≡ Fine) × (r.book ≡ b) → r ≡ added_found F (held b) o payload
-  unfolding added_found
-  adds-nothing o f g e =
-      let same' = e.1 ∙ w.same ∙ ap packed (sym g) in rw f (λ i. record { checked = e.0 i; book = same' i })
-
-  -- the End
-  pub none_left : (to : ℕ) → to ≡ at + 0 → to ≡ end → length payload ≡ 0
-  none_left to e h = omega (arith, payload-length)
-
-  pub ends-right : length payload ≡ 0 → {r : Added} → (r.checked ≡ Fine) × (r.book ≡ b) → r ≡ added_found F (held b) (some end_kind) payload
-  unfolding kind_faults content_faults first_fault length_fits add_found add is_kind kind_number grown held
-  ends-right e f = adds-nothing (some end_kind) (rw (eq-eqb (length payload) 0 e) refl) refl f
+  -- the End adds nothing
+  pub ends-right : end ≡ at → accepted b ≡ added_found F (held b) (some end_kind) payload
+  unfolding added_found refuse_or kind_faults content_faults first_fault length_fits add_found add is_kind kind_number grown held
+  ends-right e = rw (eq-eqb (length payload) 0 (omega (arith, payload-length))) (ap accepted w.same)
 
 -- a case that is another than the Head
 pub no-head : {k case : KindCase} → k ≡ case → place_of case ≢ 1 → k ≢ Head

@@ -5,26 +5,29 @@ use mathlib.Core.Bool.{Bool, true, false, not, ◌||◌, not-not}
 use mathlib.Core.Option.{none, some}
 use Prim.Native.Nat.{ℕ, ◌+◌, ◌<◌, min}
 use native.Mathlib.Omega.{arith}
-use mathlib.Core.List.{List, [], map}
-use lib.ListN.{length, get_or, length-map, get_or-append}
+use mathlib.Core.List.{List, [], ◌∷◌, map}
+use lib.ListN.{length, take, get_or, length-map, get_or-append}
 use lib.Seq.{ext_get_or}
-use lib.Dec.{ltb, eqb}
+use lib.Dec.{ltb, leb, eqb}
+use Rattle.std.specs.List.{list_all}
+use Rattle.std.proofs.lemmas.Bool.Decides.{nat_tests}
+use Rattle.laws.proofs.Arrays.{take-padded-at}
 use Rattle.laws.proofs.Tests.{ltb_iff, bool-ext, empty-length}
 use Rattle.laws.proofs.Rows.{any-map}
 use Rattle.laws.proofs.Parts.{length-up_to, map_at, map_same}
 use Rattle.model.specs.declared.Book.{Book as BookStruct}
-use Rattle.spec.specs.Lists.{any, up_to, empty, ◌when◌, first_fault, one, refused}
+use Rattle.spec.specs.Lists.{any, up_to, empty, ◌when◌, first_fault, one, Verdict, accepted, refused}
 use Rattle.spec.specs.Book.{Book, calls_of, train_at}
 use Rattle.spec.specs.Runs.{runs_of}
 use Rattle.spec.specs.Read.{book_faults, refuse_or, max_runs}
+use Rattle.spec.specs.Answers.{accepted_as}
 use Rattle.spec.specs.Held.{held, padded}
 use Rattle.reader.specs.Added.{Packed}
 use Rattle.listing.specs.Listed.{count_after, runs_at, run_counts}
 use Rattle.demands.proofs.Wellformed.{runs-at}
 use Rattle.reader.proofs.FrameTests.{fault-here, fault-next}
-use Rattle.reader.specs.declared.reading.Answer.TheVariants.{Accepted}
-use Rattle.reader.specs.declared.reading.BookRead.{BookRead}
-use Rattle.reader.specs.BookAnswers.{book_read_of}
+use Rattle.reader.specs.declared.reading.ReadBook.{ReadBook}
+use Rattle.reader.specs.BookAnswers.{read_of}
 
 -- ---- rows
 
@@ -77,14 +80,26 @@ count_at b i l =
     let counted : ℕ → ℕ = λ i. count_after 0 (runs_at b i) in
     get_or-append (map counted (up_to n)) _ 0 i (omega (arith, length-map (up_to n) counted, length-up_to n)) ∙ map_at counted n i 0 l
 
--- some count is over 256 exactly where some train has more runs
-pub counts-over : (b : Book)
-    → any (λ i. ltb 256 (get_or (run_counts b) i 0)) (up_to (length b.trains)) ≡ any (λ t. ltb max_runs (length (runs_of b t))) b.trains
-unfolding runs_at train_at
-counts-over b =
-    any_same _ _ (length b.trains)
-    (λ i l. ap (ltb 256) (count_at b i l) ∙ count-over (runs_at b i) ∙ ap (λ (runs : List (List ℕ)). ltb max_runs (length runs)) (runs-at b i l))
+-- no count is over 256 exactly where no train has more runs
+none-over : (counts : List ℕ) → list_all (λ n. leb n 256) counts ≡ not (any (ltb 256) counts)
+unfolding any
+none-over [] = refl
+none-over (n ∷ ns) = grind (arith, nat_tests, none-over ns)
+
+pub counts-fit : (b : Book)
+    → list_all (λ n. leb n 256) (take (length b.trains) (run_counts b)) ≡ not (any (λ t. ltb max_runs (length (runs_of b t))) b.trains)
+unfolding run_counts runs_at train_at
+counts-fit b =
+    let n = length b.trains in
+    let counted : ℕ → ℕ = λ i. count_after 0 (runs_at b i) in
+    let counts : take n (run_counts b) ≡ map counted (up_to n) = take-padded-at 8 n 0 (map counted (up_to n)) (length-map (up_to n) counted ∙ length-up_to n) in
+    none-over (take n (run_counts b))
+    ∙ ap not (
+    ap (any (ltb 256)) counts
+    ∙ any-map (ltb 256) counted (up_to n)
+    ∙ any_same _ _ n (λ i l. count-over (runs_at b i) ∙ ap (λ (runs : List (List ℕ)). ltb max_runs (length runs)) (runs-at b i l))
     ∙ sym (any_at (λ t. ltb max_runs (length (runs_of b t))) _ b.trains)
+    )
 
 -- ---- the answer
 
@@ -109,20 +124,19 @@ module _ (b : Book) where
   first-none e f = fault-next 10 (lacks b) (one (11 when overs b)) e ∙ fault-next 11 (overs b) [] f
 
 -- what reading answers then
-abbrev ended : BookStruct → BookRead
-ended b = book_read_of (refuse_or (first_fault (book_faults (held b))) (held b))
+abbrev ended : BookStruct → Verdict ReadBook
+ended b = accepted_as read_of (refuse_or (first_fault (book_faults (held b))) (held b))
 
-module _ (b : BookStruct) {r : BookRead} where
-  pub ends-lacking : lacks (held b) ≡ true → r ≡ book_read_of (refused 10 0) → r ≡ ended b
+module _ (b : BookStruct) where
+  pub ends-lacking : lacks (held b) ≡ true → refused 10 0 ≡ ended b
   unfolding refuse_or
-  ends-lacking e h = rw (first-lacks (held b) e) h
+  ends-lacking e = rw (first-lacks (held b) e) refl
 
-  pub ends-over : lacks (held b) ≡ false → overs (held b) ≡ true → r ≡ book_read_of (refused 11 0) → r ≡ ended b
+  pub ends-over : lacks (held b) ≡ false → overs (held b) ≡ true → refused 11 0 ≡ ended b
   unfolding refuse_or
-  ends-over e f h = rw (first-overs (held b) e f) h
+  ends-over e f = rw (first-overs (held b) e f) refl
 
-  pub ends-fine : Packed b → lacks (held b) ≡ false → overs (held b) ≡ false
-      → r ≡ record { answer = Accepted; book = b; counts = run_counts (held b) } → r ≡ ended b
+  pub ends-fine : Packed b → lacks (held b) ≡ false → overs (held b) ≡ false → accepted (record { book = b; counts = run_counts (held b) }) ≡ ended b
   unfolding refuse_or
-  ends-fine w e f h =
-      rw (first-none (held b) e f) (h ∙ (λ i. record { answer = Accepted; book = w.same i; counts = run_counts (held b) }))
+  ends-fine w e f =
+      rw (first-none (held b) e f) (λ i. accepted (record { book = w.same i; counts = run_counts (held b) }))

@@ -8,7 +8,6 @@ pub mod ByKind
 pub mod Ends
 pub mod Whole
 pub mod Way
-pub mod Accepted
 pub mod Verdicts
 pub mod Formed
 pub mod Outputs

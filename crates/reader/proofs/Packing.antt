@@ -10,14 +10,12 @@ use lib.ListN.{length, take, set, length-append, length-map}
 use lib.Seq.{length-take-le, take_at}
 use Rattle.model.specs.declared.Book.{Book as BookStruct}
 use Rattle.model.specs.declared.Train.{Train as TrainStruct}
-use Rattle.spec.specs.Lists.{Bytes, one, first_fault}
+use Rattle.spec.specs.Lists.{Bytes, one, first_fault, accepted, refused}
 use Rattle.spec.specs.Frames.{Format, is_kind, kind_number, Kind, head_kind, node_kind, segment_kind, join_kind, train_kind, call_kind, unbreakable_kind}
 use Rattle.spec.specs.Book.{Book, Segment, Join, Train, Call}
 use Rattle.spec.specs.Numbers.{field}
-use Rattle.spec.specs.Read.{content_faults, add, grown, segment_in, join_in, train_in, call_in, max_nodes, max_segments, max_joins, max_trains, max_calls}
+use Rattle.spec.specs.Read.{content_faults, add, refuse_or, grown, segment_in, join_in, train_in, call_in, max_nodes, max_segments, max_joins, max_trains, max_calls}
 use Rattle.spec.specs.Held.{held, packed, padded, held_train, packed_train, CountsFit, NumbersFit, zero_segment, zero_join, zero_train, zero_call}
-use Rattle.reader.specs.declared.content.Checked.TheVariants.{Fine, Refused}
-use Rattle.reader.specs.declared.content.Added.{Added}
 use Rattle.reader.specs.Added.{added, Packed}
 
 -- ---- rows in arrays
@@ -253,15 +251,13 @@ module _ (b : BookStruct) (w : Packed b) where
 
 -- ---- the answer
 
--- a refusal: the table's first fault, and the book unchanged
-module _ (F : Format) (k : Kind) {b : BookStruct} (w : Packed b) (p : Bytes) {r : Added} where
-  pub refuses : {n : ℕ} → first_fault (content_faults F (held b) k p) ≡ some n → (r.checked ≡ Refused n) × (r.book ≡ b)
-      → r ≡ added F k (held b) p
-  unfolding added
-  refuses f e = let s = e.1 ∙ w.same in rw f (λ i. record { checked = e.0 i; book = s i })
+module _ (F : Format) (k : Kind) (b : Book) (p : Bytes) where
+  -- a refusal is the table's first fault
+  pub refuses : {n : ℕ} → first_fault (content_faults F b k p) ≡ some n → refused n 0 ≡ added F k b p
+  unfolding added refuse_or
+  refuses f = rw f refl
 
   -- no fault, and the book with what the frame adds
-  pub accepts : {next : BookStruct} → first_fault (content_faults F (held b) k p) ≡ none → next ≡ packed (add F (held b) k p)
-      → (r.checked ≡ Fine) × (r.book ≡ next) → r ≡ added F k (held b) p
-  unfolding added
-  accepts f g e = let s = e.1 ∙ g in rw f (λ i. record { checked = e.0 i; book = s i })
+  pub accepts : {next : BookStruct} → first_fault (content_faults F b k p) ≡ none → next ≡ packed (add F b k p) → accepted next ≡ added F k b p
+  unfolding added refuse_or
+  accepts f g = rw f (ap accepted g)

@@ -1,48 +1,64 @@
 -- What one step's answer says of the frame, and what it means for the whole file: the verdict where reading stops, and where
 -- it goes on the next place on the way. Assumes nothing.
-use mathlib.Core.Path.{◌≡◌, refl, subst}
+use mathlib.Core.Path.{◌≡◌, refl, sym, subst, ◌∙◌}
 use mathlib.Core.Bool.{Bool, true, false}
 use mathlib.Core.Option.{Option, none, some}
 use Prim.Native.Nat.{ℕ, ◌+◌}
-use native.Mathlib.Omega.{arith}
 use lib.ListN.{drop}
 use lib.Seq.{drop-drop}
 use Rattle.laws.proofs.Tests.{from-true, from-denied}
-use Rattle.spec.specs.Lists.{Bytes, accepted, refused, first_fault}
+use Rattle.spec.specs.Lists.{Bytes, Verdict, accepted, refused, first_fault}
 use Rattle.spec.specs.Frames.{Format, cut_short, kind_field, payload_length, behind, rank}
 use Rattle.spec.specs.Read.{Reading, frame_faults, book_faults, refuse_or, is_end, past_frame, read_as}
 use Rattle.spec.specs.Held.{packed}
 use Rattle.demands.proofs.Faults.{first-none, first_some}
 use Rattle.demands.proofs.Reading.{ReadsTo, next, frame, book, pass, goes-iff, as-iff}
-use Rattle.reader.specs.declared.reading.Next.TheVariants.{Stop, End, More}
-use Rattle.reader.specs.BookAnswers.{stepped_by, stepped_at}
+use Rattle.std.specs.Prelude.{Some, None}
+use Rattle.std.specs.Prelude.{Option as CodeOption}
+use Rattle.reader.specs.declared.reading.Reading.{Reading as Place}
+use Rattle.reader.specs.BookAnswers.{reading_behind, stepped_at}
 use Rattle.frames.specs.Framed.{framed_at, whole_or}
-use Rattle.frames.specs.declared.Framed.TheVariants.{Whole, Cut}
+use Rattle.frames.specs.declared.Frame.{Frame}
 
-pub never : {A : Type 0} → ◌≡◌ {A = ℕ} 0 1 → A
-never z = let no' : ⊥ = omega arith in absurd no'
+-- a refusal is the first fault's
+pub stop-of : {A : Type 0} (o : Option ℕ) (a : A) {n d : ℕ} → refuse_or o a ≡ refused n d → (o ≡ some n) × (d ≡ 0)
+unfolding refuse_or
+stop-of (some m) a e = (cc, cc)
+stop-of none a e = (cc, cc)
+
+-- and what is accepted has none
+goes-of : {A : Type 0} (o : Option ℕ) (a : A) {x : A} → refuse_or o a ≡ accepted x → (o ≡ none) × (a ≡ x)
+unfolding refuse_or
+goes-of (some m) a e = (cc, cc)
+goes-of none a e = (refl, cc)
 
 -- What an answer at a place says of the first fault there, and of the End.
 module _ (F : Format) (r : Reading) (s : Bytes) (at : ℕ) where
-  -- a refusal is the first fault's
-  pub stop-of : (n : ℕ) (o : Option ℕ) (b : Bool) → (stepped_by F o b r s at).next ≡ Stop n → o ≡ some n
-  stop-of n (some m) b e = cc
-  stop-of n none true e = never cc
-  stop-of n none false e = never cc
+  -- at the End
+  behind_end : (b : Bool) → reading_behind F b r s at ≡ None → b ≡ true
+  behind_end true e = refl
+  behind_end false e = cc
 
-  -- at the End there is no fault
-  pub end_of : (o : Option ℕ) (b : Bool) → (stepped_by F o b r s at).next ≡ End → (o ≡ none) × (b ≡ true)
-  end_of (some m) b e = never cc
-  end_of none true e = (refl, refl)
-  end_of none false e = never cc
+  -- further on
+  behind-more : (b : Bool) {x : Place} → reading_behind F b r s at ≡ Some x
+      → (b ≡ false) × (x ≡ record { book = packed (past_frame F r s).book; last = rank (kind_field s); at = at + (4 + payload_length s) })
+  behind-more true e = (cc, cc)
+  behind-more false e = (refl, cc)
 
-  -- further on there is no fault, and the place and the book are those behind the frame
-  pub more_of : (a l : ℕ) (o : Option ℕ) (b : Bool) → (stepped_by F o b r s at).next ≡ More a l
-      → (o ≡ none) × (b ≡ false) × (a ≡ at + (4 + payload_length s)) × (l ≡ rank (kind_field s))
-      × ((stepped_by F o b r s at).book ≡ packed (past_frame F r s).book)
-  more_of a l (some m) b e = never cc
-  more_of a l none true e = never cc
-  more_of a l none false e = (refl, refl, (cc), (cc), refl)
+  module _ {v : Verdict (CodeOption Place)} (e : v ≡ stepped_at F r s at) where
+    pub step-refuses : {n d : ℕ} → v ≡ refused n d → (first_fault (frame_faults F r s) ≡ some n) × (d ≡ 0)
+    unfolding stepped_at
+    step-refuses f = stop-of _ _ (sym e ∙ f)
+
+    pub step-ends : v ≡ accepted None → (first_fault (frame_faults F r s) ≡ none) × (is_end (kind_field s) ≡ true)
+    unfolding stepped_at
+    step-ends f = let g = goes-of _ _ (sym e ∙ f) in (g.0, behind_end _ g.1)
+
+    pub step-goes : {x : Place} → v ≡ accepted (Some x)
+        → (first_fault (frame_faults F r s) ≡ none) × (is_end (kind_field s) ≡ false)
+        × (x ≡ record { book = packed (past_frame F r s).book; last = rank (kind_field s); at = at + (4 + payload_length s) })
+    unfolding stepped_at
+    step-goes f = let g = goes-of _ _ (sym e ∙ f) in let h = behind-more _ g.1 in (g.0, h.0, h.1)
 
 -- ---- the whole file
 
@@ -75,33 +91,33 @@ module _ (F : Format) (s : Bytes) (r : Reading) (at : ℕ) (way : ReadsTo F s r 
 -- ---- one step's answer
 
 module _ (F : Format) (r : Reading) (t : Bytes) (at : ℕ) where
-  pub step-stop : (n : ℕ) → first_fault (frame_faults F r t) ≡ some n → record { next = Stop n; book = packed r.book } ≡ stepped_at F r t at
-  unfolding stepped_at
+  pub step-stop : (n : ℕ) → first_fault (frame_faults F r t) ≡ some n → refused n 0 ≡ stepped_at F r t at
+  unfolding stepped_at refuse_or
   step-stop n e = rw e refl
 
-  pub step_end : first_fault (frame_faults F r t) ≡ none → is_end (kind_field t) ≡ true → record { next = End; book = packed r.book } ≡ stepped_at F r t at
-  unfolding stepped_at
+  pub step_end : first_fault (frame_faults F r t) ≡ none → is_end (kind_field t) ≡ true → accepted None ≡ stepped_at F r t at
+  unfolding stepped_at refuse_or
   step_end e f = rw (e, f) refl
 
   pub step-more : first_fault (frame_faults F r t) ≡ none → is_end (kind_field t) ≡ false
-      → record { next = More (at + (4 + payload_length t)) (rank (kind_field t)); book = packed (past_frame F r t).book } ≡ stepped_at F r t at
-  unfolding stepped_at
+      → accepted (Some (record { book = packed (past_frame F r t).book; last = rank (kind_field t); at = at + (4 + payload_length t) })) ≡ stepped_at F r t at
+  unfolding stepped_at refuse_or
   step-more e f = rw (e, f) refl
 
 -- what a whole frame's answer says of the bytes
-pub whole_says : (t : Bytes) (kind len : ℕ) → framed_at t ≡ Whole kind len → (cut_short t ≡ false) × (kind_field t ≡ kind) × (payload_length t ≡ len)
+pub whole_says : (t : Bytes) {f : Frame} → framed_at t ≡ Some f → (cut_short t ≡ false) × (kind_field t ≡ f.kind) × (payload_length t ≡ f.len)
 unfolding framed_at
-whole_says t kind len e = go (cut_short t) refl e
+whole_says t {f} e = go (cut_short t) refl e
   where
-    go : (b : Bool) → cut_short t ≡ b → whole_or b (Whole (kind_field t) (payload_length t)) ≡ Whole kind len
-        → (cut_short t ≡ false) × (kind_field t ≡ kind) × (payload_length t ≡ len)
-    go true f e = never cc
-    go false f e = (f, (cc), (cc))
+    go : (b : Bool) → cut_short t ≡ b → whole_or b (record { kind = kind_field t; len = payload_length t }) ≡ Some f
+        → (cut_short t ≡ false) × (kind_field t ≡ f.kind) × (payload_length t ≡ f.len)
+    go true g e = (cc, cc, cc)
+    go false g e = (g, cc, cc)
 
-pub cut-says : (t : Bytes) → framed_at t ≡ Cut → cut_short t ≡ true
+pub cut-says : (t : Bytes) → framed_at t ≡ None → cut_short t ≡ true
 unfolding framed_at
 cut-says t e = go (cut_short t) refl e
   where
-    go : (b : Bool) → cut_short t ≡ b → whole_or b (Whole (kind_field t) (payload_length t)) ≡ Cut → cut_short t ≡ true
+    go : (b : Bool) → cut_short t ≡ b → whole_or b (record { kind = kind_field t; len = payload_length t }) ≡ None → cut_short t ≡ true
     go true f e = f
-    go false f e = never cc
+    go false f e = cc

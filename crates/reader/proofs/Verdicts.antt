@@ -9,8 +9,6 @@ use Rattle.spec.specs.Book.{Book}
 use Rattle.spec.specs.Read.{read_book}
 use Rattle.spec.specs.Instance.{Instance, instance_of}
 use Rattle.spec.specs.Entry.{demand, find_none, read_instance}
-use Rattle.reader.specs.declared.reading.Answer.TheVariants.{Accepted, Refused}
-use Rattle.reader.specs.BookAnswers.{answer_of}
 
 -- ---- a demand, then a search that is to find nothing
 
@@ -18,19 +16,19 @@ abbrev pub judged : Bool → ℕ → Option ℕ → ℕ → Verdict (Unit {0})
 judged fits a o b = and_then (demand fits a) λ _. find_none o b
 
 module _ (a b : ℕ) where
-  pub judged-unfit : {fits : Bool} (o : Option ℕ) → fits ≡ false → Refused a 0 ≡ answer_of (judged fits a o b)
+  pub judged-unfit : {fits : Bool} (o : Option ℕ) → fits ≡ false → refused a 0 ≡ judged fits a o b
   unfolding and_then demand
-  judged-unfit o e = ap (λ (t : Bool). answer_of (judged t a o b)) (sym e)
+  judged-unfit o e = ap (λ (t : Bool). judged t a o b) (sym e)
 
-  pub judged-found : {fits : Bool} {o : Option ℕ} (k : ℕ) → fits ≡ true → o ≡ some k → Refused b k ≡ answer_of (judged fits a o b)
+  pub judged-found : {fits : Bool} {o : Option ℕ} (k : ℕ) → fits ≡ true → o ≡ some k → refused b k ≡ judged fits a o b
   unfolding and_then demand find_none
   judged-found {o = o} k e f =
-      ap (λ (p : Option ℕ). answer_of (judged true a p b)) (sym f) ∙ ap (λ (t : Bool). answer_of (judged t a o b)) (sym e)
+      ap (λ (p : Option ℕ). judged true a p b) (sym f) ∙ ap (λ (t : Bool). judged t a o b) (sym e)
 
-  pub judged-none : {fits : Bool} {o : Option ℕ} → fits ≡ true → o ≡ none → Accepted ≡ answer_of (judged fits a o b)
+  pub judged-none : {fits : Bool} {o : Option ℕ} → fits ≡ true → o ≡ none → accepted tt ≡ judged fits a o b
   unfolding and_then demand find_none
   judged-none {o = o} e f =
-      ap (λ (p : Option ℕ). answer_of (judged true a p b)) (sym f) ∙ ap (λ (t : Bool). answer_of (judged t a o b)) (sym e)
+      ap (λ (p : Option ℕ). judged true a p b) (sym f) ∙ ap (λ (t : Bool). judged t a o b) (sym e)
 
 -- ---- from a book's bytes
 

@@ -28,12 +28,16 @@ use Rattle.reader.specs.Added.{Packed}
 use Rattle.reader.proofs.Packing.{held-packed, packed-fits}
 use Rattle.reader.proofs.Calls.{calls-fit}
 use Rattle.frames.proofs.Order.{not_first}
-use Rattle.reader.specs.declared.reading.Stepped.{Stepped}
-use Rattle.reader.specs.declared.reading.Next.TheVariants.{Stop, End, More}
-use Rattle.reader.specs.BookAnswers.{stepped_by, stepped_at}
+use Rattle.std.specs.Prelude.{Some, None, Result, Ok, Err}
+use Rattle.std.specs.Prelude.{Option as CodeOption}
+use Rattle.model.specs.declared.refusals.Refusal.{Refusal}
+use Rattle.model.specs.Refusals.{number_of, detail_of}
+use Rattle.spec.specs.Answers.{told}
+use Rattle.reader.specs.declared.reading.Reading.{Reading as Place}
+use Rattle.reader.specs.BookAnswers.{stepped_at}
 use Rattle.reader.proofs.FrameTests.{order-by}
 use Rattle.reader.proofs.ByKind.{growing-calls}
-use Rattle.reader.proofs.Steps.{stop-of, end_of, more_of, stopped-reads, ended-reads, goes-way}
+use Rattle.reader.proofs.Steps.{step-refuses, step-ends, step-goes, stopped-reads, ended-reads, goes-way}
 
 -- a slice of bytes
 pub bytes_of : (s : Bytes) → ((i : ℕ) → get_or s i 0 < 256) → T (bytes s)
@@ -68,84 +72,87 @@ no_end last s l e o =
     absurd (T_not (out_of_order last s) o (from-true (order-by last s ∙ sym (not_first last (kind_field s) (length (behind s)) l h))))
 
 -- the reader is on its way
-pub record OnWay (F : Format) (s : Bytes) (book : BookStruct) (last at : ℕ) : Type 0 where
+pub record OnWay (F : Format) (s : Bytes) (r : Place) : Type 0 where
   pub reading : Reading
-  pub same : book ≡ packed reading.book
-  pub rank_is : last ≡ reading.last
-  pub inside : at ≤ length s
+  pub same : r.book ≡ packed reading.book
+  pub rank_is : r.last ≡ reading.last
+  pub inside : r.at ≤ length s
   pub is_bytes : T (bytes s)
   pub small : F.greatest_t ≤ max_intervals
-  pub way : ReadsTo F s reading (drop at s)
+  pub way : ReadsTo F s reading (drop r.at s)
 
-pub way-start : (F : Format) (s : Bytes) (book : BookStruct) → F.greatest_t ≤ max_intervals → T (bytes s) → book ≡ packed no_book → OnWay F s book 0 0
+pub way-start : (F : Format) (s : Bytes) {book : BookStruct} → F.greatest_t ≤ max_intervals → T (bytes s) → book ≡ packed no_book
+    → OnWay F s (record { book = book; last = 0; at = 0 })
 unfolding reading_start
-way-start F s book m y e = record { reading = reading_start; same = e; rank_is = refl; inside = omega arith; is_bytes = y; small = m; way = start }
+way-start F s m y e = record { reading = reading_start; same = e; rank_is = refl; inside = omega arith; is_bytes = y; small = m; way = start }
 
-module _ (F : Format) (s : Bytes) (book : BookStruct) (last at : ℕ) (w : OnWay F s book last at) where
+module _ {F : Format} {s : Bytes} {r : Place} (w : OnWay F s r) where
   -- the reading there, by the struct
-  pub here-is : ◌≡◌ {A = Reading} (record { last = last; book = held book }) w.reading
+  pub here-is : ◌≡◌ {A = Reading} (record { last = r.last; book = held r.book }) w.reading
   here-is =
       let b = ap held w.same ∙ held-packed w.reading.book in
       λ i. record { last = w.rank_is i; book = b i }
 
   -- what a step asks
-  pub way-packed : Packed book
+  pub way-packed : Packed r.book
   way-packed = subst Packed (sym w.same) (packed-reached w.reading (reached F w.small w.way) (reads_fit F w.is_bytes w.way))
 
-  pub way-reached : Reached (record { last = last; book = held book })
+  pub way-reached : Reached (record { last = r.last; book = held r.book })
   way-reached = subst Reached (sym here-is) (reached F w.small w.way)
 
-  module _ (st : Stepped) (answer : st ≡ stepped_at F (record { last = last; book = held book }) (drop at s) at) where
-    by-reading : st ≡ stepped_by F (first_fault (frame_faults F w.reading (drop at s))) (is_end (kind_field (drop at s))) w.reading (drop at s) at
-    unfolding stepped_at
-    by-reading = answer ∙ ap (λ (r : Reading). stepped_at F r (drop at s) at) here-is
+  module _ (st : Result (CodeOption Place) Refusal)
+      (answer : told st ≡ stepped_at F (record { last = r.last; book = held r.book }) (drop r.at s) r.at) where
+    by-reading : told st ≡ stepped_at F w.reading (drop r.at s) r.at
+    by-reading = answer ∙ ap (λ (x : Reading). stepped_at F x (drop r.at s) r.at) here-is
 
-    pub way-stop : (n : ℕ) → st.next ≡ Stop n → read_as F s ≡ refused n 0
-    way-stop n e =
-        stopped-reads F s w.reading at w.way n
-        (stop-of F w.reading (drop at s) at n _ _ (sym (ap (λ (x : Stepped). x.next) by-reading) ∙ e))
+    pub way-stop : {e : Refusal} → st ≡ Err e → read_as F s ≡ refused (number_of e) (detail_of e)
+    way-stop {e} is =
+        let h = step-refuses F w.reading (drop r.at s) r.at by-reading (ap told is) in
+        stopped-reads F s w.reading r.at w.way (number_of e) h.0 ∙ ap (refused (number_of e)) (sym h.1)
 
-    at-end : st.next ≡ End → (first_fault (frame_faults F w.reading (drop at s)) ≡ none) × (is_end (kind_field (drop at s)) ≡ true)
-    at-end e = end_of F w.reading (drop at s) at _ _ (sym (ap (λ (x : Stepped). x.next) by-reading) ∙ e)
+    at-end : st ≡ Ok None → (first_fault (frame_faults F w.reading (drop r.at s)) ≡ none) × (is_end (kind_field (drop r.at s)) ≡ true)
+    at-end is = step-ends F w.reading (drop r.at s) r.at by-reading (ap told is)
 
-    pub way_end : st.next ≡ End → read_as F s ≡ refuse_or (first_fault (book_faults (held book))) (held book)
-    way_end e =
-        ended-reads F s w.reading at w.way (at-end e).0 (at-end e).1
-        ∙ ap (λ (r : Reading). refuse_or (first_fault (book_faults r.book)) r.book) (sym here-is)
+    pub way_end : st ≡ Ok None → read_as F s ≡ refuse_or (first_fault (book_faults (held r.book))) (held r.book)
+    way_end is =
+        ended-reads F s w.reading r.at w.way (at-end is).0 (at-end is).1
+        ∙ ap (λ (x : Reading). refuse_or (first_fault (book_faults x.book)) x.book) (sym here-is)
 
     -- the End stands behind the Head
-    pub way-growing : st.next ≡ End → (w.reading.last ≢ 0) × T (growing w.reading.book)
-    way-growing e = go (reached F w.small w.way)
+    way-growing : st ≡ Ok None → (w.reading.last ≢ 0) × T (growing w.reading.book)
+    way-growing is = go (reached F w.small w.way)
       where
         go : Reached w.reading → (w.reading.last ≢ 0) × T (growing w.reading.book)
         go (at_start l n) =
-            let f = fine F w.reading (drop at s) (first-none _ (at-end e).0) in
-            no_end w.reading.last (drop at s) l (at-end e).1 f.in_order
+            let f = fine F w.reading (drop r.at s) (first-none _ (at-end is).0) in
+            no_end w.reading.last (drop r.at s) l (at-end is).1 f.in_order
         go (behind_head l g) = (l, g)
 
-    pub way-more : (a l : ℕ) → st.next ≡ More a l → OnWay F s st.book l a × (at < a)
+    pub way-more : {next : Place} → st ≡ Ok (Some next) → OnWay F s next × (r.at < next.at)
     unfolding past_frame
-    way-more a l e =
-        let m = more_of F w.reading (drop at s) at a l _ _ (sym (ap (λ (x : Stepped). x.next) by-reading) ∙ e) in
-        let f = fine F w.reading (drop at s) (first-none _ m.0) in
-        let k = (whole-iff (drop at s)).0 f.whole in (
+    way-more {next} is =
+        let m = step-goes F w.reading (drop r.at s) r.at by-reading (ap told is) in
+        let to = ap (λ (x : Place). x.at) m.2 in
+        let f = fine F w.reading (drop r.at s) (first-none _ m.0) in
+        let k = (whole-iff (drop r.at s)).0 f.whole in (
           record {
-            reading = past_frame F w.reading (drop at s);
-            same = ap (λ (x : Stepped). x.book) by-reading ∙ m.4;
-            rank_is = m.3;
-            inside = omega (arith, k, m.2, length-drop at s, w.inside);
+            reading = past_frame F w.reading (drop r.at s);
+            same = ap (λ (x : Place). x.book) m.2;
+            rank_is = ap (λ (x : Place). x.last) m.2;
+            inside = omega (arith, k, to, length-drop r.at s, w.inside);
             is_bytes = w.is_bytes;
             small = w.small;
-            way = subst (λ (n : ℕ). ReadsTo F s (past_frame F w.reading (drop at s)) (drop n s)) (sym m.2) (goes-way F s w.reading at w.way m.0 m.1);
+            way = subst (λ (n : ℕ). ReadsTo F s (past_frame F w.reading (drop r.at s)) (drop n s)) (sym to)
+                (goes-way F s w.reading r.at w.way m.0 m.1);
           },
-          omega (arith, m.2),
+          omega (arith, to),
         )
 
     -- what the book's own refusals ask, at the End
-    pub way-finish : st.next ≡ End → Packed book × T (growing (held book)) × FitsFields (held book)
-    way-finish e =
-        let g = way-growing e in (
+    pub way-finish : st ≡ Ok None → Packed r.book × T (growing (held r.book)) × FitsFields (held r.book)
+    way-finish is =
+        let g = way-growing is in (
           way-packed,
-          subst (λ (r : Reading). T (growing r.book)) (sym here-is) g.1,
-          subst (λ (r : Reading). FitsFields r.book) (sym here-is) (reads_fit F w.is_bytes w.way g.0),
+          subst (λ (x : Reading). T (growing x.book)) (sym here-is) g.1,
+          subst (λ (x : Reading). FitsFields x.book) (sym here-is) (reads_fit F w.is_bytes w.way g.0),
         )

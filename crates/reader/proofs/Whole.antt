@@ -8,156 +8,148 @@ use Prim.Native.Nat.{ℕ, ◌+◌, ◌-◌, ◌≤◌}
 use native.Mathlib.Omega.{arith}
 use lib.ListN.{length, take, drop, length-drop}
 use lib.Seq.{drop-drop}
-use Rattle.model.specs.declared.Book.{Book as BookStruct}
-use Rattle.spec.specs.Lists.{Bytes, first_fault}
 use lib.Dec.{T, eqb}
+use Rattle.std.specs.Prelude.{Some, None}
+use Rattle.model.specs.declared.Book.{Book as BookStruct}
+use Rattle.spec.specs.Lists.{Bytes, Verdict, accepted, refused, first_fault}
 use Rattle.laws.proofs.Tests.{true_of, false_of, from-denied, eqb-iff}
 use Rattle.laws.proofs.Frames.{whole-iff}
 use Rattle.spec.specs.Reached.{Reached, at_start, behind_head}
-use Rattle.frames.proofs.Order.{not_first, in-said}
 use Rattle.spec.specs.Frames.{Format, kind_number, kind_order, find_kind, cut_short, kind_field, payload_length, payload_of, behind, rank}
 use Rattle.spec.specs.Book.{Book}
-use Rattle.spec.specs.Read.{growing, Reading, frame_faults, kind_faults, out_of_order, unknown_kind, is_end, past_frame, add_found}
-use Rattle.spec.specs.Held.{held, packed}
-use Rattle.reader.specs.declared.content.Added.{Added}
-use Rattle.reader.specs.declared.content.Checked.TheVariants.{Fine, Refused}
-use Rattle.reader.specs.Added.{Packed, settled}
-use Rattle.frames.specs.Framed.{framed_at, kind_said, kind_in, out_of_order_by}
+use Rattle.spec.specs.Read.{growing, Reading, frame_faults, kind_faults, out_of_order, unknown_kind, is_end, past_frame, add_found, refuse_or}
+use Rattle.spec.specs.Answers.{accepted_as}
+use Rattle.spec.specs.Held.{packed}
+use Rattle.frames.specs.Framed.{framed_at, kind_said, kind_in, place_of, out_of_order_by}
+use Rattle.frames.specs.declared.Frame.{Frame}
 use Rattle.frames.specs.declared.Kind.{Kind as KindCase}
-use Rattle.frames.specs.declared.Kind.TheVariants.{Head}
-use Rattle.frames.specs.declared.Framed.TheVariants.{Whole, Cut}
+use Rattle.frames.specs.declared.Kind.TheVariants.{Head, Node, Segment, Join, Train, Call, Unbreakable, End}
+use Rattle.frames.proofs.Order.{not_first, in-said, said-number, said-other, rank-placed, place_said}
 use Rattle.reader.specs.BookAnswers.{added_found, stepped_at}
-use Rattle.reader.specs.declared.reading.Stepped.{Stepped}
-use Rattle.reader.specs.declared.reading.Next.TheVariants.{Stop, End, More}
 use Rattle.reader.proofs.FrameTests.{first-cut, first-unknown, first-order, first-content, known-rank, unknown-rank, order-by}
-use Rattle.reader.proofs.Steps.{never, whole_says, cut-says, step-stop, step_end, step-more}
+use Rattle.reader.proofs.Steps.{whole_says, cut-says, step-stop, step_end, step-more}
 
 -- an answer of a frame's content, taken apart
-pub settled-refused : (o : Option ℕ) (b next : Book) (n : ℕ) → (settled o b next).checked ≡ Refused n → o ≡ some n
-settled-refused (some m) b next n e = cc
-settled-refused none b next n e = never cc
+settled-refused : (o : Option ℕ) (b : Book) {n d : ℕ} → accepted_as packed (refuse_or o b) ≡ refused n d → (o ≡ some n) × (d ≡ 0)
+unfolding refuse_or
+settled-refused (some m) b e = (cc, cc)
+settled-refused none b e = (cc, cc)
 
-pub settled-fine : (o : Option ℕ) (b next : Book) → (settled o b next).checked ≡ Fine → (o ≡ none) × ((settled o b next).book ≡ packed next)
-settled-fine (some m) b next e = never cc
-settled-fine none b next e = (refl, refl)
+settled-fine : (o : Option ℕ) (b : Book) {x : BookStruct} → accepted_as packed (refuse_or o b) ≡ accepted x → (o ≡ none) × (x ≡ packed b)
+unfolding refuse_or
+settled-fine (some m) b e = (cc, cc)
+settled-fine none b e = (cc, cc)
+
+-- a kind's place is none behind them all
+place-known : (k : KindCase) → place_of k ≢ 9
+place-known Head = λ e. omega arith
+place-known Node = λ e. omega arith
+place-known Segment = λ e. omega arith
+place-known Join = λ e. omega arith
+place-known Train = λ e. omega arith
+place-known Call = λ e. omega arith
+place-known Unbreakable = λ e. omega arith
+place-known End = λ e. omega arith
 
 -- the payload of a whole frame at a place
-pub payload-here : (s : Bytes) (at kind len : ℕ) → framed_at (drop at s) ≡ Whole kind len
-    → take (at + 4 + len - (at + 4)) (drop (at + 4) s) ≡ payload_of (drop at s)
+pub payload-here : (s : Bytes) (at : ℕ) {f : Frame} → framed_at (drop at s) ≡ Some f
+    → take (at + 4 + f.len - (at + 4)) (drop (at + 4) s) ≡ payload_of (drop at s)
 unfolding payload_of
-payload-here s at kind len whole =
-    let size : at + 4 + len - (at + 4) ≡ payload_length (drop at s) = omega (arith, (whole_says (drop at s) kind len whole).2) in
+payload-here s at {f} whole =
+    let size : at + 4 + f.len - (at + 4) ≡ payload_length (drop at s) = omega (arith, (whole_says (drop at s) whole).2) in
     ap₂ (λ (n : ℕ) (l : Bytes). take n l) size (sym (drop-drop 4 at s))
 
-module _ (F : Format) (b : BookStruct) (w : Packed b) (last : ℕ) (s : Bytes) (at kind len : ℕ)
-    (whole : framed_at (drop at s) ≡ Whole kind len) where
+module _ (F : Format) (b : Book) (last : ℕ) (s : Bytes) (at : ℕ) where
   abbrev here : Reading
-  here = record { last = last; book = held b }
+  here = record { last = last; book = b }
 
-  abbrev rest : Bytes
-  rest = drop at s
+  -- a frame that is cut is refused by 1
+  pub cut-here : framed_at (drop at s) ≡ None → refused 1 0 ≡ stepped_at F here (drop at s) at
+  cut-here e = step-stop F here (drop at s) at 1 (first-cut F here (drop at s) (cut-says (drop at s) e))
 
-  says : (cut_short (drop at s) ≡ false) × (kind_field (drop at s) ≡ kind) × (payload_length (drop at s) ≡ len)
-  says = whole_says (drop at s) kind len whole
+  module _ {f : Frame} (whole : framed_at (drop at s) ≡ Some f) where
+    says : (cut_short (drop at s) ≡ false) × (kind_field (drop at s) ≡ f.kind) × (payload_length (drop at s) ≡ f.len)
+    says = whole_says (drop at s) whole
 
-  -- how much stands behind it
-  behind-here : length (behind (drop at s)) ≡ length s - (at + 4 + len)
-  unfolding behind
-  behind-here = length-drop (4 + payload_length (drop at s)) (drop at s) ∙ omega (arith, length-drop at s, says.2)
+    -- how much stands behind it
+    behind-here : length (behind (drop at s)) ≡ length s - (at + 4 + f.len)
+    unfolding behind
+    behind-here = length-drop (4 + payload_length (drop at s)) (drop at s) ∙ omega (arith, length-drop at s, says.2)
 
-  order-here : out_of_order last (drop at s) ≡ out_of_order_by last kind (length s - (at + 4 + len))
-  order-here = order-by last (drop at s) ∙ ap₂ (out_of_order_by last) says.1 behind-here
+    order-here : out_of_order last (drop at s) ≡ out_of_order_by last f.kind (length s - (at + 4 + f.len))
+    order-here = order-by last (drop at s) ∙ ap₂ (out_of_order_by last) says.1 behind-here
 
-  -- an answer that stops, as a struct
-  pub stops : (r : Stepped) (n : ℕ) → (r.next ≡ Stop n) × (r.book ≡ b) → first_fault (frame_faults F here (drop at s)) ≡ some n
-      → r ≡ stepped_at F here (drop at s) at
-  stops r n e f = let k = e.1 ∙ w.same in (λ i. record { next = e.0 i; book = k i }) ∙ step-stop F here (drop at s) at n f
+    pub unknown-here : None ≡ kind_said (find_kind f.kind kind_order) → refused 2 0 ≡ stepped_at F here (drop at s) at
+    unknown-here e =
+        step-stop F here (drop at s) at 2
+        (first-unknown F here (drop at s) says.0 (ap unknown_kind says.1 ∙ unknown-rank f.kind (rank-placed f.kind ∙ ap place_said (sym e))))
 
-  pub unknown-here : rank kind ≡ 9 → first_fault (frame_faults F here (drop at s)) ≡ some 2
-  unknown-here e = first-unknown F here (drop at s) says.0 (ap unknown_kind says.1 ∙ unknown-rank kind e)
+    -- its kind is known
+    module _ {k : KindCase} (found : Some k ≡ kind_said (find_kind f.kind kind_order)) where
+      known-here : unknown_kind (kind_field (drop at s)) ≡ false
+      known-here =
+          ap unknown_kind says.1 ∙ known-rank f.kind (λ e. place-known k (ap place_said found ∙ sym (rank-placed f.kind) ∙ e))
 
-  known-here : rank kind ≢ 9 → unknown_kind (kind_field (drop at s)) ≡ false
-  known-here h = ap unknown_kind says.1 ∙ known-rank kind h
+      pub disorder-here : out_of_order_by last f.kind (length s - (at + 4 + f.len)) ≡ true → refused 3 0 ≡ stepped_at F here (drop at s) at
+      disorder-here e = step-stop F here (drop at s) at 3 (first-order F here (drop at s) says.0 known-here (order-here ∙ e))
 
-  pub disorder-here : rank kind ≢ 9 → out_of_order_by last kind (length s - (at + 4 + len)) ≡ true → first_fault (frame_faults F here (drop at s)) ≡ some 3
-  disorder-here h e = first-order F here (drop at s) says.0 (known-here h) (order-here ∙ e)
+      -- it stands in order, and its content was answered
+      module _ (order : out_of_order_by last f.kind (length s - (at + 4 + f.len)) ≡ false) {v : Verdict BookStruct}
+          (answer : v ≡ added_found F b (some (kind_in k)) (take (at + 4 + f.len - (at + 4)) (drop (at + 4) s))) where
+        content : first_fault (frame_faults F here (drop at s))
+            ≡ first_fault (kind_faults F b (find_kind (kind_field (drop at s)) kind_order) (payload_of (drop at s)))
+        content = first-content F here (drop at s) says.0 known-here (order-here ∙ order)
 
-  -- the End, and what goes on behind another frame, as structs
-  pub ends-here : kind ≡ 8 → first_fault (frame_faults F here (drop at s)) ≡ none → record { next = End; book = b } ≡ stepped_at F here (drop at s) at
-  unfolding is_end kind_number
-  ends-here e f =
-      (λ i. record { next = End; book = w.same i })
-      ∙ step_end F here (drop at s) at f (true_of (eqb (kind_field (drop at s)) 8) ((eqb-iff (kind_field (drop at s)) 8).1 (says.1 ∙ e)))
+        -- the answer, by the frame's own words
+        answered : v ≡ added_found F b (find_kind (kind_field (drop at s)) kind_order) (payload_of (drop at s))
+        answered =
+            answer
+            ∙ ap₂ (added_found F b) (sym (in-said (find_kind f.kind kind_order) found) ∙ ap (λ n. find_kind n kind_order) (sym says.1))
+            (payload-here s at whole)
 
-  pub goes-here : kind ≢ 8 → first_fault (frame_faults F here (drop at s)) ≡ none → (l : ℕ) → l ≡ rank kind
-      → (next : BookStruct) → next ≡ packed (past_frame F here (drop at s)).book
-      → record { next = More (at + 4 + len) l; book = next } ≡ stepped_at F here (drop at s) at
-  unfolding is_end kind_number
-  goes-here h f l e next g =
-      let place : at + 4 + len ≡ at + (4 + payload_length (drop at s)) = omega (arith, says.2) in
-      let of-kind = e ∙ ap rank (sym says.1) in
-      (λ i. record { next = More (place i) (of-kind i); book = g i })
-      ∙ step-more F here (drop at s) at f (false_of (eqb (kind_field (drop at s)) 8) (λ t. h (sym says.1 ∙ (eqb-iff (kind_field (drop at s)) 8).0 t)))
+        pub refused-here : {n d : ℕ} → v ≡ refused n d → refused n d ≡ stepped_at F here (drop at s) at
+        unfolding added_found
+        refused-here {n} e =
+            let h = settled-refused _ _ (sym answered ∙ e) in
+            ap (refused n) h.1 ∙ step-stop F here (drop at s) at n (content ∙ h.0)
 
-  module _ (known : rank kind ≢ 9) (order : out_of_order_by last kind (length s - (at + 4 + len)) ≡ false)
-      (a : Added) (k : KindCase) (found : k ≡ kind_said (find_kind kind kind_order))
-      (answer : a ≡ added_found F (held b) (kind_in k) (take (at + 4 + len - (at + 4)) (drop (at + 4) s))) where
-    content : first_fault (frame_faults F here (drop at s))
-        ≡ first_fault (kind_faults F (held b) (find_kind (kind_field (drop at s)) kind_order) (payload_of (drop at s)))
-    content = first-content F here (drop at s) says.0 (known-here known) (order-here ∙ order)
+        fine-here : {x : BookStruct} → v ≡ accepted x → (first_fault (frame_faults F here (drop at s)) ≡ none) × (x ≡ packed (past_frame F here (drop at s)).book)
+        unfolding added_found past_frame
+        fine-here e = let h = settled-fine _ _ (sym answered ∙ e) in (content ∙ h.0, h.1)
 
-    -- the answer, by the frame's own words
-    answered : a ≡ added_found F (held b) (find_kind (kind_field (drop at s)) kind_order) (payload_of (drop at s))
-    answered =
-        answer
-        ∙ ap₂ (added_found F (held b)) (ap kind_in found ∙ in-said (find_kind kind kind_order) ∙ ap (λ n. find_kind n kind_order) (sym says.1))
-        (payload-here s at kind len whole)
+        -- the End, and what goes on behind another frame
+        pub ends-here : {x : BookStruct} → v ≡ accepted x → k ≡ End → accepted None ≡ stepped_at F here (drop at s) at
+        unfolding is_end kind_number
+        ends-here e h =
+            let n : f.kind ≡ 8 = said-number f.kind found ∙ ap (λ j. kind_number (kind_in j)) h in
+            step_end F here (drop at s) at (fine-here e).0 (true_of (eqb (kind_field (drop at s)) 8) ((eqb-iff (kind_field (drop at s)) 8).1 (says.1 ∙ n)))
 
-    pub refused-here : (n : ℕ) → a.checked ≡ Refused n → first_fault (frame_faults F here (drop at s)) ≡ some n
-    unfolding added_found
-    refused-here n e = content ∙ settled-refused _ _ _ n (sym (ap (λ (x : Added). x.checked) answered) ∙ e)
-
-    fine-here : a.checked ≡ Fine
-        → (first_fault (kind_faults F (held b) (find_kind (kind_field (drop at s)) kind_order) (payload_of (drop at s))) ≡ none)
-        × ((added_found F (held b) (find_kind (kind_field (drop at s)) kind_order) (payload_of (drop at s))).book
-        ≡ packed (add_found F (held b) (find_kind (kind_field (drop at s)) kind_order) (payload_of (drop at s))))
-    unfolding added_found
-    fine-here e = settled-fine _ _ _ (sym (ap (λ (x : Added). x.checked) answered) ∙ e)
-
-    pub none_here : a.checked ≡ Fine → first_fault (frame_faults F here (drop at s)) ≡ none
-    none_here e = content ∙ (fine-here e).0
-
-    -- the book behind the frame
-    pub book-here : a.checked ≡ Fine → a.book ≡ packed (past_frame F here (drop at s)).book
-    unfolding past_frame
-    book-here e = ap (λ (x : Added). x.book) answered ∙ (fine-here e).1
+        pub goes-here : {x : BookStruct} {l : ℕ} → v ≡ accepted x → k ≢ End → l ≡ rank f.kind
+            → accepted (Some (record { book = x; last = l; at = at + 4 + f.len })) ≡ stepped_at F here (drop at s) at
+        unfolding is_end kind_number find_kind kind_order
+        goes-here e h l =
+            let n : f.kind ≢ 8 = said-other f.kind found {m = 8} refl h in
+            let place : at + 4 + f.len ≡ at + (4 + payload_length (drop at s)) = omega (arith, says.2) in
+            let of-kind = l ∙ ap rank (sym says.1) in
+            let g = fine-here e in
+            (λ i. accepted (Some (record { book = g.1 i; last = of-kind i; at = place i })))
+            ∙ step-more F here (drop at s) at g.0 (false_of (eqb (kind_field (drop at s)) 8) (λ t. n (sym says.1 ∙ (eqb-iff (kind_field (drop at s)) 8).0 t)))
 
 -- ---- what the content asks
 
--- a number that says a kind that is no Head is not the Head's
-pub number-no-head : (n : ℕ) (k : KindCase) → k ≡ kind_said (find_kind n kind_order) → k ≢ Head → n ≢ 1
-unfolding find_kind kind_order kind_number
-number-no-head n k e h f = h (e ∙ ap (λ m. kind_said (find_kind m kind_order)) f)
-
 -- behind the Head the book is growing
-pub growing-here : (last kind left : ℕ) (b : Book) → Reached (record { last = last; book = b }) → out_of_order_by last kind left ≡ false
-    → kind ≢ 1 → T (growing b)
-growing-here last kind left b (at_start l e) f h = let z = not_first last kind left l h ∙ f in never cc
-growing-here last kind left b (behind_head l g) f h = g
+pub growing-here : (kind left : ℕ) {last : ℕ} {b : Book} {k : KindCase} → Reached (record { last = last; book = b }) → Some k ≡ kind_said (find_kind kind kind_order)
+    → out_of_order_by last kind left ≡ false → k ≢ Head → T (growing b)
+unfolding find_kind kind_order kind_number
+growing-here kind left {last} (at_start l e) s f h =
+    let z = not_first last kind left l (said-other kind s {m = 1} refl h) ∙ f in absurd (cc)
+growing-here kind left (behind_head l g) s f h = g
 
 -- ---- at a place of a file
 
 -- a whole frame ends within the file
-pub whole_room : (s : Bytes) (at kind len : ℕ) → at ≤ length s → framed_at (drop at s) ≡ Whole kind len → at + (4 + len) ≤ length s
-whole_room s at kind len h e =
-    let w = whole_says (drop at s) kind len e in
+pub whole_room : (s : Bytes) (at : ℕ) {f : Frame} → at ≤ length s → framed_at (drop at s) ≡ Some f → at + (4 + f.len) ≤ length s
+whole_room s at {f} h e =
+    let w = whole_says (drop at s) e in
     let k = (whole-iff (drop at s)).0 (from-denied w.0) in
     omega (arith, k, length-drop at s, w.2)
-
--- a frame that is cut is refused by 1
-pub cut-here : (F : Format) (b : BookStruct) → Packed b → (last : ℕ) (s : Bytes) (at : ℕ) → framed_at (drop at s) ≡ Cut
-    → (r : Stepped) → (r.next ≡ Stop 1) × (r.book ≡ b) → r ≡ stepped_at F (record { last = last; book = held b }) (drop at s) at
-cut-here F b w last s at e r f =
-    let k = f.1 ∙ w.same in
-    (λ i. record { next = f.0 i; book = k i })
-    ∙ step-stop F (record { last = last; book = held b }) (drop at s) at 1 (first-cut F (record { last = last; book = held b }) (drop at s) (cut-says (drop at s) e))

@@ -1,25 +1,18 @@
 -- What the code answers to a frame's payload, in the specification's words. Assumes nothing.
 use Rattle.std.specs.Prelude.{◌≡◌, ℕ, ◌≤◌, ◌<◌, length, replicate, T, ltb}
-use Rattle.std.proofs.Math.Option.{Option, none, some}
 use Rattle.model.specs.declared.Book.{Book as BookStruct}
 use Rattle.model.specs.declared.Train.{Train as TrainStruct}
-use Rattle.spec.specs.Lists.{Bytes, all, first_fault}
+use Rattle.spec.specs.Lists.{Bytes, all, first_fault, Verdict}
 use Rattle.spec.specs.Numbers.{field}
 use Rattle.spec.specs.Frames.{Format, Kind}
 use Rattle.spec.specs.Book.{Book, calls_of}
-use Rattle.spec.specs.Read.{content_faults, add, max_calls, max_reach, max_trains}
+use Rattle.spec.specs.Read.{content_faults, add, refuse_or, max_calls, max_reach, max_trains}
+use Rattle.spec.specs.Answers.{accepted_as}
 use Rattle.spec.specs.Held.{held, packed, CountsFit, NumbersFit}
-use Rattle.reader.specs.declared.content.Checked.TheVariants.{Fine, Refused}
-use Rattle.reader.specs.declared.content.Added.{Added}
 
--- the book with what the frame adds, or unchanged beside a refusal
-abbrev pub settled : Option ℕ → Book → Book → Added
-settled none b next = record { checked = Fine; book = packed next }
-settled (some n) b next = record { checked = Refused n; book = packed b }
-
--- 5 to 9 of a frame of this kind, and the book after it
-unfoldable pub added : Format → Kind → Book → Bytes → Added
-added f k b p = settled (first_fault (content_faults f b k p)) b (add f b k p)
+-- 5 to 9 of a frame of this kind, or the book with what it adds, by value
+unfoldable pub added : Format → Kind → Book → Bytes → Verdict BookStruct
+added f k b p = accepted_as packed (refuse_or (first_fault (content_faults f b k p)) (add f b k p))
 
 -- the struct is the one that holds its book: zeros stand behind each row
 pub record Packed (b : BookStruct) : Type 0 where

@@ -1,3 +1,2 @@
 pub mod Added
 pub mod BookAnswers
-pub mod OutputAnswers

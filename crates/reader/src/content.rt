@@ -1,59 +1,28 @@
 // The content of a book's frames: 5 to 9 for each kind, and what the frame adds to the book. Each `add_`
-// takes a payload of its kind's length and answers the refusal's number beside the book unchanged, or
-// the book with what the frame adds. Assumes nothing.
+// takes a payload of its kind's length, and answers the book with what the frame adds, or the refusal.
+// Assumes nothing.
 ghost use Rattle.std.specs.Prelude.{◌≡◌, ◌&&◌, ◌+◌, ◌*◌, ◌≤◌, ◌<◌, T, eqb, ltb, length, drop};
 ghost use Rattle.spec.specs.Runs as runs;
 ghost use Rattle.spec.specs.Lists as lists;
 ghost use Rattle.spec.specs.Frames as frames;
 ghost use Rattle.spec.specs.Read as read;
 ghost use Rattle.frames.specs.Framed.{format_of};
+ghost use Rattle.spec.specs.Answers.{told};
 ghost use Rattle.spec.specs.Held.{held, held_train, CountsFit, NumbersFit};
 ghost use Rattle.reader.specs.Added.{added, Packed, CallsFew, NumbersOf};
 
-use frames::bytes::{all_below, place_of, wide};
+use frames::bytes::{all_below, place_of};
 use frames::{
-    CallFrame, Format, HeadFrame, JoinFrame, NodeFrame, SegmentFrame, TrainFrame, UnbreakableFrame,
-    pair, time, time_width, train_end,
+    CallFrame, Format, FrameKind, HeadFrame, JoinFrame, NodeFrame, SegmentFrame, TrainFrame,
+    UnbreakableFrame, pair, time, time_width, train_end,
 };
 use model::{
     Book, Call, Join, MAX_CALLS, MAX_INTERVALS, MAX_JOINS, MAX_NODES, MAX_REACH, MAX_SEGMENTS,
-    MAX_TRAINS, MAX_TTD, OLD_INTERVALS, Segment, Train,
+    MAX_TRAINS, MAX_TTD, OLD_INTERVALS, Refusal, Segment, Train,
 };
 use network::calls::calls_of;
 use network::scans::{may_divide, some_has};
 use network::track::{is_path, joined, length_in_segments, speed_in_segments, touches};
-
-// Whether a frame's content passes, or the number that refuses it.
-#[derive(Clone, Copy)]
-pub enum Checked {
-    Fine,
-    Refused(usize),
-}
-
-#[derive(Clone, Copy)]
-pub struct Added {
-    pub checked: Checked,
-    pub book: Book,
-}
-
-// The book unchanged, beside a refusal.
-fn refused(b: Book, number: usize) -> Added
-    ensures { (result.checked ≡ Checked.Refused number) × (result.book ≡ b) }
-{
-    Added {
-        checked: Checked::Refused(number),
-        book: b,
-    }
-}
-
-fn fine(b: Book) -> Added
-    ensures { (result.checked ≡ Checked.Fine) × (result.book ≡ b) }
-{
-    Added {
-        checked: Checked::Fine,
-        book: b,
-    }
-}
 
 // The greatest T of a format.
 fn most_intervals(format: Format) -> usize
@@ -66,41 +35,41 @@ fn most_intervals(format: Format) -> usize
 }
 
 // Head: rs, rt at least 1; T 1 to the format's most.
-pub fn add_head(format: Format, b: Book, p: &[u8]) -> Added
+pub fn add_head(format: Format, b: Book, p: &[u8]) -> Result<Book, Refusal>
     requires { Packed b × (length p.now ≡ frames.times_at frames.head_kind + (format_of format).time_width) }
-    ensures { result ≡ added (format_of format) frames.head_kind (held b) p.now }
+    ensures { told result ≡ added (format_of format) frames.head_kind (held b) p.now }
 {
     let metres = pair(p, 0);
     let seconds = pair(p, 2);
     let intervals = time(format, p, HeadFrame::TIMES_AT);
     let most = most_intervals(format);
     if metres < 1 || seconds < 1 || intervals < 1 || most < intervals {
-        return refused(b, 6);
+        return Err(Refusal::WrongField);
     }
     let mut next = b;
     next.segment_metres = metres;
     next.interval_seconds = seconds;
     next.intervals = intervals;
-    fine(next)
+    Ok(next)
 }
 
 // Node: border kind 0 to 3, at most 96.
-pub fn add_node(b: Book, p: &[u8]) -> Added
-    requires { Packed b × (length p.now ≡ NodeFrame.LEN) }
-    ensures { (f : frames.Format) → result ≡ added f frames.node_kind (held b) p.now }
+pub fn add_node(b: Book, p: &[u8]) -> Result<Book, Refusal>
+    requires { Packed b × (length p.now ≡ ⟦<NodeFrame as FrameKind>⟧.LEN) }
+    ensures { (f : frames.Format) → told result ≡ added f frames.node_kind (held b) p.now }
 {
     let at = b.node_count;
     if MAX_NODES <= at {
-        return refused(b, 5);
+        return Err(Refusal::OverLimit);
     }
     let kind = p[0];
     if 3 < kind {
-        return refused(b, 6);
+        return Err(Refusal::WrongField);
     }
     let mut next = b;
     next.nodes[at] = kind;
     next.node_count = at + 1;
-    fine(next)
+    Ok(next)
 }
 
 // 6 of a Segment: two different nodes that were read, TTD 0 to 63.
@@ -108,19 +77,19 @@ fn segment_fits(b: Book, s: Segment) -> bool
     requires { CountsFit b }
     ensures { result ≡ read.segment_fits (held b) s }
 {
-    let a = wide(s.a);
-    let e = wide(s.b);
-    a < b.node_count && e < b.node_count && a != e && wide(s.ttd) <= MAX_TTD
+    let a = usize::from(s.a);
+    let e = usize::from(s.b);
+    a < b.node_count && e < b.node_count && a != e && usize::from(s.ttd) <= MAX_TTD
 }
 
 // Segment: at most 64.
-pub fn add_segment(b: Book, p: &[u8]) -> Added
-    requires { Packed b × (length p.now ≡ SegmentFrame.LEN) }
-    ensures { (f : frames.Format) → result ≡ added f frames.segment_kind (held b) p.now }
+pub fn add_segment(b: Book, p: &[u8]) -> Result<Book, Refusal>
+    requires { Packed b × (length p.now ≡ ⟦<SegmentFrame as FrameKind>⟧.LEN) }
+    ensures { (f : frames.Format) → told result ≡ added f frames.segment_kind (held b) p.now }
 {
     let at = b.segment_count;
     if MAX_SEGMENTS <= at {
-        return refused(b, 5);
+        return Err(Refusal::OverLimit);
     }
     let s = Segment {
         a: p[0],
@@ -128,12 +97,12 @@ pub fn add_segment(b: Book, p: &[u8]) -> Added
         ttd: p[2],
     };
     if !segment_fits(b, s) {
-        return refused(b, 6);
+        return Err(Refusal::WrongField);
     }
     let mut next = b;
     next.segments[at] = s;
     next.segment_count = at + 1;
-    fine(next)
+    Ok(next)
 }
 
 // 6 of a Join: a node, and two different segments that touch it.
@@ -141,9 +110,9 @@ fn join_fits(b: Book, j: Join) -> bool
     requires { CountsFit b }
     ensures { result ≡ read.join_fits (held b) j }
 {
-    let node = wide(j.node);
-    let left = wide(j.left);
-    let right = wide(j.right);
+    let node = usize::from(j.node);
+    let left = usize::from(j.left);
+    let right = usize::from(j.right);
     if b.node_count <= node || b.segment_count <= left || b.segment_count <= right {
         return false;
     }
@@ -151,13 +120,13 @@ fn join_fits(b: Book, j: Join) -> bool
 }
 
 // Join: at most 128, a pair at one node once.
-pub fn add_join(b: Book, p: &[u8]) -> Added
-    requires { Packed b × (length p.now ≡ JoinFrame.LEN) }
-    ensures { (f : frames.Format) → result ≡ added f frames.join_kind (held b) p.now }
+pub fn add_join(b: Book, p: &[u8]) -> Result<Book, Refusal>
+    requires { Packed b × (length p.now ≡ ⟦<JoinFrame as FrameKind>⟧.LEN) }
+    ensures { (f : frames.Format) → told result ≡ added f frames.join_kind (held b) p.now }
 {
     let at = b.join_count;
     if MAX_JOINS <= at {
-        return refused(b, 5);
+        return Err(Refusal::OverLimit);
     }
     let j = Join {
         node: p[0],
@@ -165,15 +134,20 @@ pub fn add_join(b: Book, p: &[u8]) -> Added
         right: p[2],
     };
     if !join_fits(b, j) {
-        return refused(b, 6);
+        return Err(Refusal::WrongField);
     }
-    if joined(b, wide(j.node), wide(j.left), wide(j.right)) {
-        return refused(b, 6);
+    if joined(
+        b,
+        usize::from(j.node),
+        usize::from(j.left),
+        usize::from(j.right),
+    ) {
+        return Err(Refusal::WrongField);
     }
     let mut next = b;
     next.joins[at] = j;
     next.join_count = at + 1;
-    fine(next)
+    Ok(next)
 }
 
 // 7: length and speed in segments are 1 to 8.
@@ -191,31 +165,31 @@ fn call_fits(b: Book, c: Call) -> bool
     requires { CountsFit b }
     ensures { result ≡ read.call_fits (held b) c }
 {
-    wide(c.train) < b.train_count
-        && wide(c.segment) < b.segment_count
+    usize::from(c.train) < b.train_count
+        && usize::from(c.segment) < b.segment_count
         && c.first <= c.last
         && c.last <= b.intervals
 }
 
 // Unbreakable TTD: one that some segment has, and that no border may divide. It adds nothing.
-pub fn add_unbreakable(b: Book, p: &[u8]) -> Added
-    requires { Packed b × T (lists.all (read.segment_fits (held b)) (held b).segments) × (length p.now ≡ UnbreakableFrame.LEN) }
-    ensures { (f : frames.Format) → result ≡ added f frames.unbreakable_kind (held b) p.now }
+pub fn add_unbreakable(b: Book, p: &[u8]) -> Result<Book, Refusal>
+    requires { Packed b × T (lists.all (read.segment_fits (held b)) (held b).segments) × (length p.now ≡ ⟦<UnbreakableFrame as FrameKind>⟧.LEN) }
+    ensures { (f : frames.Format) → told result ≡ added f frames.unbreakable_kind (held b) p.now }
 {
-    let ttd = wide(p[0]);
+    let ttd = usize::from(p[0]);
     if !some_has(b, ttd) {
-        return refused(b, 6);
+        return Err(Refusal::WrongField);
     }
     if may_divide(b, ttd) {
-        return refused(b, 9);
+        return Err(Refusal::DivisibleTtd);
     }
-    fine(b)
+    Ok(b)
 }
 
 // Call: one to four a train.
-pub fn add_call(format: Format, b: Book, p: &[u8]) -> Added
+pub fn add_call(format: Format, b: Book, p: &[u8]) -> Result<Book, Refusal>
     requires { Packed b × CallsFew (held b) × (length p.now ≡ frames.times_at frames.call_kind + 2 * (format_of format).time_width) }
-    ensures { result ≡ added (format_of format) frames.call_kind (held b) p.now }
+    ensures { told result ≡ added (format_of format) frames.call_kind (held b) p.now }
 {
     let c = Call {
         train: p[0],
@@ -223,17 +197,17 @@ pub fn add_call(format: Format, b: Book, p: &[u8]) -> Added
         first: time(format, p, CallFrame::TIMES_AT),
         last: time(format, p, CallFrame::TIMES_AT + time_width(format)),
     };
-    if MAX_CALLS <= calls_of(b, wide(c.train)) {
-        return refused(b, 5);
+    if MAX_CALLS <= calls_of(b, usize::from(c.train)) {
+        return Err(Refusal::OverLimit);
     }
     if !call_fits(b, c) {
-        return refused(b, 6);
+        return Err(Refusal::WrongField);
     }
     let at = b.call_count;
     let mut next = b;
     next.calls[at] = c;
     next.call_count = at + 1;
-    fine(next)
+    Ok(next)
 }
 
 // 6 of a Train: at least one metre, a departure below T, and directed segments that were read.
@@ -270,25 +244,25 @@ fn place_fits(b: Book, p: &[u8], fixed: usize, l: usize) -> bool
 }
 
 // Train: at most 8; its place, behind the fixed part, is a path of l directed segments.
-pub fn add_train(format: Format, b: Book, p: &[u8]) -> Added
+pub fn add_train(format: Format, b: Book, p: &[u8]) -> Result<Book, Refusal>
     requires { Packed b × (1 ≤ b.segment_metres) × (frames.train_fixed (format_of format) ≤ length p.now) }
-    ensures { result ≡ added (format_of format) frames.train_kind (held b) p.now }
+    ensures { told result ≡ added (format_of format) frames.train_kind (held b) p.now }
 {
     let at = b.train_count;
     if MAX_TRAINS <= at {
-        return refused(b, 5);
+        return Err(Refusal::OverLimit);
     }
     if !train_fits(format, b, p) {
-        return refused(b, 6);
+        return Err(Refusal::WrongField);
     }
     let mut t = train_numbers(format, p);
     if !reach_fits(b, t) {
-        return refused(b, 7);
+        return Err(Refusal::WrongReach);
     }
     let l = length_in_segments(b, t);
     let fixed = train_end(format, 0);
     if !place_fits(b, p, fixed, l) {
-        return refused(b, 8);
+        return Err(Refusal::NoPath);
     }
     t.size = l;
     let place = place_of(p, fixed);
@@ -296,5 +270,5 @@ pub fn add_train(format: Format, b: Book, p: &[u8]) -> Added
     let mut next = b;
     next.trains[at] = t;
     next.train_count = at + 1;
-    fine(next)
+    Ok(next)
 }

@@ -2,53 +2,39 @@
 // book's own. `read_book` is the entry point: it takes any bytes, and answers the book by value or one
 // numbered refusal; `read_runs` leaves the trains' runs, which 11 counts, in a lent table; `read_as` does
 // the same for a book of either format. Assumes nothing.
-ghost use Rattle.std.specs.Prelude.{◌≡◌, ◌≢◌, not, ◌||◌, ℕ, ◌+◌, ◌-◌, ◌≤◌, ◌<◌, length, take, drop, T, ltb};
-ghost use Rattle.spec.specs.Lists.{any, up_to, empty, first_fault, refused};
-ghost use Rattle.spec.specs.Frames.{frame_head};
+ghost use Rattle.std.specs.Prelude.{◌≡◌, ◌≢◌, not, ◌||◌, ◌-◌, ◌≤◌, ◌<◌, length, take, drop, T, ltb, IfOk, IfErr};
+ghost use Rattle.std.proofs.Math.Option.{some};
+ghost use Rattle.model.specs.Refusals.{number_of};
+ghost use Rattle.spec.specs.Lists.{any, up_to, empty, first_fault};
 ghost use Rattle.spec.specs.Book.{no_book, calls_of};
 ghost use Rattle.spec.specs.BookFile.{FitsFields};
 ghost use Rattle.spec.specs.Runs.{runs_of};
 ghost use Rattle.spec.specs.Read.{growing, read_as, read_book, refuse_or, book_faults, max_runs};
+ghost use Rattle.spec.specs.Answers.{told, accepted_as};
 ghost use Rattle.spec.specs.Held.{held, packed, CountsFit};
 ghost use Rattle.reader.specs.Added.{Packed};
-ghost use Rattle.frames.specs.Framed.{format_of, framed_at, kind_in};
+ghost use Rattle.frames.specs.Framed.{format_of, kind_in};
 ghost use Rattle.spec.specs.Reached.{Reached};
 ghost use Rattle.listing.specs.Listed.{table_bytes, run_table, run_counts};
-ghost use Rattle.reader.specs.BookAnswers.{book_read_of, added_found, stepped_at};
+ghost use Rattle.reader.specs.BookAnswers.{read_of, added_found, stepped_at};
 
 use crate::content::{
-    Added, Checked, add_call, add_head, add_join, add_node, add_segment, add_train, add_unbreakable,
+    add_call, add_head, add_join, add_node, add_segment, add_train, add_unbreakable,
 };
-use frames::bytes::wide;
 use frames::{
-    EndFrame, Format, Framed, JoinFrame, Kind, NO_RANK, NodeFrame, OPENING, SegmentFrame,
+    EndFrame, Format, FrameKind, JoinFrame, Kind, NodeFrame, OPENING, SegmentFrame,
     UnbreakableFrame, call_end, frame_at, head_end, kind_of, out_of_order, rank, train_end,
 };
 use listing::{TABLE_BYTES, list_trains};
 use model::{
     Book, Call, Counts, Join, MAX_CALLS, MAX_JOINS, MAX_NODES, MAX_REACH, MAX_RUNS, MAX_SEGMENTS,
-    MAX_TRAINS, Segment, Train,
+    MAX_TRAINS, Refusal, Segment, Train,
 };
 use network::calls::calls_of;
 
-// A verdict: accepted, or a refusal's number and detail.
+// A book that was read, with how many runs each of its trains has.
 #[derive(Clone, Copy)]
-pub enum Answer {
-    Accepted,
-    Refused(usize, usize),
-}
-
-// Accepted, with so many bytes of the output written, or a refusal's number and detail.
-#[derive(Clone, Copy)]
-pub enum OutputAnswer {
-    Wrote(usize),
-    Refused(usize, usize),
-}
-
-// A book that was read, with how many runs each of its trains has; or the empty book beside its refusal.
-#[derive(Clone, Copy)]
-pub struct BookRead {
-    pub answer: Answer,
+pub struct ReadBook {
     pub book: Book,
     pub counts: Counts,
 }
@@ -89,183 +75,108 @@ fn empty_book() -> Book
     }
 }
 
-// A refusal beside the empty book.
-fn refused_book(number: usize) -> BookRead
-    ensures { result ≡ book_read_of (refused number 0) }
-{
-    BookRead {
-        answer: Answer::Refused(number, 0),
-        book: empty_book(),
-        counts: [0usize; MAX_TRAINS],
-    }
-}
-
-// 4, beside the book unchanged.
-fn wrong_length(b: Book) -> Added
-    ensures { (result.checked ≡ Checked.Refused 4) × (result.book ≡ b) }
-{
-    Added {
-        checked: Checked::Refused(4),
-        book: b,
-    }
-}
-
-// The book of a frame that adds nothing.
-fn unchanged(b: Book) -> Added
-    ensures { (result.checked ≡ Checked.Fine) × (result.book ≡ b) }
-{
-    Added {
-        checked: Checked::Fine,
-        book: b,
-    }
-}
-
 // 4 to 9 of a frame whose payload stands from `at` up to `end`, by its kind, and the book after it. The
 // kind's cursor says where its payload, or the part ahead of a Train's place, has to end: 4.
-fn add_frame(format: Format, b: Book, kind: Kind, s: &[u8], at: usize, end: usize) -> Added
+fn add_frame(
+    format: Format,
+    b: Book,
+    kind: Kind,
+    s: &[u8],
+    at: usize,
+    end: usize,
+) -> Result<Book, Refusal>
     requires { Packed b × (at ≤ end) × (end ≤ length s.now) × (kind ≢ Kind.Head → T (growing (held b))) }
-    ensures { result ≡ added_found (format_of format) (held b) (kind_in kind) (take (end - at) (drop at s.now)) }
+    ensures { told result ≡ added_found (format_of format) (held b) (some (kind_in kind)) (take (end - at) (drop at s.now)) }
 {
     match kind {
         Kind::Head => {
             let to = head_end(format, at);
             if to != end {
-                return wrong_length(b);
+                return Err(Refusal::PayloadLength);
             }
             add_head(format, b, &s[at..to])
         }
         Kind::Node => {
             let to = NodeFrame::cursor(at).end;
             if to != end {
-                return wrong_length(b);
+                return Err(Refusal::PayloadLength);
             }
             add_node(b, &s[at..to])
         }
         Kind::Segment => {
             let to = SegmentFrame::cursor(at).end;
             if to != end {
-                return wrong_length(b);
+                return Err(Refusal::PayloadLength);
             }
             add_segment(b, &s[at..to])
         }
         Kind::Join => {
             let to = JoinFrame::cursor(at).end;
             if to != end {
-                return wrong_length(b);
+                return Err(Refusal::PayloadLength);
             }
             add_join(b, &s[at..to])
         }
         Kind::Train => {
             let fixed = train_end(format, at);
-            if end < fixed || end != fixed + wide(s[fixed - 1]) {
-                return wrong_length(b);
+            if end < fixed || end != fixed + usize::from(s[fixed - 1]) {
+                return Err(Refusal::PayloadLength);
             }
             add_train(format, b, &s[at..end])
         }
         Kind::Call => {
             let to = call_end(format, at);
             if to != end {
-                return wrong_length(b);
+                return Err(Refusal::PayloadLength);
             }
             add_call(format, b, &s[at..to])
         }
         Kind::Unbreakable => {
             let to = UnbreakableFrame::cursor(at).end;
             if to != end {
-                return wrong_length(b);
+                return Err(Refusal::PayloadLength);
             }
             add_unbreakable(b, &s[at..to])
         }
         Kind::End => {
             if EndFrame::cursor(at).end != end {
-                return wrong_length(b);
+                return Err(Refusal::PayloadLength);
             }
-            unchanged(b)
+            Ok(b)
         }
-        Kind::Unknown => unchanged(b),
     }
 }
 
-// How reading goes on after a frame: a refusal, the End, or further at a place, after a kind's rank.
+// How far a book was read: the book so far, the rank of the last frame's kind (0 before the first), and where
+// the next frame begins.
 #[derive(Clone, Copy)]
-pub enum Next {
-    Stop(usize),
-    End,
-    More { at: usize, last: usize },
-}
-
-#[derive(Clone, Copy)]
-pub struct Stepped {
-    pub next: Next,
+pub struct Reading {
     pub book: Book,
+    pub last: usize,
+    pub at: usize,
 }
 
-// A refusal beside the book as far as it was read.
-fn stopped(b: Book, number: usize) -> Stepped
-    ensures { (result.next ≡ Next.Stop number) × (result.book ≡ b) }
+// The frame where reading stands: 1 to 9, and how far the book is read after it, or nothing at its End.
+fn step(format: Format, r: Reading, s: &[u8]) -> Result<Option<Reading>, Refusal>
+    requires { Packed r.book × Reached (record { last = r.last; book = held r.book }) × (r.at ≤ length s.now) }
+    ensures { told result ≡ stepped_at (format_of format) (record { last = r.last; book = held r.book }) (drop r.at s.now) r.at }
 {
-    Stepped {
-        next: Next::Stop(number),
-        book: b,
+    let frame = frame_at(s, r.at).ok_or(Refusal::CutFrame)?;
+    let kind = kind_of(frame.kind).ok_or(Refusal::UnknownKind)?;
+    let start = r.at + OPENING;
+    let end = start + frame.len;
+    if out_of_order(r.last, frame.kind, s.len() - end) {
+        return Err(Refusal::FrameOrder);
     }
-}
-
-// A whole frame at a place: 2 to 9, and how reading goes on.
-fn step_whole(
-    format: Format,
-    b: Book,
-    last: usize,
-    s: &[u8],
-    at: usize,
-    kind: usize,
-    len: usize,
-) -> Stepped
-    requires { Packed b × Reached (record { last = last; book = held b }) × (framed_at (drop at s.now) ≡ Framed.Whole kind len)
-        × (at + (frame_head + len) ≤ length s.now) }
-    ensures { result ≡ stepped_at (format_of format) (record { last = last; book = held b }) (drop at s.now) at }
-{
-    let start = at + OPENING;
-    let end = start + len;
-    let place = rank(kind);
-    if place == NO_RANK {
-        return stopped(b, 2);
+    let book = add_frame(format, r.book, kind, s, start, end)?;
+    if kind == Kind::End {
+        return Ok(None);
     }
-    if out_of_order(last, kind, s.len() - end) {
-        return stopped(b, 3);
-    }
-    let a = add_frame(format, b, kind_of(kind), s, start, end);
-    let checked = a.checked;
-    let next = a.book;
-    match checked {
-        Checked::Refused(n) => stopped(b, n),
-        Checked::Fine => {
-            if kind == EndFrame::KIND {
-                Stepped {
-                    next: Next::End,
-                    book: b,
-                }
-            } else {
-                Stepped {
-                    next: Next::More {
-                        at: end,
-                        last: place,
-                    },
-                    book: next,
-                }
-            }
-        }
-    }
-}
-
-// One frame: 1, and then the whole frame.
-fn step(format: Format, b: Book, last: usize, s: &[u8], at: usize) -> Stepped
-    requires { Packed b × Reached (record { last = last; book = held b }) × (at ≤ length s.now) }
-    ensures { result ≡ stepped_at (format_of format) (record { last = last; book = held b }) (drop at s.now) at }
-{
-    match frame_at(s, at) {
-        Framed::Cut => stopped(b, 1),
-        Framed::Whole { kind, len } => step_whole(format, b, last, s, at, kind, len),
-    }
+    Ok(Some(Reading {
+        book,
+        last: rank(frame.kind),
+        at: end,
+    }))
 }
 
 // 10: there is a train, and each has a call.
@@ -273,15 +184,12 @@ fn all_called(b: Book) -> bool
     requires { CountsFit b }
     ensures { result ≡ not (empty (held b).trains || any (λ i. empty (calls_of (held b) i)) (up_to (length (held b).trains))) }
 {
-    let n = b.train_count;
-    let mut i = 0;
-    while i < n {
+    for i in 0..b.train_count {
         if calls_of(b, i) == 0 {
             return false;
         }
-        i += 1;
     }
-    n != 0
+    b.train_count != 0
 }
 
 // 11: no train has over 256 runs. The counts go as far as 257.
@@ -289,82 +197,60 @@ fn few_runs(b: Book, counts: Counts) -> bool
     requires { CountsFit b × (counts ≡ run_counts (held b)) }
     ensures { result ≡ not (any (λ t. ltb max_runs (length (runs_of (held b) t))) (held b).trains) }
 {
-    let n = b.train_count;
-    let mut i = 0;
-    while i < n {
-        if MAX_RUNS < counts[i] {
-            return false;
-        }
-        i += 1;
-    }
-    true
+    counts[..b.train_count].iter().all(|runs| *runs <= MAX_RUNS)
 }
 
 // The book's own refusals, 10 and 11, after its End. The runs that are counted for 11 are left in the
 // table; beside 11 it is left free, beside 10 as it was.
-fn finish(b: Book, runs: &mut [u8]) -> BookRead
+fn finish(b: Book, runs: &mut [u8]) -> Result<ReadBook, Refusal>
     requires { Packed b × T (growing (held b)) × FitsFields (held b) × (length runs.old ≡ table_bytes) }
-    ensures { (result ≡ book_read_of (refuse_or (first_fault (book_faults (held b))) (held b)))
-        × (result.answer ≡ Answer.Accepted → runs.new ≡ run_table (held result.book) runs.old)
-        × ((n d : ℕ) → result.answer ≡ Answer.Refused n d → n < 11 → runs.new ≡ runs.old) }
+    ensures answer { told result ≡ accepted_as read_of (refuse_or (first_fault (book_faults (held b))) (held b)) }
+    ensures ok { IfOk result (λ r. runs.new ≡ run_table (held r.book) runs.old) }
+    ensures err { IfErr result (λ e. number_of e < 11 → runs.new ≡ runs.old) }
 {
     if !all_called(b) {
-        return refused_book(10);
+        return Err(Refusal::NoCall);
     }
     let counts = list_trains(b, runs);
     if !few_runs(b, counts) {
-        return refused_book(11);
+        return Err(Refusal::OverRuns);
     }
-    BookRead {
-        answer: Answer::Accepted,
-        book: b,
-        counts: counts,
-    }
+    Ok(ReadBook { book: b, counts })
 }
 
 // The book that the bytes hold in a format, with its runs in the table, or one numbered refusal; beside 11
 // the table is left free, beside another as it was.
-pub fn read_as(format: Format, s: &[u8], runs: &mut [u8]) -> BookRead
+pub fn read_as(format: Format, s: &[u8], runs: &mut [u8]) -> Result<ReadBook, Refusal>
     requires { length runs.old ≡ table_bytes }
-    ensures { (result ≡ book_read_of (read_as (format_of format) s.now))
-        × (result.answer ≡ Answer.Accepted → runs.new ≡ run_table (held result.book) runs.old)
-        × ((n d : ℕ) → result.answer ≡ Answer.Refused n d → n < 11 → runs.new ≡ runs.old) }
+    ensures answer { told result ≡ accepted_as read_of (read_as (format_of format) s.now) }
+    ensures ok { IfOk result (λ r. runs.new ≡ run_table (held r.book) runs.old) }
+    ensures err { IfErr result (λ e. number_of e < 11 → runs.new ≡ runs.old) }
 {
-    let mut book = empty_book();
-    let mut last = 0;
-    let mut at = 0;
-    loop {
-        let st = step(format, book, last, s, at);
-        let next = st.next;
-        match next {
-            Next::Stop(n) => {
-                return refused_book(n);
-            }
-            Next::End => {
-                return finish(book, runs);
-            }
-            Next::More { at: a, last: l } => {
-                book = st.book;
-                at = a;
-                last = l;
-            }
-        }
+    let mut reading = Reading {
+        book: empty_book(),
+        last: 0,
+        at: 0,
+    };
+    // no `for`: each frame says where the next one begins
+    while let Some(next) = step(format, reading, s)? {
+        reading = next;
     }
+    finish(reading.book, runs)
 }
 
 // The same in the format in force.
-pub fn read_runs(s: &[u8], runs: &mut [u8]) -> BookRead
+pub fn read_runs(s: &[u8], runs: &mut [u8]) -> Result<ReadBook, Refusal>
     requires { length runs.old ≡ table_bytes }
-    ensures { (result ≡ book_read_of (read_book s.now))
-        × (result.answer ≡ Answer.Accepted → runs.new ≡ run_table (held result.book) runs.old)
-        × ((n d : ℕ) → result.answer ≡ Answer.Refused n d → n < 11 → runs.new ≡ runs.old) }
+    ensures answer { told result ≡ accepted_as read_of (read_book s.now) }
+    ensures ok { IfOk result (λ r. runs.new ≡ run_table (held r.book) runs.old) }
+    ensures err { IfErr result (λ e. number_of e < 11 → runs.new ≡ runs.old) }
 {
     read_as(Format::Now, s, runs)
 }
 
 // The entry point: the book that the bytes hold, or one numbered refusal.
-pub fn read_book(s: &[u8]) -> BookRead
-    ensures { result ≡ book_read_of (read_book s.now) }
+pub fn read_book(s: &[u8]) -> Result<ReadBook, Refusal>
+    ensures { told result ≡ accepted_as read_of (read_book s.now) }
 {
     let mut runs = [0u8; TABLE_BYTES];
     read_runs(s, &mut runs)

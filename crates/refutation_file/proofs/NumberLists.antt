@@ -5,7 +5,6 @@ use mathlib.Core.Bool.{true, ◌&&◌}
 use Prim.Native.Nat.{ℕ, suc, ◌+◌, ◌*◌, ◌≤◌, ◌<◌}
 use native.Mathlib.Numerals.{add-one}
 use native.Mathlib.Omega.{arith}
-use mathlib.Core.List.{List}
 use lib.ListN.{length, get_or, drop, length-map, drop_of_length-le, get_or-map}
 use lib.Seq.{drop-cons}
 use lib.IntN.{ℤ, pos}
@@ -14,8 +13,7 @@ use Rattle.spec.specs.Frames.{number_width}
 use Rattle.spec.specs.Lists.{Bytes, up_to}
 use Rattle.spec.specs.Numbers.{field, signed}
 use Rattle.spec.specs.Formula.{Clause}
-use Rattle.spec.specs.Refutation.{variable_of, rises_from, hints_fit}
-use Rattle.frames.proofs.Drops.{all-drop-next, all-drop-end}
+use Rattle.spec.specs.Refutation.{variable_of, rises_from}
 use Rattle.laws.proofs.Numbers.{field_next, field-two}
 use Rattle.laws.proofs.Parts.{length-up_to, map_at}
 use Rattle.refutation_file.specs.Numbers.{number_count, numbers_in, literals_in}
@@ -58,14 +56,3 @@ module _ (vars low i : ℕ) (ls : Clause) where
   pub rises-end : length ls ≤ i → rises_from vars low (drop i ls) ≡ true
   unfolding rises_from
   rises-end h = ap (rises_from vars low) (drop_of_length-le ls h)
-
--- and the hints
-module _ (own i : ℕ) (hs : List ℕ) where
-  pub hints-next : (h : ℕ) → h ≡ get_or hs i 0 → i < length hs
-      → hints_fit own (drop i hs) ≡ (leb 1 h && ltb h own && hints_fit own (drop (i + 1) hs))
-  unfolding hints_fit
-  hints-next h e l = rw e (all-drop-next (λ h. leb 1 h && ltb h own) hs i 0 l)
-
-  pub hints-end : length hs ≤ i → hints_fit own (drop i hs) ≡ true
-  unfolding hints_fit
-  hints-end h = all-drop-end (λ h. leb 1 h && ltb h own) hs i h

@@ -69,16 +69,13 @@ pub fn literals_fit(list: &[u8], variables: usize) -> bool
     requires { variables < 2147483648 }
     ensures { result ≡ literals_fit variables (literals_in list.now) }
 {
-    let n = list.len() / NUMBER;
     let mut low = 0;
-    let mut i = 0;
-    while i < n {
+    for i in 0..list.len() / NUMBER {
         let l = literal_at(list, i);
         if !literal_fits(l, low, variables) {
             return false;
         }
         low = variable(l);
-        i += 1;
     }
     true
 }
@@ -87,15 +84,8 @@ pub fn literals_fit(list: &[u8], variables: usize) -> bool
 pub fn hints_fit(list: &[u8], own: usize) -> bool
     ensures { result ≡ hints_fit own (numbers_in list.now) }
 {
-    let n = list.len() / NUMBER;
-    let mut fits = true;
-    let mut i = 0;
-    while i < n {
+    (0..list.len() / NUMBER).all(|i| {
         let h = number_at(list, i);
-        if h < 1 || own <= h {
-            fits = false;
-        }
-        i += 1;
-    }
-    fits
+        1 <= h && h < own
+    })
 }

@@ -1,9 +1,10 @@
--- The clauses that steps add, step by step: by the answer to a step (`adds_none`, `adds-last`, `adds-more`), and in the slices
+-- The clauses that steps add, step by step: by a step's first fault (`adds_none`, `adds-last`, `adds-more`), and in the slices
 -- (`nothing_yet`, `stays`, `grows`). Assumes nothing.
 use mathlib.Core.Path.{◌≡◌, refl, sym, ap, ◌∙◌}
 use Prim.Native.Nat.{ℕ, zero, suc, ◌+◌}
 use native.Mathlib.Nat.{add-zero}
 use native.Mathlib.Omega.{arith}
+use mathlib.Core.Option.{Option, none, some}
 use mathlib.Core.List.{List, [], ◌∷◌, ◌++◌}
 use lib.ListN.{length, set}
 use lib.Seq.{sets}
@@ -11,7 +12,7 @@ use lib.IntN.{ℤ, pos}
 use Rattle.spec.specs.Lists.{Bytes, one, each}
 use Rattle.spec.specs.Frames.{payload_of, behind}
 use Rattle.spec.specs.Formula.{Clause, words_of}
-use Rattle.spec.specs.Refutation.{step_in}
+use Rattle.spec.specs.Refutation.{step_in, literal_count}
 use Rattle.demands.proofs.Words.{words_append, words-one}
 use Rattle.propagation.specs.Kept.{starts_from}
 use Rattle.propagation.proofs.Lookup.{length-starts}
@@ -19,12 +20,10 @@ use Rattle.propagation.proofs.Adding.{starts-append}
 use Rattle.propagation.specs.Known.{LeftOnTrail}
 use Rattle.propagation.proofs.Trail.{left_alone, left_both}
 use Rattle.refutation_steps.specs.declared.one_step.Extent.{Extent}
-use Rattle.refutation_steps.specs.declared.one_step.StepAnswer.{StepAnswer}
-use Rattle.refutation_steps.specs.declared.one_step.StepAnswer.TheVariants.{Proved, Refused}
-use Rattle.refutation_steps.specs.Checked.{step_checked}
+use Rattle.refutation_steps.specs.Checked.{step_fault}
 use Rattle.refutation_steps.specs.Added.{added_by, added_from, Adds}
 
--- ---- the answer to a step
+-- ---- by the first fault of a step
 
 module _ (W C vars fuel : ℕ) (cs : List Clause) (s : Bytes) where
   -- the step's clause, and those of the steps behind it
@@ -34,25 +33,26 @@ module _ (W C vars fuel : ℕ) (cs : List Clause) (s : Bytes) where
   abbrev later : List Clause
   later = added_from W C vars fuel (cs ++ one claimed) (behind s)
 
-  by_answer : {x : StepAnswer} → x ≡ step_checked W C vars cs s → added_from W C vars (suc fuel) cs s ≡ added_by x claimed later
-  unfolding added_from
-  by_answer e = ap (λ (a : StepAnswer). added_by a claimed later) (sym e)
-
   -- refused
-  pub adds_none : {n : ℕ} → Refused n ≡ step_checked W C vars cs s → added_from W C vars (suc fuel) cs s ≡ []
-  adds_none e = by_answer e
+  pub adds_none : {n : ℕ} → step_fault W C vars cs s ≡ some n → added_from W C vars (suc fuel) cs s ≡ []
+  unfolding added_from
+  adds_none e = ap (λ (o : Option ℕ). added_by o (literal_count (payload_of s)) claimed later) e
 
-  -- proved, without literals
-  pub adds-last : {n h : ℕ} → Proved n h ≡ step_checked W C vars cs s → n ≡ 0 → added_from W C vars (suc fuel) cs s ≡ one claimed
-  adds-last {h = h} e z = by_answer (ap (λ (k : ℕ). Proved k h) (sym z) ∙ e)
+  module _ (e : step_fault W C vars cs s ≡ none) where
+    -- proved, without literals
+    pub adds-last : literal_count (payload_of s) ≡ 0 → added_from W C vars (suc fuel) cs s ≡ one claimed
+    unfolding added_from
+    adds-last z = λ i. added_by (e i) (z i) claimed later
 
-  -- proved, with literals
-  some-literals : (n h : ℕ) → (n ≡ 0 → ⊥) → added_by (Proved n h) claimed later ≡ claimed ∷ later
-  some-literals zero h z = absurd (z refl)
-  some-literals (suc n) h z = refl
+    -- proved, with literals
+    some-literals : (n : ℕ) → (n ≡ 0 → ⊥) → added_by none n claimed later ≡ claimed ∷ later
+    some-literals zero z = absurd (z refl)
+    some-literals (suc n) z = refl
 
-  pub adds-more : {n h : ℕ} → Proved n h ≡ step_checked W C vars cs s → (n ≡ 0 → ⊥) → added_from W C vars (suc fuel) cs s ≡ claimed ∷ later
-  adds-more {n} {h} e z = by_answer e ∙ some-literals n h z
+    pub adds-more : (literal_count (payload_of s) ≡ 0 → ⊥) → added_from W C vars (suc fuel) cs s ≡ claimed ∷ later
+    unfolding added_from
+    adds-more z =
+        ap (λ (o : Option ℕ). added_by o (literal_count (payload_of s)) claimed later) e ∙ some-literals (literal_count (payload_of s)) z
 
 -- ---- the slices
 

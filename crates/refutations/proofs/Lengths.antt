@@ -1,4 +1,4 @@
--- What the lengths of the lent slices say: too short for the formula is refusal 12 (`short`), and else the answer is the one to the
+-- What the lengths of the lent slices say: too short for the formula is refusal 12 (`short`), and else the verdict is the one on the
 -- file of steps (`checked`), which depends on the lengths of the words and of the clauses alone. Assumes nothing.
 use mathlib.Core.Path.{◌≡◌, refl, sym, ap, ap₂, ◌∙◌}
 use mathlib.Core.Bool.{Bool, true, false}
@@ -13,9 +13,6 @@ use Rattle.spec.specs.Instance.{Instance}
 use Rattle.spec.specs.Formula.{Clause, formula, variables, words_of}
 use Rattle.spec.specs.Refutation.{Lent, step_in, step_detail, step_faults, clauses_fit, check_steps, check_file}
 use Rattle.spec.specs.Entry.{demand, formula_fits, refuted_for}
-use Rattle.reader.specs.declared.reading.Answer.{Answer}
-use Rattle.reader.specs.declared.reading.Answer.TheVariants.{Refused}
-use Rattle.reader.specs.BookAnswers.{answer_of}
 use Rattle.refutation_steps.specs.Checked.{lent_by}
 
 -- ---- the file of steps
@@ -74,20 +71,20 @@ no-room-fits I lent not = false_of (formula_fits lent I) (λ h.
     not (record { words = k.0.0.0; clauses = k.0.0.1; values = k.0.1; trail = k.1 }))
 
 module _ (I : Instance) (s : Bytes) (lent : Lent) where
-  -- the answer, by whether there is room
-  abbrev answer_by : Bool → Answer
-  answer_by fits = answer_of (and_then (demand fits 12) λ _. check_file lent (variables I) (formula I) s)
+  -- the verdict, by whether there is room
+  abbrev verdict_if : Bool → Verdict (Unit {0})
+  verdict_if fits = and_then (demand fits 12) λ _. check_file lent (variables I) (formula I) s
 
   -- too little
-  pub short : (Room I lent → ⊥) → Refused 12 0 ≡ answer_of (refuted_for I s lent)
+  pub short : (Room I lent → ⊥) → refused 12 0 ≡ refuted_for I s lent
   unfolding refuted_for demand and_then
-  short not = ap answer_by (sym (no-room-fits I lent not))
+  short not = ap verdict_if (sym (no-room-fits I lent not))
 
   -- enough
-  pub checked : Room I lent → {words clauses vars : ℕ} {cs : List Clause} {a : Answer} → words ≡ lent.words → clauses ≡ lent.clauses
-      → vars ≡ variables I → cs ≡ formula I → a ≡ answer_of (check_file (lent_by words clauses) vars cs s) → a ≡ answer_of (refuted_for I s lent)
+  pub checked : Room I lent → {words clauses vars : ℕ} {cs : List Clause} {v : Verdict (Unit {0})} → words ≡ lent.words → clauses ≡ lent.clauses
+      → vars ≡ variables I → cs ≡ formula I → v ≡ check_file (lent_by words clauses) vars cs s → v ≡ refuted_for I s lent
   unfolding refuted_for demand and_then
   checked room e f g h k =
       k
-      ∙ simp (e, f, g, h) (ap answer_of (same-file lent (variables I) (formula I) s))
-      ∙ ap answer_by (sym (room_fits I lent room))
+      ∙ simp (e, f, g, h) (same-file lent (variables I) (formula I) s)
+      ∙ ap verdict_if (sym (room_fits I lent room))

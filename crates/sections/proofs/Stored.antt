@@ -1,15 +1,14 @@
 -- Numbers that are stored from the start of a table on: what is read there, and what lies behind them. Assumes nothing.
 use mathlib.Core.Path.{◌≡◌, sym, ap, ap₂, ◌∙◌}
-use Prim.Native.Nat.{ℕ, ◌+◌, ◌≤◌, ◌<◌}
-use native.Mathlib.Nat.{zero-add, add-zero}
+use Prim.Native.Nat.{ℕ, ◌≤◌, ◌<◌}
+use native.Mathlib.Nat.{zero-add}
 use native.Mathlib.Omega.{arith}
 use mathlib.Core.List.{List, ◌++◌, map}
-use lib.ListN.{length, get_or, set, drop, length-map, take-append-drop}
-use lib.Seq.{sets, sets-eq, length-sets, drop_at, get_or-drop}
+use lib.ListN.{length, get_or, take, drop, length-map, take-append-drop}
+use lib.Seq.{sets, sets-eq, length-sets, drop_at, take-length}
 use Rattle.spec.specs.Lists.{up_to}
 use Rattle.laws.proofs.Parts.{length-up_to, map_at, map_same, singles}
 use Rattle.laws.proofs.Stores.{get_or-sets-in}
-use Rattle.listing.proofs.Leaves.{sets-map-next}
 
 -- a table has the first n numbers of f, and is else as it was
 pub record Stored (f : ℕ → ℕ) (n : ℕ) (old new : List ℕ) : Type 0 where
@@ -23,10 +22,6 @@ module _ (f : ℕ → ℕ) (n : ℕ) (old : List ℕ) where
 
   many : length numbers ≡ n
   many = length-map (up_to n) f ∙ length-up_to n
-
-  -- the next number is stored
-  pub stored_next : (new : List ℕ) (v : ℕ) → new ≡ sets old 0 numbers → v ≡ f n → set new n v ≡ sets old 0 (map f (up_to (n + 1)))
-  stored_next new v e g = rw (e, g) (rw zero-add at (sets-map-next f old 0 n))
 
   module _ (fits : n ≤ length old) where
     split : sets old 0 numbers ≡ numbers ++ drop n old
@@ -48,7 +43,11 @@ module _ (f : ℕ → ℕ) (n : ℕ) (old : List ℕ) where
         ∙ ap₂ ◌++◌ (sym (singles new 0 n (omega (arith, s.size))) ∙ map_same (λ i. get_or new i 0) f n s.at) s.behind
         ∙ sym split
 
--- what lies behind is read as before
-pub read_behind : (n : ℕ) (old new : List ℕ) → drop n new ≡ drop n old → get_or new n 0 ≡ get_or old n 0
-read_behind n old new e =
-    rw add-zero at (sym (get_or-drop n new 0 0) ∙ ap (λ (l : List ℕ). get_or l 0 0) e ∙ get_or-drop n old 0 0)
+    -- the first n were written by themselves
+    pub front-stored : (front : List ℕ) → length front ≡ n → ((i : ℕ) → i < n → get_or front i 0 ≡ f i)
+        → front ++ drop n old ≡ sets old 0 numbers
+    front-stored front e at =
+        let taken : take n front ≡ front = rw (← e) (take-length front) in
+        ap (λ (xs : List ℕ). xs ++ drop n old)
+        (sym taken ∙ sym (singles front 0 n (omega arith)) ∙ map_same (λ i. get_or front i 0) f n at)
+        ∙ sym split

@@ -12,7 +12,6 @@ ghost use Rattle.tables.specs.Tables.{Passed};
 ghost use Rattle.tables.specs.Ready.{MeetsReady};
 ghost use Rattle.sections.specs.Labels.{merged_label, joined_label, section_labels};
 
-use frames::bytes::wide;
 use model::Book;
 
 // Gives each segment its own number as its label: no two are together yet.
@@ -20,18 +19,9 @@ fn number_labels(labels: &mut [usize], segments: usize)
     requires { segments ≤ length labels.old }
     ensures { labels.new ≡ sets labels.old 0 (map (λ s. s) (up_to segments)) }
 {
-    let mut s = 0;
-    while s < segments {
-        labels[s] = s;
-        s += 1;
+    for (s, label) in labels[..segments].iter_mut().enumerate() {
+        *label = s;
     }
-}
-
-// A label where all labels `from` become `to`.
-fn merged_label(from: usize, to: usize, label: usize) -> usize
-    ensures { result ≡ merged_label from to label }
-{
-    if label == from { to } else { label }
 }
 
 // Gives every segment with the label `from` the label `to`.
@@ -40,10 +30,10 @@ fn merge(labels: &mut [usize], segments: usize, from: usize, to: usize)
     ensures { labels.new ≡ sets labels.old 0
         (map (λ s. merged_label from to (get_or labels.old s 0)) (up_to segments)) }
 {
-    let mut s = 0;
-    while s < segments {
-        labels[s] = merged_label(from, to, labels[s]);
-        s += 1;
+    for label in &mut labels[..segments] {
+        if *label == from {
+            *label = to;
+        }
     }
 }
 
@@ -57,10 +47,8 @@ fn join(labels: &mut [usize], segments: usize, s: usize, u: usize)
 {
     let one = labels[s];
     let other = labels[u];
-    if one < other {
-        merge(labels, segments, other, one);
-    } else if other < one {
-        merge(labels, segments, one, other);
+    if one != other {
+        merge(labels, segments, one.max(other), one.min(other));
     }
 }
 
@@ -73,19 +61,15 @@ pub fn label_sections(b: Book, meets: &[u8], borders: &[u8], labels: &mut [usize
         ≡ sets labels.old 0 (section_labels (instance_of (held b)) (borders_of borders.now)) }
 {
     number_labels(labels, b.segment_count);
-    let end = meets.len();
-    let mut at = 0;
-    while at + 2 < end {
-        let node = wide(meets[at]);
-        let open = borders[node] != 1;
+    for meet in meets.chunks_exact(3) {
+        let open = borders[usize::from(meet[0])] != 1;
         if open {
             join(
                 labels,
                 b.segment_count,
-                wide(meets[at + 1]),
-                wide(meets[at + 2]),
+                usize::from(meet[1]),
+                usize::from(meet[2]),
             );
         }
-        at += 3;
     }
 }

@@ -1,11 +1,11 @@
 -- The book that a struct holds, and the struct that holds a book: what contracts of functions over the struct are stated with.
 -- Assumes nothing.
 use Rattle.std.specs.Prelude.{ℕ, ◌-◌, ◌*◌, ◌≤◌, ◌<◌, List, ◌++◌, map, length, take, replicate}
+use Rattle.std.specs.Prelude.{Some, None}
+use Rattle.std.specs.Prelude.{Option as CodeOption}
 use Rattle.std.proofs.Math.Option.{Option, none, some}
 use Rattle.model.specs.declared.Book.{Book as BookStruct}
 use Rattle.model.specs.declared.Train.{Train as TrainStruct}
-use Rattle.model.specs.declared.Cap.{Cap as CapEnum}
-use Rattle.model.specs.declared.Cap.TheVariants.{No, AtMost}
 use Rattle.spec.specs.Book.{Book, Segment, Join, Train, Call}
 use Rattle.spec.specs.Read.{max_nodes, max_segments, max_joins, max_trains, max_calls, max_reach}
 
@@ -29,10 +29,15 @@ held b = record {
   calls = take b.call_count b.calls;
 }
 
--- P7: the cap that the enum holds, or none
-abbrev pub held_cap : CapEnum → Option ℕ
-held_cap No = none
-held_cap (AtMost c) = some c
+-- an option of the code, in the specification's words
+abbrev pub held_option : {A : Type 0} → CodeOption A → Option A
+held_option None = none
+held_option (Some a) = some a
+
+-- P7: at most how many nodes of kind 1 may be set, or no cap
+abbrev pub held_cap : CodeOption ℕ → Option ℕ
+held_cap None = none
+held_cap (Some c) = some c
 
 -- each count is at most the length of its row
 pub record CountsFit (b : BookStruct) : Type 0 where

@@ -9,6 +9,7 @@ pub mod Runs
 pub mod Read
 pub mod Reached
 pub mod Held
+pub mod Answers
 pub mod Instance
 pub mod Sections
 pub mod Plan

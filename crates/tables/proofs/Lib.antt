@@ -13,3 +13,4 @@ pub mod MeetTables
 pub mod Triples
 pub mod Filled
 pub mod Instances
+pub mod Scans

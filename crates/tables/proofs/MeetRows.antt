@@ -8,7 +8,7 @@ use native.Mathlib.Numerals.{towards_suc}
 use native.Mathlib.Omega.{arith}
 use mathlib.Core.List.{List, [], ◌∷◌, ◌++◌}
 use lib.ListN.{length, set, length-append}
-use lib.Seq.{sets, length-sets, length-take-le}
+use lib.Seq.{sets, length-take-le}
 use Rattle.model.specs.declared.Book.{Book as BookStruct}
 use Rattle.spec.specs.Lists.{Bytes, count, up_to, each, only, sum_to}
 use Rattle.spec.specs.Book.{Book, segment_at, touches, share_node}
@@ -49,9 +49,6 @@ module _ (f : ℕ → Bytes) (old : Bytes) (at : ℕ) where
       → f i ≡ [] → next ≡ end → after ≡ table → Listed f old at (i + 1) after next
   listed_same {i} {end} {next} {table} {after} l e n s =
       listed_next l (n ∙ sym (ap (λ (v : Bytes). end + length v) e ∙ add-zero end)) (s ∙ sym (ap (sets table end) e))
-
-  pub listed-length : {i end : ℕ} {table : Bytes} → Listed f old at i table end → length table ≡ length old
-  listed-length {i} l = ap length l.stored ∙ length-sets old at (each (up_to i) f)
 
   -- at the end all rows are listed
   pub listed-all : {i n end : ℕ} {table rows : Bytes} → Listed f old at i table end → i ≡ n → each (up_to n) f ≡ rows

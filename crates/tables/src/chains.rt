@@ -28,14 +28,7 @@ fn first_follower(runs: &[u8], r: usize, l: usize, n: usize) -> usize
     ensures { result ≡ least_from (λ q. same (place_at runs.now (end_at runs.now r l) l)
         (place_at runs.now (start_at q) l)) 0 n }
 {
-    let mut q = 0;
-    while q < n {
-        if follows(runs, r, q, l) {
-            return q;
-        }
-        q += 1;
-    }
-    n
+    (0..n).find(|q| follows(runs, r, *q, l)).unwrap_or(n)
 }
 
 // The first of n runs behind run q that starts at the same place as q, or n.
@@ -44,14 +37,9 @@ fn next_alike(runs: &[u8], q: usize, l: usize, n: usize) -> usize
     ensures { result ≡ least_from (λ p. same (place_at runs.now (start_at q) l) (place_at runs.now (start_at p) l))
         (q + 1) (n - (q + 1)) }
 {
-    let mut p = q + 1;
-    while p < n {
-        if same_places(runs, start_of(q), runs, start_of(p), l) {
-            return p;
-        }
-        p += 1;
-    }
-    n
+    (q + 1..n)
+        .find(|p| same_places(runs, start_of(q), runs, start_of(*p), l))
+        .unwrap_or(n)
 }
 
 // Writes, for each of n runs, the first run that follows it and the next that starts where it does.
@@ -63,11 +51,9 @@ fn chain_runs(runs: &[u8], l: usize, n: usize, chains: &mut [usize])
         ∷ one (least_from (λ p. same (place_at runs.now (start_at r) l) (place_at runs.now (start_at p) l))
         (r + 1) (n - (r + 1)))) }
 {
-    let mut r = 0;
-    while r < n {
+    for r in 0..n {
         chains[2 * r] = first_follower(runs, r, l, n);
         chains[2 * r + 1] = next_alike(runs, r, l, n);
-        r += 1;
     }
 }
 
@@ -86,9 +72,7 @@ pub fn chain_trains(b: Book, counts: Counts, runs: &[u8], chains: &mut [usize])
     requires { RunsReady b counts runs.now × (length chains.old ≡ all_chains) }
     ensures { chains.new ≡ chain_table b chains.old }
 {
-    let n = b.train_count;
-    let mut i = 0;
-    while i < n {
+    for i in 0..b.train_count {
         let part = i * TRAIN_BYTES;
         let at = i * TRAIN_CHAINS;
         chain_train(
@@ -98,6 +82,5 @@ pub fn chain_trains(b: Book, counts: Counts, runs: &[u8], chains: &mut [usize])
             &runs[part..part + TRAIN_BYTES],
             &mut chains[at..at + TRAIN_CHAINS],
         );
-        i += 1;
     }
 }

@@ -6,3 +6,4 @@ pub mod chains;
 pub mod meets;
 pub mod places;
 pub mod preparing;
+pub mod ready;

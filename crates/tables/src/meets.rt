@@ -21,6 +21,7 @@ fn store_byte(table: &mut [u8], at: usize, n: usize)
     requires { n < 256 }
     ensures { table.new ≡ set table.old at n }
 {
+    // Tried with `get_mut`: a proof learns nothing of the bytes behind it, and the goal `returns-in-Some` stays open.
     if at < table.len() {
         table[at] = n as u8;
     }
@@ -34,18 +35,15 @@ fn list_of(b: Book, node: usize, s: usize, table: &mut [u8], at: usize) -> usize
     ensures { (result ≡ at + length (meets_of (instance_of (held b)) node s))
         × (table.new ≡ sets table.old at (meets_of (instance_of (held b)) node s)) }
 {
-    let n = b.segment_count;
     let first = b.segments[s];
     let mut end = at;
-    let mut u = 0;
-    while u < n {
-        if meet(node, s, first, u, b.segments[u]) {
+    for (u, second) in b.segments[..b.segment_count].iter().enumerate() {
+        if meet(node, s, first, u, *second) {
             store_byte(table, end, node);
             store_byte(table, end + 1, s);
             store_byte(table, end + 2, u);
             end += 3;
         }
-        u += 1;
     }
     end
 }
@@ -56,14 +54,11 @@ fn list_at(b: Book, node: usize, table: &mut [u8], at: usize) -> usize
     ensures { (result ≡ at + length (meets_at (instance_of (held b)) node))
         × (table.new ≡ sets table.old at (meets_at (instance_of (held b)) node)) }
 {
-    let n = b.segment_count;
     let mut end = at;
-    let mut s = 0;
-    while s < n {
-        if touches(b.segments[s], node) {
+    for (s, segment) in b.segments[..b.segment_count].iter().enumerate() {
+        if touches(*segment, node) {
             end = list_of(b, node, s, table, end);
         }
-        s += 1;
     }
     end
 }
@@ -73,12 +68,9 @@ pub fn list_meets(b: Book, table: &mut [u8]) -> usize
     requires { CountsFit b }
     ensures { MeetsFilled b result table.old table.new }
 {
-    let n = b.node_count;
     let mut end = 0;
-    let mut node = 0;
-    while node < n {
+    for node in 0..b.node_count {
         end = list_at(b, node, table, end);
-        node += 1;
     }
     end
 }

@@ -12,7 +12,6 @@ ghost use Rattle.listing.specs.Listed.{run_segments, train_bytes, place_at, star
 ghost use Rattle.tables.specs.Placed.{size_at, end_at};
 ghost use Rattle.tables.specs.Tables.{Passed};
 
-use frames::bytes::wide;
 use listing::ENTRY_BYTES;
 use model::{Book, Call, Train};
 use network::track::ends_at_exit;
@@ -30,7 +29,7 @@ pub fn size_of(runs: &[u8], r: usize) -> usize
     requires { (r < max_runs) × (length runs.now ≡ train_bytes) }
     ensures { (result ≡ size_at runs.now r) × (result < 256) }
 {
-    wide(runs[r * ENTRY_BYTES])
+    usize::from(runs[r * ENTRY_BYTES])
 }
 
 // Where the last l directed segments of a run begin: the place that the run ends at.
@@ -46,14 +45,7 @@ pub fn same_places(table: &[u8], at: usize, others: &[u8], from: usize, l: usize
     requires { (at + l ≤ length table.now) × (from + l ≤ length others.now) }
     ensures { result ≡ same (place_at table.now at l) (place_at others.now from l) }
 {
-    let mut i = 0;
-    while i < l {
-        if table[at + i] != others[from + i] {
-            return false;
-        }
-        i += 1;
-    }
-    true
+    table[at..at + l] == others[from..from + l]
 }
 
 // Whether run q follows run r: it starts at the place that run r ends at.
@@ -78,15 +70,9 @@ fn contains(table: &[u8], at: usize, l: usize, segment: usize) -> bool
     requires { at + l ≤ length table.now }
     ensures { result ≡ paths.contains (place_at table.now at l) segment }
 {
-    let end = at + l;
-    let mut i = at;
-    while i < end {
-        if segment == wide(table[i]) / 2 {
-            return true;
-        }
-        i += 1;
-    }
-    false
+    table[at..at + l]
+        .iter()
+        .any(|d| segment == usize::from(*d) / 2)
 }
 
 // Whether a place of l directed segments serves the call.
@@ -94,7 +80,7 @@ pub fn serves(b: Book, c: Call, table: &[u8], at: usize, l: usize) -> bool
     requires { at + l ≤ length table.now }
     ensures { result ≡ place_serves (held b) c (place_at table.now at l) }
 {
-    contains(table, at, l, wide(c.segment))
+    contains(table, at, l, usize::from(c.segment))
 }
 
 // Whether the place that the train is given serves the call.
@@ -130,5 +116,5 @@ pub fn may_leave(b: Book, train: usize, to: Call, table: &[u8], at: usize, l: us
         × (last_or 0 (place_at table.now at l) < 2 * b.segment_count) }
     ensures { result ≡ may_leave (held b) train (place_at table.now at l) }
 {
-    serves(b, to, table, at, l) && ends_at_exit(b, wide(table[at + l - 1]))
+    serves(b, to, table, at, l) && ends_at_exit(b, usize::from(table[at + l - 1]))
 }

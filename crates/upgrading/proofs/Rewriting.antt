@@ -18,7 +18,8 @@ use Rattle.laws.proofs.Stores.{Stored, stored-none, stored-behind, stored-length
 use Rattle.demands.specs.OldFrames.{HasTimes}
 use Rattle.demands.proofs.Widening.{WithTimes, Next, times-next, upgraded-next}
 use Rattle.frames.specs.Framed.{framed_at}
-use Rattle.frames.specs.declared.Framed.TheVariants.{Whole, Cut}
+use Rattle.frames.specs.declared.Frame.{Frame}
+use Rattle.std.specs.Prelude.{Some, None}
 use Rattle.reader.proofs.Steps.{whole_says, cut-says}
 use Rattle.reader.proofs.Whole.{payload-here}
 
@@ -49,10 +50,16 @@ module _ {old new₀ : Bytes} {at to : ℕ} {new : Bytes} (r : Rewriting old new
     here = times-next (drop at old) r.framed (omega (arith, length-drop at old))
 
     -- it is not cut short
-    pub never-cut : {A : Type 0} → framed_at (drop at old) ≡ Cut → A
+    pub never-cut : {A : Type 0} → framed_at (drop at old) ≡ None → A
     never-cut e = absurd (T_not (cut_short (drop at old)) here.whole (from-true (cut-says (drop at old) e)))
 
-    module _ {kind len : ℕ} (e : framed_at (drop at old) ≡ Whole kind len) where
+    module _ {f : Frame} (e : framed_at (drop at old) ≡ Some f) where
+      abbrev kind : ℕ
+      kind = f.kind
+
+      abbrev len : ℕ
+      len = f.len
+
       abbrev payload : Bytes
       payload = take (at + 4 + len - (at + 4)) (drop (at + 4) old)
 
@@ -60,10 +67,10 @@ module _ {old new₀ : Bytes} {at to : ℕ} {new : Bytes} (r : Rewriting old new
       next-frame = frame kind (widened_found (find_kind kind kind_order) payload)
 
       kind-is : kind_field (drop at old) ≡ kind
-      kind-is = (whole_says (drop at old) kind len e).1
+      kind-is = (whole_says (drop at old) e).1
 
       payload-is : payload ≡ payload_of (drop at old)
-      payload-is = payload-here old at kind len e
+      payload-is = payload-here old at e
 
       -- the kind is of two bytes
       pub kind-small : T (bytes old) → kind < 65536
@@ -88,7 +95,7 @@ module _ {old new₀ : Bytes} {at to : ℕ} {new : Bytes} (r : Rewriting old new
       behind-is : behind (drop at old) ≡ drop (at + 4 + len) old
       unfolding behind
       behind-is =
-          let n : at + (4 + payload_length (drop at old)) ≡ at + 4 + len = omega (arith, (whole_says (drop at old) kind len e).2) in
+          let n : at + (4 + payload_length (drop at old)) ≡ at + 4 + len = omega (arith, (whole_says (drop at old) e).2) in
           drop-drop (4 + payload_length (drop at old)) at old ∙ ap (λ (n : ℕ). drop n old) n
 
       new-same : upgraded old ≡ (r.done ++ next-frame) ++ upgraded (drop (at + 4 + len) old)
@@ -116,8 +123,12 @@ module _ {old new₀ : Bytes} {at to : ℕ} {new : Bytes} (r : Rewriting old new
           → Rewriting old new₀ (at + 4 + len) next after
       rewriting-next n b = record {
         done = r.done ++ next-frame;
-        inside = omega (arith, (whole-iff (drop at old)).0 here.whole, length-drop at old, (whole_says (drop at old) kind len e).2);
+        inside = omega (arith, (whole-iff (drop at old)).0 here.whole, length-drop at old, (whole_says (drop at old) e).2);
         framed = rw (sym behind-is) here.rest;
         same = new-same;
         bytes-there = stored-behind r.bytes-there (record { ends = n; bytes = b });
       }
+
+  -- where no frame is left, all of them are
+  pub rewriting-end : framed_at (drop at old) ≡ None → new ≡ sets new₀ 0 (upgraded old)
+  rewriting-end e = let past : at < length old → ⊥ = λ l. never-cut l e in rewriting-all (omega arith)

@@ -5,27 +5,26 @@
 #![tactic(auto)]
 
 ghost use Rattle.std.specs.Prelude.{◌≡◌, ◌+◌, ◌≤◌, ◌<◌, length};
-ghost use Rattle.std.proofs.Math.Option.{some};
+ghost use Rattle.std.proofs.Math.Option.{Option, some};
 ghost use Rattle.std.proofs.lemmas.List.Edits.{sets};
 ghost use Rattle.spec.specs.Lists.{accepted};
 ghost use Rattle.spec.specs.Frames as frames;
 ghost use Rattle.spec.specs.Read.{read_as};
+ghost use Rattle.spec.specs.Answers.{told, accepted_as};
 ghost use Rattle.spec.specs.Held.{held};
 ghost use Rattle.spec.specs.Upgrade.{widened_at, widened_found, upgraded, upgrade_book, upgrade_output};
 ghost use Rattle.demands.specs.OldFrames.{HasTimes};
-ghost use Rattle.frames.specs.Framed.{kind_in};
 ghost use Rattle.reader.specs.Added.{Packed};
-ghost use Rattle.reader.specs.OutputAnswers.{output_answer};
 ghost use Rattle.upgrading.specs.Widened.{times_in, book_times};
 
 use frames::bytes::{put_bytes, put_pair};
 use frames::{
-    CallFrame, Format, Framed, HeadFrame, Kind, OLD_TIME, OPENING, TIME, TrainFrame, frame_at,
-    kind_of, time,
+    CallFrame, Format, HeadFrame, Kind, OLD_TIME, OPENING, TIME, TrainFrame, frame_at, kind_of,
+    time,
 };
 use listing::TABLE_BYTES;
-use model::Book;
-use reader::reading::{Answer, OutputAnswer, read_as};
+use model::{Book, Refusal};
+use reader::reading::read_as;
 
 // Where the times of a payload stand, and how many there are.
 #[derive(Clone, Copy)]
@@ -34,29 +33,24 @@ pub struct Times {
     pub count: usize,
 }
 
-// Those of a kind.
-fn times_of(kind: Kind) -> Times
-    ensures { result ≡ times_in (kind_in kind) }
+// Those of a kind with this number, if it is one.
+fn times_of(number: usize) -> Times
+    ensures { result ≡ times_in (frames.find_kind number frames.kind_order) }
 {
-    match kind {
-        Kind::Head => Times {
+    match kind_of(number) {
+        Some(Kind::Head) => Times {
             at: HeadFrame::TIMES_AT,
             count: 1,
         },
-        Kind::Train => Times {
+        Some(Kind::Train) => Times {
             at: TrainFrame::TIMES_AT,
             count: 1,
         },
-        Kind::Call => Times {
+        Some(Kind::Call) => Times {
             at: CallFrame::TIMES_AT,
             count: 2,
         },
-        Kind::Node => Times { at: 0, count: 0 },
-        Kind::Segment => Times { at: 0, count: 0 },
-        Kind::Join => Times { at: 0, count: 0 },
-        Kind::Unbreakable => Times { at: 0, count: 0 },
-        Kind::End => Times { at: 0, count: 0 },
-        Kind::Unknown => Times { at: 0, count: 0 },
+        _ => Times { at: 0, count: 0 },
     }
 }
 
@@ -68,11 +62,9 @@ fn put_payload(times: Times, p: &[u8], new: &mut [u8], to: usize)
     let first = times.at;
     let n = times.count;
     let mut end = put_bytes(new, to, &p[..first]);
-    let mut i = 0;
-    while i < n {
+    for i in 0..n {
         put_pair(new, end, time(Format::Old, p, first + OLD_TIME * i));
         end += TIME;
-        i += 1;
     }
     put_bytes(new, end, &p[first + OLD_TIME * n..]);
 }
@@ -85,7 +77,7 @@ fn put_frame(kind: usize, p: &[u8], new: &mut [u8], to: usize) -> usize
     ensures { (result ≡ to + length (frames.frame kind (widened_found (frames.find_kind kind frames.kind_order) p.now)))
         × (new.new ≡ sets new.old to (frames.frame kind (widened_found (frames.find_kind kind frames.kind_order) p.now))) }
 {
-    let times = times_of(kind_of(kind));
+    let times = times_of(kind);
     let len = p.len() + times.count * (TIME - OLD_TIME);
     put_pair(new, to, len);
     put_pair(new, to + 2, kind);
@@ -93,24 +85,17 @@ fn put_frame(kind: usize, p: &[u8], new: &mut [u8], to: usize) -> usize
     to + OPENING + len
 }
 
-// Writes the frames of an old book that was read, one behind the other.
+// Writes the frames of an old book that was read, one behind the other: each tells by its length where the next begins.
 fn put_frames(old: &[u8], new: &mut [u8])
     requires { ((b : Book) × (read_as frames.old_format old.now ≡ accepted (held b))) × (length (upgraded old.now) ≤ length new.old) }
     ensures { new.new ≡ sets new.old 0 (upgraded old.now) }
 {
     let mut at = 0;
     let mut to = 0;
-    while at < old.len() {
-        match frame_at(old, at) {
-            Framed::Cut => {
-                return;
-            }
-            Framed::Whole { kind, len } => {
-                let start = at + OPENING;
-                at = start + len;
-                to = put_frame(kind, &old[start..at], new, to);
-            }
-        }
+    while let Some(frame) = frame_at(old, at) {
+        let start = at + OPENING;
+        at = start + frame.len;
+        to = put_frame(frame.kind, &old[start..at], new, to);
     }
 }
 
@@ -122,24 +107,17 @@ fn book_times(b: Book) -> usize
     1 + b.train_count + 2 * b.call_count
 }
 
-// An entry point: an old book rewritten in the format in force.
-pub fn upgrade_book(old: &[u8], new: &mut [u8]) -> OutputAnswer
-    ensures { (result ≡ output_answer (upgrade_book old.now (length new.old)))
-        × (new.new ≡ upgrade_output old.now new.old) }
+// An entry point: an old book rewritten in the format in force; answers how many bytes were written.
+pub fn upgrade_book(old: &[u8], new: &mut [u8]) -> Result<usize, Refusal>
+    ensures answer { told result ≡ accepted_as length (upgrade_book old.now (length new.old)) }
+    ensures output { new.new ≡ upgrade_output old.now new.old }
 {
     let mut runs = [0u8; TABLE_BYTES];
-    let read = read_as(Format::Old, old, &mut runs);
-    let b = read.book;
-    let answer = read.answer;
-    match answer {
-        Answer::Refused(number, detail) => OutputAnswer::Refused(number, detail),
-        Answer::Accepted => {
-            let n = old.len() + book_times(b) * (TIME - OLD_TIME);
-            if new.len() < n {
-                return OutputAnswer::Refused(12, 0);
-            }
-            put_frames(old, new);
-            OutputAnswer::Wrote(n)
-        }
+    let read = read_as(Format::Old, old, &mut runs)?;
+    let n = old.len() + book_times(read.book) * (TIME - OLD_TIME);
+    if new.len() < n {
+        return Err(Refusal::NoRoom);
     }
+    put_frames(old, new);
+    Ok(n)
 }

@@ -13,26 +13,30 @@ use Rattle.spec.specs.Lists.{Bytes, Verdict, accepted, refused, and_then}
 use Rattle.spec.specs.Instance.{Instance, instance_of, under}
 use Rattle.spec.specs.Formula.{variables, formula, words_of}
 use Rattle.spec.specs.Held.{held}
+use Rattle.spec.specs.Answers.{accepted_as}
 use Rattle.spec.specs.Entry.{Written, demand, formula_written, overwrite, written, written_for, words_after}
-use Rattle.clauses.specs.declared.Walk.{Walk}
+use Rattle.clauses.specs.declared.Tally.{Tally}
 use Rattle.clauses.specs.Walked.{start, Walks}
 use Rattle.clauses.proofs.Totals.{stored-front}
 use Rattle.tables.specs.Tables.{Passed}
-use Rattle.formula.proofs.Totals.{is-small}
-use Rattle.writing.specs.declared.FormulaAnswer.TheVariants.{Totals, Refused}
-use Rattle.writing.specs.FormulaAnswers.{formula_answer}
+use Rattle.formula.proofs.Totals.{is-small, walk-words, walk-clauses}
+use Rattle.writing.specs.declared.Totals.{Totals}
+use Rattle.writing.specs.FormulaAnswers.{totals_of}
 
--- ---- a verdict that stopped with a refusal, which leaves the output as it was
-
-pub stopped-answer : {v : Verdict Written} {n d : ℕ} → v ≡ refused n d → Refused n d ≡ formula_answer v
-stopped-answer e = ap formula_answer (sym e)
-
-pub stopped-output : {v : Verdict Written} {n d : ℕ} (old : List ℤ) → v ≡ refused n d → old ≡ words_after old v
+-- a verdict that stopped with a refusal leaves the output as it was
+pub words-stopped : {v : Verdict Written} {n d : ℕ} (old : List ℤ) → v ≡ refused n d
+    → (refused n d ≡ accepted_as totals_of v) × (old ≡ words_after old v)
 unfolding words_after and_then overwrite written
-stopped-output old e = ap (λ (v : Verdict Written). overwrite old (written (and_then v λ w. accepted w.words))) (sym e)
+words-stopped old e = (
+  ap (accepted_as totals_of) (sym e),
+  ap (λ (v : Verdict Written). overwrite old (written (and_then v λ w. accepted w.words))) (sym e),
+)
 
--- ---- of a book that passed, under a cap or without one
+same_totals : {v v' c c' n n' : ℕ} → v ≡ v' → c ≡ c' → n ≡ n'
+    → ◌≡◌ {A = Totals} (record { variables = v; clauses = c; words = n }) (record { variables = v'; clauses = c'; words = n' })
+same_totals a b c = simp (a, b, c)
 
+-- of a book that passed, under a cap or without one
 module _ (b : BookStruct) (p : Passed b) (cap : Option ℕ) where
   abbrev I : Instance
   I = under cap (instance_of (held b))
@@ -41,33 +45,22 @@ module _ (b : BookStruct) (p : Passed b) (cap : Option ℕ) where
   words = words_of (formula I)
 
   -- too little room
-  pub answer-short : (room : ℕ) → room < length words → Refused 12 0 ≡ formula_answer (written_for I room)
+  pub words-short : (room : ℕ) → room < length words → written_for I room ≡ refused 12 0
   unfolding written_for demand and_then
-  answer-short room h =
-      ap (λ (t : Bool). formula_answer (and_then (demand t 12) λ _. accepted (formula_written I))) (sym (lt-leb (length words) room h))
-
-  pub output-short : (old : List ℤ) → length old < length words → old ≡ words_after old (written_for I (length old))
-  unfolding words_after written_for demand and_then written overwrite
-  output-short old h =
-      ap (λ (t : Bool). overwrite old (written (and_then (and_then (demand t 12) λ _. accepted (formula_written I)) λ w. accepted w.words)))
-      (sym (lt-leb (length words) (length old) h))
+  words-short room h = ap (λ (t : Bool). and_then (demand t 12) λ _. accepted (formula_written I)) (lt-leb (length words) room h)
 
   -- enough
-  pub answer-fits : (room : ℕ) → length words ≤ room → {v c n : ℕ} → v ≡ variables I → c ≡ length (formula I) → n ≡ length words
-      → Totals v c n ≡ formula_answer (written_for I room)
-  unfolding written_for demand and_then formula_written
-  answer-fits room h e f g =
-      three e f g
-      ∙ ap (λ (t : Bool). formula_answer (and_then (demand t 12) λ _. accepted (formula_written I))) (sym (le-leb (length words) room h))
-    where
-      three : {v v' c c' n n' : ℕ} → v ≡ v' → c ≡ c' → n ≡ n' → Totals v c n ≡ Totals v' c' n'
-      three a b c = simp (a, b, c)
+  fits : (room : ℕ) → length words ≤ room → written_for I room ≡ accepted (formula_written I)
+  unfolding written_for demand and_then
+  fits room h = ap (λ (t : Bool). and_then (demand t 12) λ _. accepted (formula_written I)) (le-leb (length words) room h)
 
-  pub output-fits : {values : Bytes} {old new : List ℤ} {w : Walk} → length words ≤ length old → Walks values words start old w new
-      → new ≡ words_after old (written_for I (length old))
-  unfolding words_after written_for demand and_then written formula_written start
-  output-fits {old = old} h k =
-      k.output
-      ∙ stored-front words old (is-small b p cap) h
-      ∙ ap (λ (t : Bool). overwrite old (written (and_then (and_then (demand t 12) λ _. accepted (formula_written I)) λ w. accepted w.words)))
-      (sym (le-leb (length words) (length old) h))
+  pub words-written : {values : Bytes} {old new : List ℤ} {w : Tally} {v : ℕ} → length words ≤ length old → Walks values words start old w new
+      → v ≡ variables I
+      → (accepted (record { variables = v; clauses = w.clauses; words = w.words }) ≡ accepted_as totals_of (written_for I (length old)))
+      × (new ≡ words_after old (written_for I (length old)))
+  unfolding words_after and_then written formula_written start
+  words-written {old = old} h k e =
+      let f = sym (fits (length old) h) in (
+        ap accepted (same_totals e (walk-clauses b p cap k) (walk-words b p cap k)) ∙ ap (accepted_as totals_of) f,
+        k.output ∙ stored-front words old (is-small b p cap) h ∙ ap (λ (v : Verdict Written). words_after old v) f,
+      )

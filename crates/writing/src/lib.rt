@@ -5,74 +5,65 @@
 
 ghost use Rattle.std.specs.Prelude.{◌≡◌, length};
 ghost use Rattle.spec.specs.Instance.{instance_of, under};
+ghost use Rattle.spec.specs.Answers.{told, accepted_as};
 ghost use Rattle.spec.specs.Held.{held, held_cap};
 ghost use Rattle.spec.specs.Entry.{written_for, words_after, write_formula, formula_output};
-ghost use Rattle.tables.specs.Ready.{RunsReady, ChainsReady, MeetsReady};
-ghost use Rattle.writing.specs.FormulaAnswers.{formula_answer};
+ghost use Rattle.writing.specs.FormulaAnswers.{totals_of};
 
 use formula::walk::walk_formula;
 use layout::numbering::variable_count;
 use listing::TABLE_BYTES;
-use model::{Book, Cap, Counts};
-use reader::reading::Answer;
+use model::Refusal;
 use tables::chains::ALL_CHAINS;
 use tables::meets::MEET_BYTES;
-use tables::preparing::prepare_chains;
+use tables::preparing::{Prepared, prepare_chains};
+use tables::ready::FormulaTables;
 
-// The totals of a formula that was written, or a refusal's number and detail.
-#[derive(Clone, Copy)]
-pub enum FormulaAnswer {
-    Totals {
-        variables: usize,
-        clauses: usize,
-        words: usize,
-    },
-    Refused(usize, usize),
+// The totals of a formula that was written.
+#[derive(Clone, Copy, Debug, PartialEq, Eq)]
+pub struct Totals {
+    pub variables: usize,
+    pub clauses: usize,
+    pub words: usize,
 }
 
 // 12, then the words, by the tables of a book: measured with an empty output, then written.
-fn write_by(
-    b: Book,
-    counts: Counts,
-    cap: Cap,
-    runs: &[u8],
-    chains: &[usize],
-    meets: &[u8],
-    out: &mut [i32],
-) -> FormulaAnswer
-    requires { RunsReady b counts runs.now × ChainsReady b chains.now × MeetsReady b meets.now }
-    ensures { (result ≡ formula_answer (written_for (under (held_cap cap) (instance_of (held b))) (length out.old)))
-        × (out.new ≡ words_after out.old (written_for (under (held_cap cap) (instance_of (held b))) (length out.old))) }
+fn write_by(t: &FormulaTables, cap: Option<usize>, out: &mut [i32]) -> Result<Totals, Refusal>
+    ensures answer { told result ≡ accepted_as totals_of (written_for (under (held_cap cap) (instance_of (held t.now.book))) (length out.old)) }
+    ensures output { out.new ≡ words_after out.old (written_for (under (held_cap cap) (instance_of (held t.now.book))) (length out.old)) }
 {
-    let none = &runs[0..0];
-    let measured = walk_formula(b, counts, cap, runs, chains, meets, none, &mut out[0..0]);
+    let none = &t.runs[0..0];
+    let measured = walk_formula(t, cap, none, &mut out[0..0]);
     if out.len() < measured.words {
-        return FormulaAnswer::Refused(12, 0);
+        return Err(Refusal::NoRoom);
     }
-    let w = walk_formula(b, counts, cap, runs, chains, meets, none, out);
-    FormulaAnswer::Totals {
-        variables: variable_count(b, counts, cap),
-        clauses: w.clauses,
-        words: w.words,
-    }
+    let passed = walk_formula(t, cap, none, out);
+    Ok(Totals {
+        variables: variable_count(t.book, t.counts, cap),
+        clauses: passed.clauses,
+        words: passed.words,
+    })
 }
 
 // The entry point: the formula of the book that the bytes hold, under a cap or without one.
-pub fn write_formula(cap: Cap, book: &[u8], out: &mut [i32]) -> FormulaAnswer
-    ensures { (result ≡ formula_answer (write_formula (held_cap cap) book.now (length out.old)))
-        × (out.new ≡ formula_output (held_cap cap) book.now out.old) }
+pub fn write_formula(cap: Option<usize>, book: &[u8], out: &mut [i32]) -> Result<Totals, Refusal>
+    ensures answer { told result ≡ accepted_as totals_of (write_formula (held_cap cap) book.now (length out.old)) }
+    ensures output { out.new ≡ formula_output (held_cap cap) book.now out.old }
 {
     let mut runs = [0u8; TABLE_BYTES];
     let mut chains = [0usize; ALL_CHAINS];
     let mut meets = [0u8; MEET_BYTES];
-    let p = prepare_chains(book, &mut runs, &mut chains, &mut meets);
-    let end = p.meet_bytes;
-    let read = p.read;
-    let b = read.book;
-    let counts = read.counts;
-    let answer = read.answer;
-    match answer {
-        Answer::Refused(number, detail) => FormulaAnswer::Refused(number, detail),
-        Answer::Accepted => write_by(b, counts, cap, &runs, &chains, &meets[..end], out),
-    }
+    let Prepared {
+        book,
+        counts,
+        meet_bytes,
+    } = prepare_chains(book, &mut runs, &mut chains, &mut meets)?;
+    let t = FormulaTables {
+        book,
+        counts,
+        runs: &runs,
+        chains: &chains,
+        meets: &meets[..meet_bytes],
+    };
+    write_by(&t, cap, out)
 }

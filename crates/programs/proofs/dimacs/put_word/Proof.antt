@@ -68,8 +68,8 @@ module _ (c : tie.After-slice_known-3-1) where
   literal =
       let l = (start joined).args.l in
       let m = number.put_number-end.ensures in
-      let s = stored-behind (signed joined) (stored _ _ (decimal number.magnitude.result) m.0 m.2) in
-      let n = number.magnitude.ensures ∙ ap nat_abs (to_z-of_z (start joined).ranges.l) in
+      let s = stored-behind (signed joined) (stored _ _ (decimal number.unsigned_abs.result) m.0 m.2) in
+      let n = number.unsigned_abs.ensures.0 ∙ ap nat_abs (to_z-of_z (start joined).ranges.l) in
       stored_same (stored-byte s 32 c.put-2.ensures)
       (word-literal l n (λ e. joined.if-l-eq0.false (ap (of_z w32) e)))
 
@@ -91,6 +91,7 @@ put_word_spec =
     (λ c κs. search rules)
     (λ c. search rules)
     (λ c κs. search rules)
+    (λ c. search rules)
     put-number-requires
     (λ c κs. search rules)
     add-result-2

@@ -1,0 +1,8 @@
+use Rattle.std.proofs.Common.{◌+◌}
+use Rattle.spec.specs.Lists.{range, each, one}
+use Rattle.spec.specs.Formula.{is}
+use Rattle.clauses.specs.Walked.{Passes}
+use Rattle.clauses.proofs.Walk.some_of.Given as goal
+
+abbrev pub invariant-loop-k : goal.invariant-loop-k
+invariant-loop-k l = Passes (each (range 0 l.k) λ k. one (is (l.from + k))) l.fn.self l.self

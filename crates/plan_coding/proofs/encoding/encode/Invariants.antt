@@ -1,0 +1,11 @@
+-- The bytes of the first trains stand behind the borders.
+use Rattle.spec.specs.Instance.{instance_of}
+use Rattle.spec.specs.Plan.{plan_of}
+use Rattle.spec.specs.Held.{held}
+use Rattle.plan_coding.specs.Encoded.{train_bytes}
+use Rattle.plan_coding.proofs.Rows.{Rows}
+use Rattle.plan_coding.proofs.encoding.encode.Given as goal
+
+abbrev pub invariant-loop-train : goal.invariant-loop-train
+invariant-loop-train l =
+    let I = instance_of (held l.b) in Rows (train_bytes I (plan_of I l.plan)) l.initial.out I.nodes l.train l.out

@@ -1,0 +1,9 @@
+use Rattle.std.proofs.Common.{rules, ◌∙◌}
+use Rattle.spec.specs.Instance.{instance_of}
+use Rattle.spec.specs.Plan.{plan_of, keeps_calls}
+use Rattle.spec.specs.Held.{held}
+use Rattle.plan_rules.proofs.Broken.{calling}
+use Rattle.plan_rules.proofs.rules.rule_5.Goals as goal
+
+pub returns : goal.returns
+returns c = c.every_train.ensures (keeps_calls (instance_of (held c.args.b)) (plan_of (instance_of (held c.args.b)) c.args.plan.now)) (λ i l own r h k. search rules) ∙ calling _ _
