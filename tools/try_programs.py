@@ -800,6 +800,26 @@ def try_scripts(t):
             t.expect(f"bin/{check.program}, three names: the result", read(third) == check.result, read(third))
 
 
+# ---- terminals
+
+
+def try_terminals(t):
+    """An input ends where it is ended twice, once for the slice and once for the byte that tells a longer one; what is typed behind the first end
+    tells of a read that failed, and there is no verdict."""
+    for what, typed, line in (("ended twice", b"x\n\x04\x04", b"1 0\n"), ("more behind an end", b"x\n\x04y\n\x04", None)):
+        master, terminal = os.openpty()
+        try:
+            os.write(master, typed)
+            answer = t.run("print_formula", stdin=terminal)
+        finally:
+            os.close(master)
+            os.close(terminal)
+        if line is None:
+            t.no_verdict(f"print_formula at a terminal, {what}", b"standard input can't be read", answer)
+        else:
+            t.verdict(f"print_formula at a terminal, {what}", line, answer)
+
+
 # ---- all of it
 
 
@@ -807,7 +827,7 @@ GROUPS = (
     try_examples, try_results, try_commands, try_name_counts, try_unreadable, try_unreadable_standard_input, try_without_permission,
     try_unwritable_third, try_same_names, try_odd_names, try_book_lengths, try_second_lengths, try_full_output, try_full_refutation, try_empty,
     try_closed_output, try_pipes, try_old_books, try_refused_old_books, try_old_book_names, try_graphs, try_lists, try_caps, try_refused_caps,
-    try_cap_words, try_fewest, try_fewest_words, try_fewest_unreadable, try_scripts)
+    try_cap_words, try_fewest, try_fewest_words, try_fewest_unreadable, try_terminals, try_scripts)
 
 
 def copied(program, folder):

@@ -9,9 +9,8 @@ fn print_file(rt: &HostRuntime, name: &[u8]) {
     match open(rt, name) {
         Ok(mut file) => {
             let mut bytes = [0u8; 65536];
-            if let Ok(loaded) = load_from(&mut file, &mut bytes) {
-                print(rt, &bytes, loaded.len);
-            }
+            let loaded = load_from(&mut file, &mut bytes);
+            print(rt, &bytes, loaded.len);
             print_text(rt, b"\n");
         }
         Err(_) => print_text(rt, b"no file\n"),

@@ -7,7 +7,7 @@ use graph::print_graph;
 use model::Refusal;
 use programs::printing::{print, print_text};
 use programs::verdicts::{
-    Check, Said, refutation_text, say, say_plain, upgrade_text, verdict_text,
+    Check, Said, refutation_text, tell, tell_plain, upgrade_text, verdict_text,
 };
 use std::rt::HostRuntime;
 
@@ -74,7 +74,7 @@ fn drawn(book: &[u8], plan: &[u8], numbers: &[u8], out: &mut [u8]) -> Result<usi
 pub fn draw(rt: &HostRuntime, book: &[u8], plan: &[u8], numbers: &[u8]) {
     let mut out = [7u8; 65536];
     let mut line = [0u8; 64];
-    let said = say(drawn(book, plan, numbers, &mut out), &mut line);
+    let said = tell(drawn(book, plan, numbers, &mut out), &mut line);
     print_said(rt, said, &line, &out);
 }
 
@@ -171,7 +171,7 @@ fn counted(
         &mut values[..v],
         &mut trail[..t],
     );
-    let said = say_plain(answer, &mut line);
+    let said = tell_plain(answer, &mut line);
     print(rt, &line, said.len);
 }
 

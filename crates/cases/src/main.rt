@@ -73,7 +73,7 @@ fn read_part<'a, R: Read>(input: &mut R, buf: &'a mut [u8], n: usize) -> Option<
     if buf.len() < n {
         return None;
     }
-    let _read = read_full(input, &mut buf[..n]);
+    read_full(input, &mut buf[..n]);
     Some(&buf[..n])
 }
 
@@ -89,7 +89,7 @@ fn question_of(letter: u8, capped: u8, low: usize, high: usize) -> Question
 // Fills a buffer; answers whether the input has so many bytes.
 fn filled<R: Read>(input: &mut R, buf: &mut [u8]) -> bool {
     let most = buf.len();
-    matches!(read_full(input, buf), Ok(n) if n == most)
+    read_full(input, buf) == most
 }
 
 // One case; answers whether there was one.

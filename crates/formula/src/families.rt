@@ -1,16 +1,19 @@
 // The families of the formula, each over the walk of `clauses`: one function a family and interval of a train, whatever the walk
-// does with its words. An interval's variables lie in a block from its first variable, `base`, on. Assumes nothing.
-ghost use Rattle.std.specs.Prelude.{◌≡◌, Bool, ◌∷◌, ◌++◌, map, ℕ, ◌+◌, ◌*◌, ◌≤◌, ◌<◌, get_or};
+// does with its words. An interval's variables lie in a block from its first variable, `base`, on. A `TrainPart` has what they ask
+// for, of one train, and one method a family. Assumes nothing.
+ghost use Rattle.std.specs.Prelude.{◌≡◌, Bool, ◌∷◌, ◌++◌, map, ℕ, ◌+◌, ◌*◌, ◌≤◌, ◌<◌, length, get_or};
 ghost use Rattle.spec.specs.Lists.{up_to, each, only, one};
 ghost use Rattle.spec.specs.Book.{segment_of};
+ghost use Rattle.spec.specs.Read.{max_runs};
 ghost use Rattle.spec.specs.Instance.{instance_of, call_at};
 ghost use Rattle.spec.specs.Formula.{is, not', width, base, clauses_b, clauses_c, clauses_i, clauses_d, clauses_e, servers_f, clauses_g, clauses_h, family_a, words_of};
 ghost use Rattle.spec.specs.Held.{held};
+ghost use Rattle.listing.specs.Listed.{run_segments, train_bytes};
 ghost use Rattle.clauses.specs.Walked.{Passes, literal_room};
-ghost use Rattle.tables.specs.Placed.{run_held};
+ghost use Rattle.tables.specs.Placed.{size_at, run_held};
 ghost use Rattle.tables.specs.Tables.{Passed};
 ghost use Rattle.tables.specs.Ready.{RunsHeld, ChainsHeld, MeetsReady};
-ghost use Rattle.layout.specs.Blocks.{BlockOf, block_room};
+ghost use Rattle.layout.specs.Blocks.{BlockHeld, BlockOf, block_room};
 ghost use Rattle.formula.specs.Chained.{Chained};
 
 use clauses::Walk;
@@ -33,6 +36,140 @@ pub fn family_a(b: Book, walk: &mut Walk)
         let kind = b.nodes[node];
         walk.unit_not_if(denies_border(kind), node);
         walk.unit_is_if(forces_border(kind), node);
+    }
+}
+
+// B: before its departure a train has no run and is not gone.
+pub fn clauses_b(base: usize, n: usize, walk: &mut Walk)
+    requires { base + n + 1 < literal_room }
+    ensures { Passes (words_of (clauses_b n base)) walk.old walk.new }
+{
+    walk.deny_all(base, n + 1);
+}
+
+// C: from its departure on a train has some run or is gone, and no two of these.
+pub fn clauses_c(base: usize, n: usize, walk: &mut Walk)
+    requires { (base + n + 1 < literal_room) × (n ≤ max_runs) }
+    ensures { Passes (words_of (clauses_c n base)) walk.old walk.new }
+{
+    walk.some_of(base, n + 1);
+    walk.no_two(base, n + 1);
+}
+
+// D: in the interval of its departure a train starts at its given place, and is not gone.
+pub fn clauses_d(b: &Book, t: Block, runs: &[u8], walk: &mut Walk)
+    requires { BlockHeld b.now t × RunsHeld (held b.now) t.train runs.now }
+    ensures { Passes (words_of (clauses_d (instance_of (held b.now)) t.train t.base)) walk.old walk.new }
+{
+    let own = b.trains[t.train];
+    for k in 0..t.runs {
+        let given = is_given(own, runs, start_of(k), t.length);
+        walk.unit_not_if(!given, t.base + k);
+    }
+    walk.unit_not(gone_variable(t.base, t.runs));
+}
+
+// E: the literals of the runs that may follow run r, of n, whose variables lie from `base` on: those that
+// pass the test that the table chains.
+fn followers(base: usize, n: usize, r: usize, chains: &[usize], walk: &mut Walk)
+    requires { (base + n + 1 < literal_room) × (r < n) × (2 * n ≤ length chains.now)
+        × ((f : ℕ → Bool) × Chained f n (get_or chains.now (2 * r) 0) chains.now) }
+    ensures { (f : ℕ → Bool) → Chained f n (get_or chains.now (2 * r) 0) chains.now
+        → Passes (each (up_to n) λ q. only (f q) (one (is (base + q)))) walk.old walk.new }
+{
+    let mut q = chains[2 * r];
+    // no `for`: each run's entry says which run is the next
+    while q < n {
+        walk.affirm(base + q);
+        q = chains[2 * q + 1];
+    }
+}
+
+// E: run r of a block, and what may come after it in the next, from `after` on: the runs that pass the
+// test that the table chains, and gone where `leaves` says that it may follow.
+fn clause_e(t: Block, after: usize, r: usize, leaves: bool, chains: &[usize], walk: &mut Walk)
+    requires { (t.base + t.runs + 1 < literal_room) × (after + t.runs + 1 < literal_room) × (r < t.runs) × (2 * t.runs ≤ length chains.now)
+        × ((f : ℕ → Bool) × Chained f t.runs (get_or chains.now (2 * r) 0) chains.now) }
+    ensures { (f : ℕ → Bool) → Chained f t.runs (get_or chains.now (2 * r) 0) chains.now
+        → Passes (words_of (one (not' (t.base + r) ∷ ((each (up_to t.runs) λ q. only (f q) (one (is (after + q))))
+        ++ only leaves (one (is (after + t.runs)))))))
+        walk.old walk.new }
+{
+    walk.deny(t.base + r);
+    followers(after, t.runs, r, chains, walk);
+    walk.affirm_if(leaves, gone_variable(after, t.runs));
+    walk.close();
+}
+
+// E: after its departure a train goes on from where it was, or is gone.
+pub fn clauses_e(b: &Book, t: Block, runs: &[u8], chains: &[usize], walk: &mut Walk)
+    requires { BlockHeld b.now t × RunsHeld (held b.now) t.train runs.now × ChainsHeld (held b.now) t.train chains.now }
+    ensures { Passes (words_of (clauses_e (instance_of (held b.now)) t.train t.base
+        (t.base + width (instance_of (held b.now)) t.train)))
+        walk.old walk.new }
+{
+    let n = t.runs;
+    let l = t.length;
+    let after = next_interval(t.base, n, b.segment_count);
+    let to = goal(*b, t.train);
+    for r in 0..n {
+        let leaves = may_leave(*b, t.train, to, runs, end_of(runs, r, l), l);
+        clause_e(t, after, r, leaves, chains, walk);
+    }
+    walk.implies(gone_variable(t.base, n), gone_variable(after, n));
+}
+
+// F: the literals of the runs of a block that serve the train's call with a number, which is for the
+// contract: it ties the call to it.
+pub fn servers(b: &Book, t: Block, number: usize, c: Call, runs: &[u8], walk: &mut Walk)
+    requires { BlockHeld b.now t × (c ≡ call_at (held b.now) t.train number) × RunsHeld (held b.now) t.train runs.now }
+    ensures { Passes (servers_f (instance_of (held b.now)) t.train number t.base) walk.old walk.new }
+{
+    let l = t.length;
+    for r in 0..t.runs {
+        let served = serves(*b, c, runs, end_of(runs, r, l), l);
+        walk.affirm_if(served, t.base + r);
+    }
+}
+
+// G: run r of a block claims each segment of its path.
+fn claims_of(t: Block, r: usize, runs: &[u8], walk: &mut Walk)
+    requires { (t.base < block_room) × (t.runs ≤ max_runs) × (r < t.runs) × (length runs.now ≡ train_bytes) × (size_at runs.now r ≤ run_segments) }
+    ensures { Passes (words_of (map (λ s. not' (t.base + r) ∷ one (is (t.base + (t.runs + 1 + s))))
+        (map segment_of (run_held runs.now r))))
+        walk.old walk.new }
+{
+    let claims = claims_from(t.base, t.runs);
+    let at = start_of(r);
+    let end = at + size_of(runs, r);
+    for &d in &runs[at..end] {
+        walk.implies(t.base + r, claims + usize::from(d) / 2);
+    }
+}
+
+// G: each run of a block claims the segments of its path. The book is for the contract: the block is one of its.
+pub fn clauses_g(b: &Book, t: Block, runs: &[u8], walk: &mut Walk)
+    requires { BlockHeld b.now t × RunsHeld (held b.now) t.train runs.now }
+    ensures { Passes (words_of (clauses_g (instance_of (held b.now)) t.train t.base)) walk.old walk.new }
+{
+    for r in 0..t.runs {
+        claims_of(t, r, runs, walk);
+    }
+}
+
+// H: the claims of segments that meet at a node without a border go together. `meets` holds node,
+// first and second segment, three bytes each. The book is for the contract, as in G.
+pub fn clauses_h(b: &Book, t: Block, meets: &[u8], walk: &mut Walk)
+    requires { BlockHeld b.now t × MeetsReady b.now meets.now }
+    ensures { Passes (words_of (clauses_h (instance_of (held b.now)) t.train t.base)) walk.old walk.new }
+{
+    let claims = claims_from(t.base, t.runs);
+    for meet in meets.chunks_exact(3) {
+        walk.implies_either(
+            claims + usize::from(meet[1]),
+            usize::from(meet[0]),
+            claims + usize::from(meet[2]),
+        );
     }
 }
 
@@ -87,143 +224,78 @@ impl<'a> TrainPart<'a> {
         block_at(*self.book, self.first, interval).base
     }
 
-    // B: before its departure a train has no run and is not gone.
+    // B, in an interval before the departure.
     pub fn clauses_b(&self, base: usize, walk: &mut Walk)
         requires { base < block_room }
         ensures { Passes
             (words_of (clauses_b ((instance_of (held self.now.book.now)).runs self.now.first.train) base))
             walk.old walk.new }
     {
-        walk.deny_all(base, self.first.runs + 1);
+        clauses_b(base, self.first.runs, walk);
     }
 
-    // C: from its departure on a train has some run or is gone, and no two of these.
+    // C, in an interval from the departure on.
     pub fn clauses_c(&self, base: usize, walk: &mut Walk)
         requires { base < block_room }
         ensures { Passes
             (words_of (clauses_c ((instance_of (held self.now.book.now)).runs self.now.first.train) base))
             walk.old walk.new }
     {
-        walk.some_of(base, self.first.runs + 1);
-        walk.no_two(base, self.first.runs + 1);
+        clauses_c(base, self.first.runs, walk);
     }
 
-    // D: in the interval of its departure a train starts at its given place, and is not gone.
+    // D, in the interval of the departure.
     pub fn clauses_d(&self, base: usize, walk: &mut Walk)
         requires { base < block_room }
         ensures { Passes (words_of (clauses_d (instance_of (held self.now.book.now)) self.now.first.train base)) walk.old walk.new }
     {
-        let n = self.first.runs;
-        let own = self.book.trains[self.first.train];
-        for k in 0..n {
-            let given = is_given(own, self.runs, start_of(k), self.first.length);
-            walk.unit_not_if(!given, base + k);
-        }
-        walk.unit_not(gone_variable(base, n));
+        clauses_d(self.book, Block { base, ..self.first }, self.runs, walk);
     }
 
-    // E: the literals of the runs that may follow run r, whose variables lie from `base` on: those that
-    // pass the test that the table chains.
-    fn followers(&self, base: usize, r: usize, walk: &mut Walk)
-        requires { (base + self.now.first.runs + 1 < literal_room) × (r < self.now.first.runs)
-            × ((f : ℕ → Bool) × Chained f self.now.first.runs (get_or self.now.chains.now (2 * r) 0) self.now.chains.now) }
-        ensures { (f : ℕ → Bool) → Chained f self.now.first.runs (get_or self.now.chains.now (2 * r) 0) self.now.chains.now
-            → Passes (each (up_to self.now.first.runs) λ q. only (f q) (one (is (base + q)))) walk.old walk.new }
-    {
-        let mut q = self.chains[2 * r];
-        // no `for`: each run's entry says which run is the next
-        while q < self.first.runs {
-            walk.affirm(base + q);
-            q = self.chains[2 * q + 1];
-        }
-    }
-
-    // E: run r of the block from `base` on, and what may come after it in the next, from `after` on: the
-    // runs that pass the test that the table chains, and gone where `leaves` says that it may follow.
-    fn clause_e(&self, base: usize, after: usize, r: usize, leaves: bool, walk: &mut Walk)
-        requires { (base < block_room) × (after + self.now.first.runs + 1 < literal_room) × (r < self.now.first.runs)
-            × ((f : ℕ → Bool) × Chained f self.now.first.runs (get_or self.now.chains.now (2 * r) 0) self.now.chains.now) }
-        ensures { (f : ℕ → Bool) → Chained f self.now.first.runs (get_or self.now.chains.now (2 * r) 0) self.now.chains.now
-            → Passes (words_of (one (not' (base + r) ∷ ((each (up_to self.now.first.runs) λ q. only (f q) (one (is (after + q))))
-            ++ only leaves (one (is (after + self.now.first.runs)))))))
-            walk.old walk.new }
-    {
-        walk.deny(base + r);
-        self.followers(after, r, walk);
-        walk.affirm_if(leaves, gone_variable(after, self.first.runs));
-        walk.close();
-    }
-
-    // E: after its departure a train goes on from where it was, or is gone.
+    // E, in an interval from the departure on that is not the last.
     pub fn clauses_e(&self, base: usize, walk: &mut Walk)
         requires { base < block_room }
         ensures { Passes (words_of (clauses_e (instance_of (held self.now.book.now)) self.now.first.train base
             (base + width (instance_of (held self.now.book.now)) self.now.first.train)))
             walk.old walk.new }
     {
-        let n = self.first.runs;
-        let l = self.first.length;
-        let train = self.first.train;
-        let after = next_interval(base, n, self.book.segment_count);
-        let to = goal(*self.book, train);
-        for r in 0..n {
-            let leaves = may_leave(*self.book, train, to, self.runs, end_of(self.runs, r, l), l);
-            self.clause_e(base, after, r, leaves, walk);
-        }
-        walk.implies(gone_variable(base, n), gone_variable(after, n));
+        clauses_e(
+            self.book,
+            Block { base, ..self.first },
+            self.runs,
+            self.chains,
+            walk,
+        );
     }
 
-    // F: the literals of the runs of an interval that serve the train's call with a number, which is for
-    // the contract: it ties the call to it.
+    // F, the literals of an interval.
     pub fn servers(&self, base: usize, number: usize, c: Call, walk: &mut Walk)
         requires { (base < block_room) × (c ≡ call_at (held self.now.book.now) self.now.first.train number) }
         ensures { Passes (servers_f (instance_of (held self.now.book.now)) self.now.first.train number base) walk.old walk.new }
     {
-        let l = self.first.length;
-        for r in 0..self.first.runs {
-            let served = serves(*self.book, c, self.runs, end_of(self.runs, r, l), l);
-            walk.affirm_if(served, base + r);
-        }
+        servers(
+            self.book,
+            Block { base, ..self.first },
+            number,
+            c,
+            self.runs,
+            walk,
+        );
     }
 
-    // G: run r of an interval claims each segment of its path.
-    fn claims_of(&self, base: usize, r: usize, walk: &mut Walk)
-        requires { (base < block_room) × (r < self.now.first.runs) }
-        ensures { Passes (words_of (map (λ s. not' (base + r) ∷ one (is (base + (self.now.first.runs + 1 + s))))
-            (map segment_of (run_held self.now.runs.now r))))
-            walk.old walk.new }
-    {
-        let claims = claims_from(base, self.first.runs);
-        let at = start_of(r);
-        let end = at + size_of(self.runs, r);
-        for &d in &self.runs[at..end] {
-            walk.implies(base + r, claims + usize::from(d) / 2);
-        }
-    }
-
-    // G: each run of an interval claims the segments of its path.
+    // G, in an interval.
     pub fn clauses_g(&self, base: usize, walk: &mut Walk)
         requires { base < block_room }
         ensures { Passes (words_of (clauses_g (instance_of (held self.now.book.now)) self.now.first.train base)) walk.old walk.new }
     {
-        for r in 0..self.first.runs {
-            self.claims_of(base, r, walk);
-        }
+        clauses_g(self.book, Block { base, ..self.first }, self.runs, walk);
     }
 
-    // H: the claims of segments that meet at a node without a border go together. `meets` holds node,
-    // first and second segment, three bytes each.
+    // H, in an interval.
     pub fn clauses_h(&self, base: usize, walk: &mut Walk)
         requires { base < block_room }
         ensures { Passes (words_of (clauses_h (instance_of (held self.now.book.now)) self.now.first.train base)) walk.old walk.new }
     {
-        let claims = claims_from(base, self.first.runs);
-        for meet in self.meets.chunks_exact(3) {
-            walk.implies_either(
-                claims + usize::from(meet[1]),
-                usize::from(meet[0]),
-                claims + usize::from(meet[2]),
-            );
-        }
+        clauses_h(self.book, Block { base, ..self.first }, self.meets, walk);
     }
 }

@@ -6,15 +6,12 @@ use lib.ListN.{length}
 use lib.Seq.{sets}
 use Rattle.std.specs.Prelude.{Result, Ok, Err, Some, None}
 use Rattle.std.specs.Result.{MatchResult, IsOkAnd}
-use Rattle.model.specs.declared.refusals.Refusal.{Refusal}
-use Rattle.model.specs.Refusals.{number_of, detail_of}
 use Rattle.spec.specs.Lists.{Bytes, Verdict, accepted, refused, and_then}
-use Rattle.spec.specs.Answers.{told, accepted_as}
+use Rattle.spec.specs.Answers.{accepted_as}
 use Rattle.spec.specs.Entry.{overwrite, written}
 use Rattle.spec.specs.Programs.{accepted_line, refusal_line, printed}
-use Rattle.laws.proofs.Answers.{refused-as}
 use Rattle.programs.specs.declared.verdicts.Said.{Said}
-use Rattle.programs.specs.Verdicts.{bare, Tells}
+use Rattle.programs.specs.Verdicts.{numbers_told, bare, Tells}
 
 accepted-line : (v : Verdict Bytes) {before after : Bytes} {n len : ℕ} → accepted n ≡ accepted_as length v → after ≡ sets before 0 accepted_line
     → len ≡ length accepted_line → Tells v before after (record { len = len; result = Some n })
@@ -27,15 +24,19 @@ refused-line : (v : Verdict Bytes) {before after : Bytes} {k d len : ℕ} → v 
 unfolding printed
 refused-line v q s e few = rw q record { text = s; text-length = e; whole = omega (arith, few); result = refl }
 
+refused-verdict : (v : Verdict Bytes) {k d : ℕ} → refused k d ≡ accepted_as length v → v ≡ refused k d
+refused-verdict (accepted xs) t = cc
+refused-verdict (refused k d) t = cc
+
 -- the line of an accepted answer, and of a refused one
-module _ (v : Verdict Bytes) {answer : Result ℕ Refusal} (t : told answer ≡ accepted_as length v) {before after : Bytes} {len : ℕ} where
+module _ (v : Verdict Bytes) {answer : Result ℕ (ℕ × ℕ)} (t : numbers_told answer ≡ accepted_as length v) {before after : Bytes} {len : ℕ} where
   pub tells-accepted : {n : ℕ} → answer ≡ Ok n → after ≡ sets before 0 accepted_line → len ≡ length accepted_line
       → Tells v before after (record { len = len; result = Some n })
-  tells-accepted is = accepted-line v (sym (ap told is) ∙ t)
+  tells-accepted is = accepted-line v (sym (ap numbers_told is) ∙ t)
 
-  pub tells-refused : {r : Refusal} → answer ≡ Err r → after ≡ sets before 0 (refusal_line (number_of r) (detail_of r))
-      → len ≡ length (refusal_line (number_of r) (detail_of r)) → len ≤ 60 → Tells v before after (record { len = len; result = None })
-  tells-refused is = refused-line v (refused-as length t is)
+  pub tells-refused : {number detail : ℕ} → answer ≡ Err (number, detail) → after ≡ sets before 0 (refusal_line number detail)
+      → len ≡ length (refusal_line number detail) → len ≤ 60 → Tells v before after (record { len = len; result = None })
+  tells-refused is = refused-line v (refused-verdict v (sym (ap numbers_told is) ∙ t))
 
 -- of a verdict that is another's
 module _ {v w : Verdict Bytes} (q : w ≡ v) where
@@ -53,13 +54,13 @@ refused-output old n d = refl
 -- ---- a verdict without a result
 
 -- an answer without a result, as one with an empty result
-pub plain-told : (answer : Result (Unit {0}) Refusal) (said : Result ℕ Refusal) {P : Unit {0} → ℕ → Type 0}
+pub plain-told : (answer : Result (Unit {0}) (ℕ × ℕ)) (said : Result ℕ (ℕ × ℕ)) {P : Unit {0} → ℕ → Type 0}
     → MatchResult answer (λ u. IsOkAnd said (P u)) (λ e. said ≡ Err e) → ((u : Unit {0}) (n : ℕ) → P u n → n ≡ 0)
-    → told said ≡ accepted_as length (bare (told answer))
+    → numbers_told said ≡ accepted_as length (bare (numbers_told answer))
 unfolding and_then
 plain-told (Ok u) (Ok n) m zero = ap accepted (zero u n m)
 plain-told (Ok u) (Err e) m zero = absurd m
-plain-told (Err r) said m zero = ap told m
+plain-told (Err r) said m zero = ap numbers_told m
 
 pub bare-output : (old : Bytes) (v : Verdict (Unit {0})) → old ≡ overwrite old (written (bare v))
 unfolding and_then overwrite written

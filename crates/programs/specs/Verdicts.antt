@@ -1,5 +1,5 @@
 -- The verdict of each program over the checks, and what the program says of it. Assumes nothing.
-use Rattle.std.specs.Prelude.{◌≡◌, Bool, true, false, cond, ℕ, ◌≤◌, [], length}
+use Rattle.std.specs.Prelude.{◌≡◌, Result, Ok, Err, Bool, true, false, cond, ℕ, ◌≤◌, [], length}
 use Rattle.std.proofs.Math.Option.{Option, none, some}
 use Rattle.std.proofs.lemmas.List.Edits.{sets}
 use Rattle.spec.specs.Lists.{Bytes, Verdict, accepted, refused, and_then}
@@ -10,6 +10,11 @@ use Rattle.spec.specs.Programs.{program_lent, accepted_line, printed}
 use Rattle.programs.specs.declared.verdicts.Check.{Check}
 use Rattle.programs.specs.declared.verdicts.Check.TheVariants.{Assignment, Unpacking, Plan, Refutation, Carriers}
 use Rattle.programs.specs.declared.verdicts.Said.{Said}
+
+-- the verdict that an answer tells whose refusal is a number and a detail
+abbrev pub numbers_told : {A : Type 0} → Result A (ℕ × ℕ) → Verdict A
+numbers_told (Ok a) = accepted a
+numbers_told (Err r) = refused r.0 r.1
 
 -- a verdict without a result, as one with an empty result
 abbrev pub bare : Verdict (Unit {0}) → Verdict Bytes

@@ -2,13 +2,11 @@
 // than the buffer: it is written in pieces, as many words at a time as fit. Assumes nothing.
 ghost use Rattle.std.specs.Prelude.{◌≡◌, ◌+◌, ◌≤◌, length, take, drop};
 ghost use Rattle.std.proofs.lemmas.List.Edits.{sets};
-ghost use Rattle.model.specs.Refusals.{number_of, detail_of};
 ghost use Rattle.spec.specs.Numbers.{decimal};
 ghost use Rattle.spec.specs.Programs.{refusal_line};
 ghost use Rattle.programs.specs.Text.{word_text, words_text, taken, header_text};
 
 use frames::bytes::{put, put_bytes};
-use model::Refusal;
 
 // Stores a number's figures, base ten; answers where they end.
 fn put_number(buf: &mut [u8], at: usize, n: usize) -> usize
@@ -84,16 +82,16 @@ pub fn put_header(buf: &mut [u8], variables: usize, clauses: usize) -> usize
     second + 1
 }
 
-// Stores the line of a refusal: its number, a blank and its detail; answers its length. `Display` writes the same
-// text, but has no contract that says so.
-pub fn put_refusal(buf: &mut [u8], refusal: Refusal) -> usize
-    ensures length { result ≡ length (refusal_line (number_of refusal) (detail_of refusal)) }
+// Stores the line of a refusal: its number, a blank and its detail; answers its length. `Display` of a `Refusal` writes the
+// same text, but has no contract that says so.
+pub fn put_refusal(buf: &mut [u8], number: usize, detail: usize) -> usize
+    ensures length { result ≡ length (refusal_line number detail) }
     ensures short { result ≤ 60 }
-    ensures line { buf.new ≡ sets buf.old 0 (refusal_line (number_of refusal) (detail_of refusal)) }
+    ensures line { buf.new ≡ sets buf.old 0 (refusal_line number detail) }
 {
-    let first = put_number(buf, 0, refusal.number());
+    let first = put_number(buf, 0, number);
     put(buf, first, b' ');
-    let second = put_number(buf, first + 1, refusal.detail());
+    let second = put_number(buf, first + 1, detail);
     put(buf, second, b'\n');
     second + 1
 }

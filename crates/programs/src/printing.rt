@@ -14,7 +14,7 @@ ghost use Rattle.programs.specs.Loaded.{IsPrefixLen};
 use crate::dimacs::{put_header, put_refusal, put_words};
 use crate::system::fail;
 use model::Refusal;
-use std::io::{Error, Print, Read};
+use std::io::{Error, ErrorKind, Print, Read};
 use std::rt::HostRuntime;
 use writing::write_formula;
 
@@ -47,7 +47,7 @@ pub fn open_text(
 {
     if long {
         return Opened {
-            len: put_refusal(line, Refusal::NoRoom),
+            len: put_refusal(line, Refusal::NoRoom.number(), Refusal::NoRoom.detail()),
             words: 0,
         };
     }
@@ -57,43 +57,79 @@ pub fn open_text(
             words: totals.words,
         },
         Err(refusal) => Opened {
-            len: put_refusal(line, refusal),
+            len: put_refusal(line, refusal.number(), refusal.detail()),
             words: 0,
         },
     }
 }
 
-// An input that was read: how many of its bytes are at the start of a buffer, and whether it is longer than the
-// buffer.
+// An input: how many of its bytes are at the start of a buffer, whether it is longer than the buffer,
+// and whether it could be read.
 #[derive(Clone, Copy, Debug, PartialEq, Eq)]
 pub struct Loaded {
     pub len: usize,
     pub long: bool,
+    pub read: bool,
 }
 
-// Reads until the buffer is full or the input ends; answers how many bytes stand at its start.
-pub fn read_full<R: Read>(input: &mut R, buf: &mut [u8]) -> Result<usize, Error>
-    ensures { IfOk result (λ n. n ≤ length buf.new) }
+// Reads until the buffer is full, the input ends or a read fails; answers how many bytes stand at its start, and why
+// a read failed, where one did.
+fn fill<R: Read>(input: &mut R, buf: &mut [u8]) -> (usize, Option<Error>)
+    ensures { result.0 ≤ length buf.new }
 {
     let mut n = 0;
     // a `while`: n grows by as many bytes as each read gives
     while n < buf.len() {
-        match input.read(&mut buf[n..])? {
-            0 => break,
-            got => n += got,
+        match input.read(&mut buf[n..]) {
+            Ok(0) => return (n, None),
+            Ok(got) => n += got,
+            Err(error) => return (n, Some(error)),
         }
     }
-    Ok(n)
+    (n, None)
 }
 
-// Reads an open input into the buffer. It is too long where it fills the buffer and has a byte more.
-pub fn load_from<R: Read>(input: &mut R, buf: &mut [u8]) -> Result<Loaded, Error>
+// Reads until the buffer is full, the input ends or a read fails; answers how many bytes stand at its start.
+pub fn read_full<R: Read>(input: &mut R, buf: &mut [u8]) -> usize
+    ensures { result ≤ length buf.new }
+{
+    fill(input, buf).0
+}
+
+// Reads an open input into the buffer, and tells why where it could not be read. One read more tells its end
+// from a failure: an input is too long where it fills the buffer and has a byte more; a byte more behind a
+// buffer that is not full means that a read failed in between.
+pub fn load_or_why<R: Read>(input: &mut R, buf: &mut [u8]) -> (Loaded, Option<Error>)
+    ensures { (IsPrefixLen result.0.len buf.new) × (result.0.long ≡ true → result.0.len ≡ length buf.new) }
+{
+    let (len, why) = fill(input, buf);
+    let mut more = [0u8; 1];
+    let (long, read, why) = match input.read(&mut more) {
+        Ok(0) => (false, true, None),
+        Ok(_) if len == buf.len() => (true, true, None),
+        Ok(_) => (false, false, why),
+        Err(error) => (false, false, Some(error)),
+    };
+    (Loaded { len, long, read }, why)
+}
+
+// Reads an open input into the buffer.
+pub fn load_from<R: Read>(input: &mut R, buf: &mut [u8]) -> Loaded
+    ensures { (IsPrefixLen result.len buf.new) × (result.long ≡ true → result.len ≡ length buf.new) }
+{
+    load_or_why(input, buf).0
+}
+
+// Reads an open input into the buffer, or answers why it could not be read.
+pub fn load_whole<R: Read>(input: &mut R, buf: &mut [u8]) -> Result<Loaded, Error>
     ensures { IfOk result (λ l. IsPrefixLen l.len buf.new × (l.long ≡ true → l.len ≡ length buf.new)) }
 {
-    let len = read_full(input, buf)?;
-    let mut more = [0u8; 1];
-    let long = len == buf.len() && input.read(&mut more)? != 0;
-    Ok(Loaded { len, long })
+    let (loaded, why) = load_or_why(input, buf);
+    if loaded.read {
+        Ok(loaded)
+    } else {
+        Err(why.unwrap_or(Error::from(ErrorKind::UnexpectedEof)))
+    }
 }
 
 // Hands the first n bytes of the buffer to the output; answers whether it took them. Where it did not,
@@ -152,7 +188,7 @@ pub fn print_formula_from<R: Read>(
     input: &mut R,
 ) -> Result<(), Error> {
     let mut book = [0u8; 65536];
-    let loaded = load_from(input, &mut book)?;
+    let loaded = load_whole(input, &mut book)?;
     print_formula_text(rt, cap, &book[..loaded.len], loaded.long);
     Ok(())
 }

@@ -14,11 +14,11 @@ ghost use Rattle.spec.specs.Page.{print_graph};
 ghost use Rattle.spec.specs.Carriers.{list_carriers};
 ghost use Rattle.spec.specs.Programs.{program_lent, unless_long, printed};
 ghost use Rattle.refutations.specs.Lent.{lengths};
-ghost use Rattle.programs.specs.Verdicts.{bare, verdict_of, has_result, asked_check, Tells};
+ghost use Rattle.programs.specs.Verdicts.{numbers_told, bare, verdict_of, has_result, asked_check, Tells};
 ghost use Rattle.programs.specs.Loaded.{IsPrefixLen};
 
 use crate::dimacs::put_refusal;
-use crate::printing::{Loaded, load_from, print};
+use crate::printing::{Loaded, load_whole, print};
 use crate::system::{create, fail, open};
 use carriers::list_carriers;
 use checking::{check_assignment, check_plan, unpack_plan};
@@ -49,29 +49,51 @@ pub struct Said {
     pub result: Option<usize>,
 }
 
-// Stores the line of an answer.
-pub fn say(answer: Result<usize, Refusal>, line: &mut [u8]) -> Said
+// Stores the line of an answer: how many bytes its result has, or the number and the detail of a refusal.
+pub fn say(answer: Result<usize, (usize, usize)>, line: &mut [u8]) -> Said
     requires { length line.old ≡ 64 }
-    ensures { (v : Verdict Bytes) → told answer ≡ accepted_as length v → Tells v line.old line.new result }
+    ensures { (v : Verdict Bytes) → numbers_told answer ≡ accepted_as length v → Tells v line.old line.new result }
 {
     match answer {
         Ok(n) => Said {
             len: put_bytes(line, 0, b"accepted\n"),
             result: Some(n),
         },
-        Err(refusal) => Said {
-            len: put_refusal(line, refusal),
+        Err((number, detail)) => Said {
+            len: put_refusal(line, number, detail),
             result: None,
         },
     }
 }
 
 // Stores the line of an answer that has no result, as of one with an empty result.
-pub fn say_plain(answer: Result<(), Refusal>, line: &mut [u8]) -> Said
+pub fn say_plain(answer: Result<(), (usize, usize)>, line: &mut [u8]) -> Said
+    requires { length line.old ≡ 64 }
+    ensures { (v : Verdict (Unit {0})) → numbers_told answer ≡ v → Tells (bare v) line.old line.new result }
+{
+    say(answer.map(|_| 0), line)
+}
+
+// The same of an answer whose refusal has a name.
+pub fn tell(answer: Result<usize, Refusal>, line: &mut [u8]) -> Said
+    requires { length line.old ≡ 64 }
+    ensures { (v : Verdict Bytes) → told answer ≡ accepted_as length v → Tells v line.old line.new result }
+{
+    match answer {
+        Ok(n) => say(Ok(n), line),
+        Err(refusal) => say(Err((refusal.number(), refusal.detail())), line),
+    }
+}
+
+// The same of an answer without a result, whose refusal has a name.
+pub fn tell_plain(answer: Result<(), Refusal>, line: &mut [u8]) -> Said
     requires { length line.old ≡ 64 }
     ensures { (v : Verdict (Unit {0})) → told answer ≡ v → Tells (bare v) line.old line.new result }
 {
-    say(answer.map(|_| 0), line)
+    match answer {
+        Ok(()) => say_plain(Ok(()), line),
+        Err(refusal) => say_plain(Err((refusal.number(), refusal.detail())), line),
+    }
 }
 
 // The line of the verdict on an assignment that is judged alone: nothing is lent for a plan.
@@ -79,7 +101,7 @@ fn assignment_text(cap: Option<usize>, book: &[u8], values: &[u8], line: &mut [u
     requires { length line.old ≡ 64 }
     ensures { Tells (bare (check_assignment (held_cap cap) book.now values.now)) line.old line.new result }
 {
-    say_plain(check_assignment(cap, book, values), line)
+    tell_plain(check_assignment(cap, book, values), line)
 }
 
 // The line of the verdict on an assignment, and its plan.
@@ -96,7 +118,7 @@ fn unpacking_text(
         × (plan.new ≡ overwrite plan.old
         (written (unpack_plan (held_cap cap) book.now values.now (length plan.old)))) }
 {
-    say(unpack_plan(cap, book, values, plan), line)
+    tell(unpack_plan(cap, book, values, plan), line)
 }
 
 // The line of the verdict on a plan, and its assignment.
@@ -113,7 +135,7 @@ fn plan_text(
         × (values.new ≡ overwrite values.old
         (written (check_plan (held_cap cap) book.now plan.now (length values.old)))) }
 {
-    say(check_plan(cap, book, plan, values), line)
+    tell(check_plan(cap, book, plan, values), line)
 }
 
 // The line of the verdict on a plan, and the list of its carriers.
@@ -124,7 +146,7 @@ fn carriers_text(book: &[u8], plan: &[u8], list: &mut [u8], line: &mut [u8]) -> 
         × (list.new ≡ overwrite list.old
         (written (list_carriers book.now plan.now (length list.old)))) }
 {
-    say(list_carriers(book, plan, list), line)
+    tell(list_carriers(book, plan, list), line)
 }
 
 // The line of the verdict on a refutation, which has no result.
@@ -146,7 +168,7 @@ pub fn refutation_text(
         × (values.new ≡ zeroed 0 (length values.old))
         × (trail.new ≡ zeroed 0 (length trail.old)) }
 {
-    say_plain(
+    tell_plain(
         check_refutation(cap, book, r, words, starts, values, trail),
         line,
     )
@@ -189,7 +211,7 @@ fn lent_fewest_text(
     let mut starts = [0usize; 8192];
     let mut values = [0u8; 65536];
     let mut trail = [0usize; 8192];
-    say_plain(
+    tell_plain(
         check_fewest(
             book,
             n,
@@ -219,7 +241,7 @@ pub fn fewest_text(
         line.old line.new result }
 {
     if long {
-        return say(Err(Refusal::NoRoom), line);
+        return tell(Err(Refusal::NoRoom), line);
     }
     lent_fewest_text(book, n, assignment, refutation, line)
 }
@@ -243,7 +265,7 @@ pub fn verdict_text(
         (written (unless_long long (verdict_of check (held_cap cap) book.now second.now (length out.old))))) }
 {
     if long {
-        return say(Err(Refusal::NoRoom), line);
+        return tell(Err(Refusal::NoRoom), line);
     }
     match check {
         Check::Assignment => assignment_text(cap, book, second, line),
@@ -262,9 +284,9 @@ pub fn upgrade_text(old: &[u8], long: bool, out: &mut [u8], line: &mut [u8]) -> 
         × (out.new ≡ overwrite out.old (written (unless_long long (upgrade_book old.now (length out.old))))) }
 {
     if long {
-        return say(Err(Refusal::NoRoom), line);
+        return tell(Err(Refusal::NoRoom), line);
     }
-    say(upgrade_book(old, out), line)
+    tell(upgrade_book(old, out), line)
 }
 
 // What print_graph prints of a book and a plan, stored at the start of `out`: the page, or the line of the
@@ -276,11 +298,12 @@ pub fn graph_text(book: &[u8], plan: &[u8], long: bool, out: &mut [u8]) -> usize
         (printed (λ page. page) (unless_long long (print_graph book.now plan.now (length out.old))))) }
 {
     if long {
-        return put_refusal(out, Refusal::NoRoom);
+        let refusal = Refusal::NoRoom;
+        return put_refusal(out, refusal.number(), refusal.detail());
     }
     match print_graph(book, plan, out) {
         Ok(n) => n,
-        Err(refusal) => put_refusal(out, refusal),
+        Err(refusal) => put_refusal(out, refusal.number(), refusal.detail()),
     }
 }
 
@@ -289,7 +312,7 @@ fn load(rt: &HostRuntime, name: &[u8], buf: &mut [u8]) -> Option<Loaded>
     ensures { IfSome result (λ l. IsPrefixLen l.len buf.new) }
 {
     match open(rt, name) {
-        Ok(mut file) => match load_from(&mut file, buf) {
+        Ok(mut file) => match load_whole(&mut file, buf) {
             Ok(loaded) => Some(loaded),
             Err(error) => {
                 fail(rt, name, error);

@@ -22,14 +22,17 @@ returns-then-long c =
     let line = c.args.line.now in
     let room = length c.args.words.now in
     let v = write_formula (held_cap c.args.cap) c.args.book.now room in
+    let same = ap₂ refusal_line c.number.ensures c.detail.ensures in
+    let len = e.length ∙ ap length same in
+    let stores = e.line ∙ ap (sets line 0) same in
     let k = sym (is-long v h) in (
-      ap (λ (l : Bytes). l ++ words_text []) (line-front line (refusal_line 12 0) c.requires e.length e.short e.line)
+      ap (λ (l : Bytes). l ++ words_text []) (line-front line (refusal_line 12 0) c.requires len e.short stores)
           ∙ long-text (formula_text (held_cap c.args.cap) c.args.book.now room) h,
-      e.line ∙ ap (λ (u : Verdict Written). sets line 0 (first_line u)) k,
+      stores ∙ ap (λ (u : Verdict Written). sets line 0 (first_line u)) k,
       omega (arith, e.short),
       long-words c.args.words.now v h,
       omega arith,
-      e.length ∙ ap (λ (u : Verdict Written). length (first_line u)) k,
+      len ∙ ap (λ (u : Verdict Written). length (first_line u)) k,
       ap words_behind k,
     )
 
@@ -70,15 +73,18 @@ returns-in-Err c =
     let old = c.args.words.now in
     let line = c.args.line.now in
     let r = c.in-Err.refusal in
+    let same = ap₂ refusal_line c.number-in-Err.ensures c.detail-in-Err.ensures in
+    let len = e.length ∙ ap length same in
+    let stores = e.line ∙ ap (sets line 0) same in
     let v = refused-as totals_of w.answer c.in-Err.is in
     let k = sym (not-long (write_formula cap book (length old)) h ∙ v) in (
-      ap (λ (l : Bytes). l ++ words_text []) (line-front line (refusal_line (number_of r) (detail_of r)) c.requires e.length e.short e.line)
+      ap (λ (l : Bytes). l ++ words_text []) (line-front line (refusal_line (number_of r) (detail_of r)) c.requires len e.short stores)
           ∙ refusal-text cap book _ v
           ∙ ap (λ (u : Verdict Bytes). printed (λ (t : Bytes). t) u) (sym (not-long (formula_text cap book (length old)) h)),
-      e.line ∙ ap (λ (u : Verdict Written). sets line 0 (first_line u)) k,
+      stores ∙ ap (λ (u : Verdict Written). sets line 0 (first_line u)) k,
       omega (arith, e.short),
       w.output ∙ output-words cap book old h,
       omega arith,
-      e.length ∙ ap (λ (u : Verdict Written). length (first_line u)) k,
+      len ∙ ap (λ (u : Verdict Written). length (first_line u)) k,
       ap words_behind k,
     )

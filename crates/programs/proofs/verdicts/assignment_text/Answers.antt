@@ -2,4 +2,4 @@
 use Rattle.programs.proofs.verdicts.assignment_text.Goals as goal
 
 pub returns : goal.returns
-returns c = c.say_plain.ensures _ c.check_assignment.ensures
+returns c = c.tell_plain.ensures _ c.check_assignment.ensures

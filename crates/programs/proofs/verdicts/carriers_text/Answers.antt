@@ -4,4 +4,4 @@ use Rattle.programs.proofs.verdicts.carriers_text.Goals as goal
 
 pub returns : goal.returns
 unfolding carriers_output
-returns c = (c.say.ensures _ c.list_carriers.ensures.answer, c.list_carriers.ensures.output)
+returns c = (c.tell.ensures _ c.list_carriers.ensures.answer, c.list_carriers.ensures.output)

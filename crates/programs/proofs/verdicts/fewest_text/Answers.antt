@@ -6,7 +6,7 @@ use Rattle.programs.proofs.Lines.{tells-same}
 use Rattle.programs.proofs.verdicts.fewest_text.Goals as goal
 
 pub returns-then-long : goal.returns-then-long
-returns-then-long c = tells-same (is-long _ c.if-long.true) (c.say.ensures (refused 12 0) refl)
+returns-then-long c = tells-same (is-long _ c.if-long.true) (c.tell.ensures (refused 12 0) refl)
 
 pub returns : goal.returns
 returns c = tells-same (not-long _ c.if-long.false) c.lent_fewest_text.ensures

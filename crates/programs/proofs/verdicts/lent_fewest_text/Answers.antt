@@ -4,4 +4,4 @@ use Rattle.programs.proofs.verdicts.lent_fewest_text.Goals as goal
 
 pub returns : goal.returns
 unfolding program_lent slice_of slice_bytes
-returns c = c.say_plain.ensures _ c.check_fewest.ensures.answer
+returns c = c.tell_plain.ensures _ c.check_fewest.ensures.answer

@@ -4,4 +4,4 @@ use Rattle.programs.proofs.verdicts.plan_text.Goals as goal
 
 pub returns : goal.returns
 unfolding assignment_output
-returns c = (c.say.ensures _ c.check_plan.ensures.answer, c.check_plan.ensures.output)
+returns c = (c.tell.ensures _ c.check_plan.ensures.answer, c.check_plan.ensures.output)

@@ -4,4 +4,4 @@ use Rattle.programs.proofs.verdicts.refutation_text.Goals as goal
 pub returns : goal.returns
 returns c =
     let e = c.check_refutation.ensures in
-    (c.say_plain.ensures _ e.answer, e.words, e.starts, e.values, e.trail)
+    (c.tell_plain.ensures _ e.answer, e.words, e.starts, e.values, e.trail)

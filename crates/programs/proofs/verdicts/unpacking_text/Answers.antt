@@ -4,4 +4,4 @@ use Rattle.programs.proofs.verdicts.unpacking_text.Goals as goal
 
 pub returns : goal.returns
 unfolding plan_output
-returns c = (c.say.ensures _ c.unpack_plan.ensures.answer, c.unpack_plan.ensures.output)
+returns c = (c.tell.ensures _ c.unpack_plan.ensures.answer, c.unpack_plan.ensures.output)

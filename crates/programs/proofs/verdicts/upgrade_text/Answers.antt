@@ -9,11 +9,11 @@ use Rattle.programs.proofs.verdicts.upgrade_text.Goals as goal
 pub returns-then-long : goal.returns-then-long
 returns-then-long c =
     let q = is-long _ c.if-long.true in
-    (tells-same q (c.say.ensures (refused 12 0) refl), output-same q _ (refused-output c.args.out.now 12 0))
+    (tells-same q (c.tell.ensures (refused 12 0) refl), output-same q _ (refused-output c.args.out.now 12 0))
 
 pub returns : goal.returns
 unfolding upgrade_output
 returns c =
     let q = not-long _ c.if-long.false in
     let e = c.upgrade_book.ensures in
-    (tells-same q (c.say-2.ensures _ e.answer), output-same q _ e.output)
+    (tells-same q (c.tell-2.ensures _ e.answer), output-same q _ e.output)

@@ -20,7 +20,7 @@ asked cap book s room {check = check} h is =
 pub returns-then-long : goal.returns-then-long
 returns-then-long c =
     let q = is-long _ c.if-long.true in
-    (tells-same q (c.say.ensures (refused 12 0) refl), output-same q _ (refused-output c.args.out.now 12 0))
+    (tells-same q (c.tell.ensures (refused 12 0) refl), output-same q _ (refused-output c.args.out.now 12 0))
 
 -- a check without a result leaves the output as it was
 pub returns-in-Assignment : goal.returns-in-Assignment

@@ -1,30 +1,7 @@
-use Rattle.std.proofs.Common.{ap₂, arith, ℕ, ◌+◌, List, ◌∷◌, map}
-use Rattle.spec.specs.Lists.{one}
-use Rattle.spec.specs.Book.{segment_of}
-use Rattle.spec.specs.Instance.{instance_of, compile}
-use Rattle.spec.specs.Formula.{is, not', words_of, claims_g, clauses_g}
-use Rattle.clauses.proofs.Laws.{passes_same}
-use Rattle.clauses.proofs.Turns.{turn-none, turn}
-use Rattle.tables.proofs.Held.{runs-n}
-use Rattle.formula.proofs.Rest.{passed-rows}
+use Rattle.formula.proofs.Blocks.{block-from}
 use Rattle.formula.proofs.families.TrainPart.clauses_g.Goals as goal
 
-pub loop-r-init : goal.loop-r-init
-loop-r-init c = turn-none _ _
-
-pub loop-r-preserved : goal.loop-r-preserved
-unfolding claims_g instance_of compile
-loop-r-preserved c =
+pub clauses_g-requires : goal.clauses_g-requires
+clauses_g-requires c =
     let t = c.args.self.now in
-    let runs = t.block.block.runs in
-    let r = c.loop-r.r in
-    let claims = ap₂ (λ (n : ℕ) (run : List ℕ). words_of
-    (map (λ s. not' (c.args.base + r) ∷ one (is (c.args.base + (n + 1 + s)))) (map segment_of run))) runs
-    (runs-n t.runs_held _ runs r c.loop-r-test.true) in
-    turn _ _ _ (omega arith) c.loop-r.invariant (passes_same claims c.claims_of.ensures)
-
-pub returns : goal.returns
-unfolding clauses_g
-returns c =
-    let runs = c.args.self.now.block.block.runs in
-    passed-rows _ _ (omega arith) _ c.loop-r.invariant
+    (block-from t.block.block c.requires, t.runs_held)

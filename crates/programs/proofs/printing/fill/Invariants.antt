@@ -1,6 +1,6 @@
--- `printing::read_full`: what is read stands within the buffer, and each turn reads more of it.
+-- `printing::fill`: what is read stands within the buffer, and each turn reads more of it.
 use Rattle.std.proofs.Common.{◌-◌, ◌≤◌, length}
-use Rattle.programs.proofs.printing.read_full.Given as goal
+use Rattle.programs.proofs.printing.fill.Given as goal
 
 abbrev pub invariant-loop-n : goal.invariant-loop-n
 invariant-loop-n g l = l.n ≤ length l.buf

@@ -11,7 +11,7 @@ use Rattle.listing.specs.Listed.{place_at, start_at}
 use Rattle.listing.proofs.Filled.{lent, part-lent}
 use Rattle.tables.specs.Placed.{size_at, run_held}
 use Rattle.formula.proofs.Rest.{passes-both}
-use Rattle.formula.proofs.families.TrainPart.claims_of.Goals as goal
+use Rattle.formula.proofs.families.claims_of.Goals as goal
 
 -- of the run whose variable is x, with claims from y on: the clauses of directed segments
 module _ (x y : ℕ) where
@@ -46,12 +46,12 @@ loop-d-init c = passes-nothing refl
 
 pub loop-d-preserved : goal.loop-d-preserved
 loop-d-preserved c =
-    passes_same (clauses-next (c.args.base + c.args.r) c.claims_from-claims.result _ _ _ c.loop-d-test.true c.from.ensures)
+    passes_same (clauses-next (c.args.t.base + c.args.r) c.claims_from-claims.result _ _ _ c.loop-d-test.true c.from.ensures)
     (passes-both _ _ c.loop-d.invariant c.implies.ensures)
 
 pub returns : goal.returns
 returns c =
     passes_same
-    (clauses-all c.args.base c.args.self.now.first.runs (c.args.base + c.args.r) c.args.r _
+    (clauses-all c.args.t.base c.args.t.runs (c.args.t.base + c.args.r) c.args.r _
     c.claims_from-claims.ensures c.start_of-at.ensures c.size_of.ensures.0 (omega arith) c.loop-d-test.false)
     c.loop-d.invariant

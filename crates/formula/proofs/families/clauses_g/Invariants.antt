@@ -3,8 +3,8 @@ use Rattle.spec.specs.Instance.{instance_of}
 use Rattle.spec.specs.Formula.{words_of, claims_g}
 use Rattle.spec.specs.Held.{held}
 use Rattle.clauses.specs.Walked.{Passes}
-use Rattle.formula.proofs.families.TrainPart.clauses_g.Given as goal
+use Rattle.formula.proofs.families.clauses_g.Given as goal
 
 abbrev pub invariant-loop-r : goal.invariant-loop-r
 invariant-loop-r l =
-    Passes (each (range 0 l.r) λ r. words_of (claims_g (instance_of (held l.self.book.now)) l.self.first.train l.base r)) l.fn.walk l.walk
+    Passes (each (range 0 l.r) λ r. words_of (claims_g (instance_of (held l.b)) l.t.train l.t.base r)) l.fn.walk l.walk

@@ -3,7 +3,7 @@ use Rattle.spec.specs.Lists.{only, one}
 use Rattle.spec.specs.Formula.{is}
 use Rattle.clauses.proofs.Laws.{passes_same, passes-behind}
 use Rattle.demands.proofs.Words.{words-one}
-use Rattle.formula.proofs.families.TrainPart.clause_e.Goals as goal
+use Rattle.formula.proofs.families.clause_e.Goals as goal
 
 pub returns : goal.returns
 returns c f h =

@@ -5,14 +5,14 @@ use Rattle.laws.proofs.Tests.{true_of}
 use Rattle.clauses.proofs.Laws.{passes_same, only-true}
 use Rattle.clauses.proofs.Turns.{range-next, range-end, ahead-start, ahead-same, ahead-pass, ahead-done}
 use Rattle.formula.proofs.Chain.{first_below, first_passes, first_rows, next-below, next-passes, next-rows}
-use Rattle.formula.proofs.families.TrainPart.followers.Goals as goal
+use Rattle.formula.proofs.families.followers.Goals as goal
 
 pub loop-q-init : goal.loop-q-init
 loop-q-init c f h = (first_below h, first_passes h, ahead-same (first_rows h _) (ahead-start _ _))
 
 pub loop-q-smaller : goal.loop-q-smaller
 loop-q-smaller c =
-    let h = c.requires.2 in
+    let h = c.requires.3 in
     omega (arith, next-below h.1 c.loop-q.q c.loop-q-test.true ((c.loop-q.invariant h.0 h.1).1 c.loop-q-test.true))
 
 pub loop-q-preserved : goal.loop-q-preserved
