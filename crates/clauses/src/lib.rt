@@ -124,8 +124,8 @@ impl Tally {
     {
         self.words = more(self.words, n);
         self.clauses = more(self.clauses, 1);
-        if !self.holds {
-            self.wrong = self.wrong.or(Some(self.clauses));
+        if !self.holds && self.wrong.is_none() {
+            self.wrong = Some(self.clauses);
         }
         self.holds = false;
     }
