@@ -5,7 +5,6 @@ use Prim.Native.Nat.{ℕ, ◌≤◌}
 use lib.ListN.{length}
 use lib.Seq.{sets}
 use Rattle.std.specs.Prelude.{Result, Ok, Err, Some, None}
-use Rattle.std.specs.Result.{MatchResult, IsOkAnd}
 use Rattle.spec.specs.Lists.{Bytes, Verdict, accepted, refused, and_then}
 use Rattle.spec.specs.Answers.{accepted_as}
 use Rattle.spec.specs.Entry.{overwrite, written}
@@ -53,14 +52,10 @@ refused-output old n d = refl
 
 -- ---- a verdict without a result
 
--- an answer without a result, as one with an empty result
-pub plain-told : (answer : Result (Unit {0}) (ℕ × ℕ)) (said : Result ℕ (ℕ × ℕ)) {P : Unit {0} → ℕ → Type 0}
-    → MatchResult answer (λ u. IsOkAnd said (P u)) (λ e. said ≡ Err e) → ((u : Unit {0}) (n : ℕ) → P u n → n ≡ 0)
-    → numbers_told said ≡ accepted_as length (bare (numbers_told answer))
-unfolding and_then
-plain-told (Ok u) (Ok n) m zero = ap accepted (zero u n m)
-plain-told (Ok u) (Err e) m zero = absurd m
-plain-told (Err r) said m zero = ap numbers_told m
+-- what is told of an answer without a result, as of one with an empty result
+pub told-plain : {answer other : Result (Unit {0}) (ℕ × ℕ)} {v : Verdict (Unit {0})} → answer ≡ other → numbers_told answer ≡ v
+    → accepted_as length (bare (numbers_told other)) ≡ accepted_as length (bare v)
+told-plain is t = ap (λ (w : Verdict (Unit {0})). accepted_as length (bare w)) (sym (ap numbers_told is) ∙ t)
 
 pub bare-output : (old : Bytes) (v : Verdict (Unit {0})) → old ≡ overwrite old (written (bare v))
 unfolding and_then overwrite written

@@ -71,7 +71,10 @@ pub fn say_plain(answer: Result<(), (usize, usize)>, line: &mut [u8]) -> Said
     requires { length line.old ≡ 64 }
     ensures { (v : Verdict (Unit {0})) → numbers_told answer ≡ v → Tells (bare v) line.old line.new result }
 {
-    say(answer.map(|_| 0), line)
+    match answer {
+        Ok(()) => say(Ok(0), line),
+        Err((number, detail)) => say(Err((number, detail)), line),
+    }
 }
 
 // The same of an answer whose refusal has a name.

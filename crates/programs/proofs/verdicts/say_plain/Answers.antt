@@ -1,9 +1,12 @@
 -- `verdicts::say_plain`: an answer without a result is said as one with an empty result.
-use Rattle.std.proofs.Common.{rules, ap, ◌∙◌, length}
-use Rattle.spec.specs.Answers.{accepted_as}
-use Rattle.programs.specs.Verdicts.{bare}
-use Rattle.programs.proofs.Lines.{plain-told}
+use Rattle.spec.specs.Lists.{and_then}
+use Rattle.programs.proofs.Lines.{told-plain}
 use Rattle.programs.proofs.verdicts.say_plain.Goals as goal
 
-pub returns : goal.returns
-returns c = λ v t. c.say.ensures _ (plain-told c.args.answer c.map.result c.map.ensures.cases (λ u n p. search rules) ∙ ap (λ v. accepted_as length (bare v)) t)
+pub returns-in-Ok : goal.returns-in-Ok
+unfolding and_then
+returns-in-Ok c = λ v t. c.say.ensures _ (told-plain c.in-Ok.is t)
+
+pub returns-in-Err : goal.returns-in-Err
+unfolding and_then
+returns-in-Err c = λ v t. c.say-in-Err.ensures _ (told-plain c.in-Err.is t)
