@@ -39,8 +39,9 @@ HELD_UP = ("was not admitted", "was not checked", "were not checked")
 # what it says of a function that no proof was tried of: a goal that is left is a fact, and a missing part of the proof is none
 LEFT_OPEN, MISSING = ("did not prove", "does not close"), ("expected a measure", "expected an invariant", "is not made yet")
 
-# A function: its path from the crate on, whether it is public, whether it promises something, its file, its first line and the one behind its last.
-Function = namedtuple("Function", "path public promises file first end")
+# A function: its path from the crate on, whether it is public, whether it promises something, its file, its first line and the one behind its last,
+# and what the prover writes behind its type's name where the type has it by a trait.
+Function = namedtuple("Function", "path public promises file first end given", defaults=("",))
 # A wrong program: the function's name as the list has it, what it does, and the pairs of texts; `block` is its text in the list.
 Entry = namedtuple("Entry", "name what pairs block")
 # What came of one: the function, what it does, the prover's first words, and whether a fact failed.
@@ -77,22 +78,28 @@ def end_of(lines, first, indent):
     return next(at for at in range(first, len(lines)) if lines[at] == indent + "}") + 1
 
 
+def given_by(trait):
+    """What the prover writes behind a type's name for what the type has by a trait: `From<Result<(), Refusal>>` is `FromResultUnitRefusal`."""
+    words = re.findall(r"\w+|\(\)", re.sub(r"(\w+)?::", "", trait or ""))
+    return "".join("Unit" if word == "()" else word[0].upper() + word[1:] for word in words)
+
+
 def functions_in(text, path, file):
     """The functions of one file; a method has its type's or its trait's name ahead."""
-    found, owner, shared = [], (), False
+    found, owner, shared, given = [], (), False, ""
     lines = text.split("\n")
     for at, line in enumerate(lines):
-        opened = re.match(r"(pub )?(?:impl(?:<[^>]*>)?|(trait)) (?:.* for )?(\w+)", line)
+        opened = re.match(r"(pub )?(?:impl(?:<[^>]*>)?|(trait)) (?:([^{]*) for )?(\w+)", line)
         if opened:
             # the functions of a public trait are public
-            owner, shared = (opened[3],), bool(opened[1] and opened[2])
+            owner, shared, given = (opened[4],), bool(opened[1] and opened[2]), given_by(opened[3])
         elif line == "}":
-            owner, shared = (), False
+            owner, shared, given = (), False, ""
         head = re.match(r'( *)(pub(?:\([a-z]+\))? )?(extern "C" )?fn (\w+)', line)
         if head:
             end = end_of(lines, at, head[1])
             promises = any(re.match(r"\s*ensures\b", part) for part in lines[at:end])
-            found.append(Function((*path, *owner, head[4]), shared or head[2] == "pub ", promises, file, at, end))
+            found.append(Function((*path, *owner, head[4]), shared or head[2] == "pub ", promises, file, at, end, given))
     return found
 
 
@@ -239,9 +246,15 @@ def rounds(found):
 # ------------------------------------------------------- what the prover says
 
 
+def said_path(function):
+    """A function's path as the prover has it."""
+    *ahead, last, name = function.path
+    return (*ahead, last + function.given, name)
+
+
 def is_own(function, line):
     """Whether an error stands in a function's proof or in its source; the prover names files from the crate's folder on."""
-    module = "/".join(function.path[1:-1])
+    module = "/".join(said_path(function)[1:-1])
     folder = re.search(r"(?:^|/)proofs/(?:%s)(\+?[\w+]+)/" % (re.escape(module) + "/" if module else ""), line)
     if folder and function.path[-1] in folder[1].split("+"):
         return True
@@ -252,7 +265,7 @@ def is_own(function, line):
 
 def verdict(function, output):
     """What the prover says of a wrong function: the words, and what they mean: a fact, proved, unfit, or held up by another function."""
-    name, held = full_name(function), None
+    name, held = "::".join(said_path(function)), None
     # what an error says goes on in the lines that are indented below it
     for line in re.sub(r"\n  +", " ", output).split("\n"):
         if line == f"fn {name}: proved":

@@ -96,6 +96,15 @@ class Functions(Repository):
         found = wrong.functions_in(text, ("track",), "crates/track/src/lib.rt")
         self.assertEqual([wrong.full_name(f) for f in found], ["track::Walk::close", "track::plain"])
 
+    def test_a_trait_of_a_type(self):
+        text = "impl From<Result<(), Refusal>> for Verdict {\n    fn from(answer: A) -> Self {\n        answer\n    }\n}\n\nfn plain() {\n}\n"
+        found = wrong.functions_in(text, ("track", "answers"), "crates/track/src/answers.rt")
+        self.assertEqual([(wrong.full_name(f), f.given) for f in found],
+                         [("track::answers::Verdict::from", "FromResultUnitRefusal"), ("track::answers::plain", "")])
+        for trait, given in (("fmt::Display", "Display"), ("::core::fmt::Display", "Display"), ("Kind", "Kind"),
+                             ("From<Result<usize, model::Refusal>>", "FromResultUsizeRefusal")):
+            self.assertEqual(wrong.given_by(trait), given)
+
     def test_own_crate_first(self):
         self.assertEqual(wrong.full_name(wrong.find(self.functions, "other", "plain")), "other::plain")
         self.assertEqual(wrong.full_name(wrong.find(self.functions, "other", "first")), "track::first")
@@ -205,6 +214,18 @@ class Verdicts(Repository):
         self.assertEqual(self.says("track::wide", "src/scan.rt:7:5: error: `returns`: `search`: no proof of x"), "held up")
         self.assertEqual(self.says("track::scan::wide", "src/scan.rt:7:5: error: `returns`: `search`: no proof of x"), "fact")
         self.assertEqual(self.says("track::wide", "src/lib.rt:7:5: error[E0308]: these types differ"), "held up")
+
+    def test_a_trait_of_a_type(self):
+        """The prover's name for its function tells what the trait is of."""
+        here = wrong.Function(("track", "answers", "Verdict", "from"), False, False, "crates/track/src/answers.rt", 1, 3, "FromResultUnitRefusal")
+        name = "track::answers::VerdictFromResultUnitRefusal::from"
+        for output, meaning in (
+                (f"fn {name}: proved", "proved"), (f"fn {name}: no proof: expected answers in ./x; `search` did not prove `returns`", "fact"),
+                (f"fn track::first: no proof: it calls `{name}`, which is not proved", "held up"),
+                ("fn track::answers::Verdict::from: proved", "held up"), (f"fn {name.replace('Refusal', 'RefusalToo')}: proved", "held up"),
+                ("./proofs/answers/VerdictFromResultUnitRefusal/from/Answers.antt:1:1: error: does not follow", "fact"),
+                ("./proofs/answers/OutputFromResultUsizeRefusal/from/Answers.antt:1:1: error: does not follow", "held up")):
+            self.assertEqual(wrong.verdict(here, output)[1], meaning, output)
 
     def test_functions_without_a_proof(self):
         none = "fn track::wide: no proof: "
